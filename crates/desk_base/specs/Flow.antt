@@ -1,0 +1,45 @@
+-- What a call does to the bytes that a source has left and a sink holds, where these are told, and to a count.
+use Rattle.std.specs.Prelude.{◌≡◌, ℕ, ◌+◌, ◌-◌, ◌^◌, ◌<◌, ◌≤◌, min, List, ◌++◌, length, take, ⊤, None, Some, Result, MatchResult}
+use Rattle.std.specs.declared.option.Option.{Option}
+use Rattle.std.specs.Io.KnownBytes.{Appends, Consumes, Keeps, IsAtEnd}
+use Rattle.desk_base.specs.declared.flow.Got.{Got}
+use Rattle.desk_base.specs.declared.flow.Got.TheVariants as got
+use Rattle.desk_base.specs.declared.flow.Put.{Put}
+use Rattle.desk_base.specs.declared.flow.Put.TheVariants as put
+
+-- A count of faults went up, or stands at the last value of a u64.
+abbrev pub Rose : ℕ → ℕ → Type 0
+Rose before now = min (before + 1) (2 ^ 64 - 1) ≤ now
+
+-- A known count of calls went up by one, or stands at the last value of a u64.
+abbrev pub CountsOne : Option ℕ → Option ℕ → Type 0
+CountsOne None new = ⊤
+CountsOne (Some m) None = ⊥
+CountsOne (Some m) (Some n) = n ≡ min (m + 1) (2 ^ 64 - 1)
+
+-- A known count of calls went up by at most so many.
+abbrev pub CountsAtMost : Option ℕ → Option ℕ → ℕ → Type 0
+CountsAtMost None new most = ⊤
+CountsAtMost (Some m) None most = ⊥
+CountsAtMost (Some m) (Some n) most = n ≤ m + most
+
+-- Known bytes grow by some front of bs.
+abbrev pub AppendsFront : Option (List ℕ) → Option (List ℕ) → List ℕ → Type 0
+AppendsFront None new bs = ⊤
+AppendsFront (Some xs) None bs = ⊥
+AppendsFront (Some xs) (Some ys) bs = (front : List ℕ) × (rest : List ℕ) × (bs ≡ front ++ rest) × (ys ≡ xs ++ front)
+
+-- What one read does: n bytes of the room were taken, or nothing is left, or nothing was taken.
+abbrev pub Gives : Option (List ℕ) → Option (List ℕ) → Got → List ℕ → Type 0
+Gives old new (got.Some n) room = (0 < n) × (n ≤ length room) × Consumes old new (take n room)
+Gives old new got.End room = Keeps old new × IsAtEnd new
+Gives old new got.Failed room = Keeps old new
+
+-- What one write does: the whole piece was appended, or a front of it.
+abbrev pub Puts : Option (List ℕ) → Option (List ℕ) → Put → List ℕ → Type 0
+Puts old new put.Done piece = Appends old new piece
+Puts old new put.Failed piece = AppendsFront old new piece
+
+-- At Ok known bytes grew by bs, and at Err by a front of it.
+abbrev pub Writes : {T E : Type 0} → Option (List ℕ) → Option (List ℕ) → Result T E → List ℕ → Type 0
+Writes old new result bs = MatchResult result (λ _. Appends old new bs) (λ _. AppendsFront old new bs)

@@ -1,0 +1,5 @@
+pub mod Flow
+pub mod Moments
+pub mod Whole
+pub mod CallStates
+pub mod MemoryStates

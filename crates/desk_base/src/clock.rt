@@ -1,0 +1,26 @@
+ghost use Rattle.std.specs.Prelude.{◌≡◌, ◌≤◌, List, ℕ, ℤ, Option};
+ghost use Rattle.desk_base.specs.Flow.{Rose};
+ghost use Rattle.desk_base.specs.Moments.{Tells};
+
+/// What a clock answers.
+#[derive(Clone, Copy, Debug, PartialEq, Eq)]
+pub enum Told {
+    /// Seconds since 1970-01-01 00:00:00 UTC, from 0 to 137,438,953,472 (2^37).
+    Moment(i64),
+    Failed,
+}
+
+/// Where moments come from. They may go back.
+pub trait Clock {
+    /// The moments that it gave, where it tells them.
+    ghost given: { Self → Option (List ℤ) };
+
+    /// How often it has failed.
+    ghost faults: { Self → ℕ };
+
+    /// The moment now.
+    fn now(&mut self) -> Told
+        ensures tells { Tells (given self.old) (given self.new) result }
+        ensures later { faults self.old ≤ faults self.new }
+        ensures failed { result ≡ Told.Failed → Rose (faults self.old) (faults self.new) };
+}

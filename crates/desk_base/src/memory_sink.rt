@@ -1,0 +1,66 @@
+ghost use Rattle.std.specs.Prelude.{◌≡◌, ◌≤◌, [], Some};
+ghost use Rattle.desk_base.specs.Flow.{Rose, Puts};
+ghost use Rattle.desk_base.specs.MemoryStates.{WritesMemory};
+
+use crate::{Bytes, Calls, Put, Sink};
+use std::alloc::Global;
+use std::marker::Model;
+
+/// A sink in memory. A write that fails appends nothing. One for which no memory is left fails too.
+#[derive(Debug, Drop)]
+pub struct MemorySink {
+    bytes: Bytes,
+    writes: Calls,
+}
+
+impl Model for MemorySink {
+    ghost use Rattle.desk_base.specs.MemoryStates.{SinkState};
+
+    ghost Value = { SinkState };
+
+    ghost view = { λ s. record { held = s.bytes; calls = s.writes } };
+}
+
+impl MemorySink {
+    /// An empty sink. The writes with these numbers fail, counted from 1.
+    pub fn new(alloc: Global, fails: Vec<u32>) -> MemorySink
+        ensures { result ≡ record { held = []; calls = record { fails = fails.items; made = 0; faults = 0 } } }
+    {
+        MemorySink {
+            bytes: Bytes::new(alloc),
+            writes: Calls::new(alloc, fails),
+        }
+    }
+
+    /// What it holds.
+    pub fn as_slice(&self) -> &[u8]
+        ensures { result.now ≡ self.now.held }
+    {
+        self.bytes.as_slice()
+    }
+}
+
+impl Sink for MemorySink {
+    ghost held = { λ s. Some s.held };
+
+    ghost faults = { λ s. s.calls.faults };
+
+    fn write(&mut self, piece: &[u8]) -> Put
+        ensures puts { Puts (Some self.old.held) (Some self.new.held) result piece.now }
+        ensures later { self.old.calls.faults ≤ self.new.calls.faults }
+        ensures failed { result ≡ Put.Failed → Rose self.old.calls.faults self.new.calls.faults }
+        ensures memory { WritesMemory self.old self.new result piece.now }
+    {
+        if self.writes.begin() {
+            self.writes.fault();
+            return Put::Failed;
+        }
+        match self.bytes.extend(piece) {
+            Ok(()) => Put::Done,
+            Err(_) => {
+                self.writes.fault();
+                Put::Failed
+            }
+        }
+    }
+}

@@ -1,0 +1,40 @@
+ghost use Rattle.std.specs.Prelude.{◌≡◌, ◌≤◌, ◌+◌};
+ghost use Rattle.desk_base.specs.Flow.{Rose, CountsAtMost};
+ghost use Rattle.desk_base.specs.Whole.{ReadsAll};
+
+use crate::{Bytes, Got, Source};
+use std::alloc::Global;
+
+/// What reading a source to its end answers.
+#[derive(Debug, Drop)]
+pub enum Whole {
+    Read(Bytes),
+    /// It gave more than the limit before its end.
+    TooLong,
+    Failed,
+    Memory,
+}
+
+/// Reads a source to its end, unless it gives more bytes than the limit. What was taken stays taken.
+pub fn read_all<S: Source>(alloc: Global, source: &mut S, limit: usize) -> Whole
+    ensures whole { ReadsAll (S.left source.old) (S.left source.new) limit result }
+    ensures reads { CountsAtMost (S.reads source.old) (S.reads source.new) (limit + 1) }
+    ensures later { S.faults source.old ≤ S.faults source.new }
+    ensures failed { result ≡ Whole.Failed → Rose (S.faults source.old) (S.faults source.new) }
+{
+    let mut bytes = Bytes::new(alloc);
+    let mut room = [0u8; 4096];
+    loop {
+        let count = match source.read(&mut room) {
+            Got::Some(count) => count,
+            Got::End => return Whole::Read(bytes),
+            Got::Failed => return Whole::Failed,
+        };
+        if count > limit - bytes.as_slice().len() {
+            return Whole::TooLong;
+        }
+        if bytes.extend(&room[..count]).is_err() {
+            return Whole::Memory;
+        }
+    }
+}

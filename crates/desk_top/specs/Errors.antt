@@ -1,0 +1,8 @@
+-- The texts of the kinds of errors.
+use Rattle.std.specs.Prelude.{ℕ, List, codes}
+use Rattle.rel_eval.specs.declared.refusal.RelKind.{RelKind}
+use Rattle.rel_eval.specs.declared.refusal.RelKind.TheVariants.{OutOfRange, NotBuilt}
+
+abbrev pub error_text : RelKind → List ℕ
+error_text OutOfRange = codes "A number is out of range."
+error_text NotBuilt = codes "This form is not built."

@@ -1,0 +1,6 @@
+pub mod Lines
+pub mod Commands
+pub mod Errors
+pub mod Said
+pub mod Statuses
+pub mod Runs

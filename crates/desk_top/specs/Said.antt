@@ -1,0 +1,54 @@
+-- What the program says.
+use Rattle.std.specs.Prelude.{◌+◌, ◌/◌, ◌%◌, ◌++◌, ℕ, List, [], ◌∷◌, Bool, ◌||◌, ◌==◌, nat_lt, if◌then◌else◌, codes, decimal, flat_map, slice_index}
+use Rattle.std.specs.Fmt.{signed_decimal}
+use Rattle.rel_lexer.specs.declared.place.Place.{Place}
+use Rattle.rel_eval.specs.declared.value.Value.{Value}
+use Rattle.rel_eval.specs.declared.value.Value.TheVariants.{Integer}
+use Rattle.rel_eval.specs.declared.refusal.RelKind.{RelKind}
+use Rattle.rel_eval.specs.Traces.{Trace, Ending, Stop, Error, trace}
+use Rattle.desk_top.specs.declared.command.Command.{Command}
+use Rattle.desk_top.specs.declared.command.Command.TheVariants.{Qna, Help}
+use Rattle.desk_top.specs.Lines.{lines_of}
+use Rattle.desk_top.specs.Commands.{help_text}
+use Rattle.desk_top.specs.Errors.{error_text}
+
+-- a digit from 0 to 15, in lower case
+abbrev pub hex_digit : ℕ → ℕ
+hex_digit digit = slice_index (codes "0123456789abcdef") digit
+
+-- a byte of an answer: one below 32, and 127, stands as `%` and two hexadecimal digits
+abbrev pub printed_byte : ℕ → List ℕ
+printed_byte byte = if nat_lt byte 32 || byte == 127 then 37 ∷ hex_digit (byte / 16) ∷ hex_digit (byte % 16) ∷ [] else byte ∷ []
+
+abbrev pub printed : List ℕ → List ℕ
+printed text = flat_map printed_byte text
+
+-- the text of a value
+abbrev pub text_of : Value → List ℕ
+text_of (Integer number) = signed_decimal number
+
+unfoldable pub said_question : List ℕ → List ℕ
+said_question line = codes "Q: " ++ line ++ codes "\n"
+
+unfoldable pub said_value : Value → List ℕ
+said_value value = codes "A: " ++ printed (text_of value) ++ codes "\n"
+
+unfoldable pub said_error : RelKind → Place → List ℕ
+said_error kind place = codes "E: " ++ error_text kind ++ codes " (" ++ decimal place.from ++ codes ".." ++ decimal place.to ++ codes ")\n"
+
+abbrev pub said_ending : Ending → List ℕ
+said_ending Stop = []
+said_ending (Error kind place) = said_error kind place
+
+-- a question's values, and the error that ends them
+abbrev pub said_trace : Trace → List ℕ
+said_trace t = flat_map said_value t.values ++ said_ending t.ending
+
+-- a line, and its answers
+abbrev pub said_line : List ℕ → List ℕ
+said_line line = said_question line ++ said_trace (trace line)
+
+-- what a command says, where these bytes were read from the source
+abbrev pub said : Command → List ℕ → List ℕ
+said Qna input = flat_map said_line (lines_of input)
+said Help input = help_text

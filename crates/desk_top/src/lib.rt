@@ -1,0 +1,15 @@
+//! The program, from words and bytes to bytes and a status.
+#![tactic(auto)]
+
+mod answers;
+mod command;
+mod errors;
+mod line;
+mod qna;
+mod status;
+mod stop;
+mod top;
+
+pub use command::Command;
+pub use status::Status;
+pub use top::desk;

@@ -1,0 +1,37 @@
+ghost use Rattle.std.specs.Prelude.{◌≡◌};
+ghost use Rattle.desk_top.specs.Statuses.{status_number};
+
+/// How a run ended. The program exits with its number, 0 to 10 in this order.
+#[derive(Clone, Copy, Debug, PartialEq, Eq)]
+pub enum Status {
+    Done,
+    /// The words are none of the table's.
+    Usage,
+    /// The input is outside its grammar.
+    Refused,
+    /// The source failed.
+    Source,
+    /// The sink failed.
+    Sink,
+    /// The clock failed.
+    Clock,
+    /// The pocket failed.
+    Pocket,
+    /// The keeper couldn't be opened.
+    Keeper,
+    /// The door couldn't be opened, or gave no next conversation.
+    Door,
+    /// Memory ran out.
+    Memory,
+    /// The source gave more than 8,388,608 bytes.
+    InputTooLong,
+}
+
+impl Status {
+    /// The number with which the program exits.
+    pub fn number(self) -> u8
+        ensures { result ≡ status_number self }
+    {
+        self as u8
+    }
+}

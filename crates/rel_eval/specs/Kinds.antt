@@ -1,0 +1,8 @@
+-- The numbers of the kinds of errors.
+use Rattle.std.specs.Prelude.{ℕ}
+use Rattle.rel_eval.specs.declared.refusal.RelKind.{RelKind}
+use Rattle.rel_eval.specs.declared.refusal.RelKind.TheVariants.{OutOfRange, NotBuilt}
+
+abbrev pub number_of : RelKind → ℕ
+number_of OutOfRange = 9
+number_of NotBuilt = 19

@@ -1,0 +1,6 @@
+pub mod Kinds
+pub mod SmallTokens
+pub mod SmallSums
+pub mod Traces
+pub mod SmallReads
+pub mod Answers

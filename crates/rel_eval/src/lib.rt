@@ -1,0 +1,14 @@
+//! Questions: prepared from a text, and their values drawn one at a time.
+#![tactic(auto)]
+
+mod cursor;
+mod question;
+mod refusal;
+mod small_sums;
+mod small_tokens;
+mod value;
+
+pub use cursor::{Cursor, Pulled};
+pub use question::{Question, prepare};
+pub use refusal::{Refusal, RelKind};
+pub use value::Value;

@@ -1,0 +1,49 @@
+ghost use Rattle.std.specs.Prelude.{◌≡◌, IfOk};
+ghost use Rattle.rel_eval.specs.Answers.{Prepares};
+
+use crate::cursor::Cursor;
+use crate::refusal::Refusal;
+use crate::small_sums::{Sum, small_sums};
+use std::alloc::{AllocError, Global};
+use std::marker::Model;
+
+/// A question that was prepared. Contracts see what it gives.
+#[derive(Debug, Drop)]
+pub struct Question {
+    sums: Vec<Sum>,
+}
+
+impl Model for Question {
+    ghost use Rattle.rel_eval.specs.Traces.{Trace, trace_of};
+
+    ghost Value = { Trace };
+
+    ghost view = { λ q. trace_of q.sums.items };
+}
+
+/// Prepares a question from its text.
+pub fn prepare(alloc: Global, text: &[u8]) -> Result<Question, Refusal>
+    ensures { Prepares text.now result }
+{
+    Ok(Question {
+        sums: small_sums(alloc, text)?,
+    })
+}
+
+impl Question {
+    /// A cursor at the start of what the question gives.
+    pub fn open(&self, alloc: Global) -> Result<Cursor, AllocError>
+        ensures { IfOk result (λ cursor. cursor ≡ self.now) }
+    {
+        Ok(Cursor::new(Vec::from_slice(alloc, self.sums.as_slice())?))
+    }
+
+    /// The same question once more.
+    pub fn copy(&self) -> Result<Question, AllocError>
+        ensures { IfOk result (λ question. question ≡ self.now) }
+    {
+        Ok(Question {
+            sums: Vec::from_slice(*self.sums.allocator(), self.sums.as_slice())?,
+        })
+    }
+}

@@ -1,0 +1,6 @@
+/// The bytes of a question from `from` up to, and without, `to`, counted from 0. It prints as `(from..to)`.
+#[derive(Clone, Copy, Debug, PartialEq, Eq)]
+pub struct Place {
+    pub from: u32,
+    pub to: u32,
+}
