@@ -18,3 +18,6 @@ pub use memory_clock::StepClock;
 pub use memory_sink::MemorySink;
 pub use memory_source::MemorySource;
 pub use whole::{Whole, read_all};
+
+#[cfg(test)]
+mod tests;

@@ -13,3 +13,6 @@ mod top;
 pub use command::Command;
 pub use status::Status;
 pub use top::desk;
+
+#[cfg(test)]
+mod tests;

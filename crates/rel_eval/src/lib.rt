@@ -12,3 +12,6 @@ pub use cursor::{Cursor, Pulled};
 pub use question::{Question, prepare};
 pub use refusal::{Refusal, RelKind};
 pub use value::Value;
+
+#[cfg(test)]
+mod tests;

@@ -6,3 +6,6 @@ mod text;
 
 pub use place::Place;
 pub use text::Text;
+
+#[cfg(test)]
+mod tests;

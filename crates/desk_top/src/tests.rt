@@ -1,0 +1,181 @@
+use super::*;
+use desk_base::{Bytes, Got, MemorySink, MemorySource, Source};
+use rel_lexer::Text;
+use std::alloc::Global;
+use std::test::Fail;
+
+#[derive(Drop)]
+struct Outcome {
+    status: Status,
+    source: MemorySource,
+    written: MemorySink,
+}
+
+fn run(
+    alloc: Global,
+    words: &[&str],
+    input: &[u8],
+    source_fails: &[u32],
+    sink_fails: &[u32],
+) -> Result<Outcome, Fail> {
+    let mut texts = Vec::new(alloc);
+    for word in words {
+        texts.push(Text::from_str(alloc, word)?)?;
+    }
+    let bytes = Bytes::from_slice(alloc, input)?;
+    let mut source = MemorySource::new(alloc, bytes, source_fails.to_vec(alloc)?);
+    let mut written = MemorySink::new(alloc, sink_fails.to_vec(alloc)?);
+    let status = desk(alloc, &texts, &mut source, &mut written);
+    Ok(Outcome {
+        status,
+        source,
+        written,
+    })
+}
+
+const USAGE: &str = "usage: desk --help\n";
+
+const HELP: &str = "desk qna\ndesk --help\n";
+
+#[derive(Drop)]
+struct Case<'a> {
+    words: &'a [&'a str],
+    input: &'a str,
+    source_fails: &'a [u32],
+    sink_fails: &'a [u32],
+    status: Status,
+    output: &'a str,
+}
+
+fn row_of<'a>(
+    words: &'a [&'a str],
+    input: &'a str,
+    source_fails: &'a [u32],
+    sink_fails: &'a [u32],
+    status: Status,
+    output: &'a str,
+) -> Case<'a> {
+    Case {
+        words,
+        input,
+        source_fails,
+        sink_fails,
+        status,
+        output,
+    }
+}
+
+#[test]
+fn questions_are_answered_line_by_line(rt: HostRuntime) -> Result<(), Fail> {
+    let cases: [(&[u8], &[u8]); 9] = [
+        (b"", b""),
+        (b"(1 + 2); 4\n", b"Q: (1 + 2); 4\nA: 3\nA: 4\n"),
+        (b"1 + 2\n", b"Q: 1 + 2\nA: 3\n"),
+        (
+            b"9223372036854775807 + 1\n",
+            b"Q: 9223372036854775807 + 1\nE: A number is out of range. (20..21)\n",
+        ),
+        (b"true\n", b"Q: true\nE: This form is not built. (0..0)\n"),
+        (b"1 2\n", b"Q: 1 2\nE: This form is not built. (0..0)\n"),
+        (b"\n", b"Q: \nE: This form is not built. (0..0)\n"),
+        (
+            b"1\n\n2",
+            b"Q: 1\nA: 1\nQ: \nE: This form is not built. (0..0)\nQ: 2\nA: 2\n",
+        ),
+        (
+            b"7\r\n\x00\xff\n",
+            b"Q: 7\r\nA: 7\nQ: \x00\xff\nE: This form is not built. (0..0)\n",
+        ),
+    ];
+    for (input, output) in cases {
+        let outcome = run(rt.alloc(), &["qna"], input, &[], &[])?;
+        assert_eq!(rt; outcome.status, Status::Done, "at {input:?}");
+        assert_eq!(rt; outcome.written.as_slice(), output, "at {input:?}");
+    }
+    Ok(())
+}
+
+#[test]
+fn words_and_faults_have_their_statuses(rt: HostRuntime) -> Result<(), Fail> {
+    let cases: [Case; 15] = [
+        row_of(&["qna"], "1\n", &[], &[], Status::Done, "Q: 1\nA: 1\n"),
+        row_of(&["qna"], "1\n", &[1], &[], Status::Source, ""),
+        row_of(&["qna"], "1\n", &[2], &[], Status::Source, ""),
+        row_of(&["qna"], "1\n2\n", &[], &[1], Status::Sink, ""),
+        row_of(&["qna"], "1\n2\n", &[], &[2], Status::Sink, "Q: 1\nA: 1\n"),
+        row_of(&[], "1\n", &[], &[], Status::Usage, USAGE),
+        row_of(&["qn"], "1\n", &[], &[], Status::Usage, USAGE),
+        row_of(&["QNA"], "1\n", &[], &[], Status::Usage, USAGE),
+        row_of(&["qna", "qna"], "1\n", &[], &[], Status::Usage, USAGE),
+        row_of(&["qna", ""], "1\n", &[], &[], Status::Usage, USAGE),
+        row_of(&["--", "qna"], "1\n", &[], &[], Status::Usage, USAGE),
+        row_of(&["--help", "qna"], "1\n", &[], &[], Status::Usage, USAGE),
+        row_of(&["help"], "1\n", &[], &[1], Status::Sink, ""),
+        row_of(&["--help"], "1\n", &[1], &[], Status::Done, HELP),
+        row_of(&["--help"], "1\n", &[], &[1], Status::Sink, ""),
+    ];
+    for row in cases {
+        let outcome = run(
+            rt.alloc(),
+            row.words,
+            row.input.as_bytes(),
+            row.source_fails,
+            row.sink_fails,
+        )?;
+        assert_eq!(rt; outcome.status, row.status, "at {:?}", row.words);
+        assert_eq!(rt;
+            outcome.written.as_slice(),
+            row.output.as_bytes(),
+            "at {:?}",
+            row.words
+        );
+    }
+    Ok(())
+}
+
+#[test]
+fn the_help_leaves_the_source_as_it_was(rt: HostRuntime) -> Result<(), Fail> {
+    let mut outcome = run(rt.alloc(), &["--help"], b"1\n", &[], &[])?;
+    let mut room = [0u8; 4];
+    assert_eq!(rt; outcome.source.read(&mut room), Got::Some(2));
+    Ok(())
+}
+
+#[test]
+fn a_source_may_give_8388608_bytes(rt: HostRuntime) -> Result<(), Fail> {
+    let alloc = rt.alloc();
+    let mut input = vec![in alloc; b'1'; 8_388_608]?;
+    let outcome = run(alloc, &["qna"], &input, &[], &[])?;
+    assert_eq!(rt; outcome.status, Status::Done);
+    assert!(rt;
+        outcome
+            .written
+            .as_slice()
+            .ends_with(b"1\nE: This form is not built. (0..0)\n")
+    );
+    input.push(b'1')?;
+    let outcome = run(alloc, &["qna"], &input, &[], &[])?;
+    assert_eq!(rt; outcome.status, Status::InputTooLong);
+    assert_eq!(rt; outcome.written.as_slice(), b"".as_slice());
+    Ok(())
+}
+
+#[test]
+fn statuses_have_their_numbers(rt: HostRuntime) {
+    let statuses = [
+        Status::Done,
+        Status::Usage,
+        Status::Refused,
+        Status::Source,
+        Status::Sink,
+        Status::Clock,
+        Status::Pocket,
+        Status::Keeper,
+        Status::Door,
+        Status::Memory,
+        Status::InputTooLong,
+    ];
+    for (number, status) in (0u8..).zip(statuses) {
+        assert_eq!(rt; status.number(), number);
+    }
+}
