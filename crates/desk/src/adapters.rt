@@ -12,6 +12,7 @@ pub struct Reading<R: Read> {
 }
 
 impl<R: Read> Reading<R> {
+    /// A source of the reader's bytes, without faults so far.
     pub fn new(inner: R) -> Reading<R> {
         Reading { inner, faults: 0 }
     }
@@ -44,6 +45,7 @@ pub struct Writing<W: Write> {
 }
 
 impl<W: Write> Writing<W> {
+    /// A sink into the writer, without faults so far.
     pub fn new(inner: W) -> Writing<W> {
         Writing { inner, faults: 0 }
     }

@@ -2,6 +2,8 @@
 #![tactic(auto)]
 
 mod adapters;
+#[cfg(test)]
+mod tests;
 
 use adapters::{Reading, Writing};
 use desk_top::{Status, desk};

@@ -1,27 +1,11 @@
--- What a call does to the bytes that a source has left and a sink holds, where these are told, and to a count.
-use Rattle.std.specs.Prelude.{◌≡◌, ℕ, ◌+◌, ◌-◌, ◌^◌, ◌<◌, ◌≤◌, min, List, ◌++◌, length, take, ⊤, None, Some, Result, MatchResult}
+-- What a call does to the bytes that a source has left and a sink holds, where these are told.
+use Rattle.std.specs.Prelude.{◌≡◌, ℕ, ◌<◌, ◌≤◌, List, ◌++◌, length, take, ⊤, None, Some, Result, MatchResult}
 use Rattle.std.specs.declared.option.Option.{Option}
 use Rattle.std.specs.Io.KnownBytes.{Appends, Consumes, Keeps, IsAtEnd}
-use Rattle.desk_base.specs.declared.flow.Got.{Got}
-use Rattle.desk_base.specs.declared.flow.Got.TheVariants as got
-use Rattle.desk_base.specs.declared.flow.Put.{Put}
-use Rattle.desk_base.specs.declared.flow.Put.TheVariants as put
-
--- A count of faults went up, or stands at the last value of a u64.
-abbrev pub Rose : ℕ → ℕ → Type 0
-Rose before now = min (before + 1) (2 ^ 64 - 1) ≤ now
-
--- A known count of calls went up by one, or stands at the last value of a u64.
-abbrev pub CountsOne : Option ℕ → Option ℕ → Type 0
-CountsOne None new = ⊤
-CountsOne (Some m) None = ⊥
-CountsOne (Some m) (Some n) = n ≡ min (m + 1) (2 ^ 64 - 1)
-
--- A known count of calls went up by at most so many.
-abbrev pub CountsAtMost : Option ℕ → Option ℕ → ℕ → Type 0
-CountsAtMost None new most = ⊤
-CountsAtMost (Some m) None most = ⊥
-CountsAtMost (Some m) (Some n) most = n ≤ m + most
+use Rattle.desk_base.specs.declared.source.Got.{Got}
+use Rattle.desk_base.specs.declared.source.Got.TheVariants as got
+use Rattle.desk_base.specs.declared.sink.Put.{Put}
+use Rattle.desk_base.specs.declared.sink.Put.TheVariants as put
 
 -- Known bytes grow by some front of bs.
 abbrev pub AppendsFront : Option (List ℕ) → Option (List ℕ) → List ℕ → Type 0

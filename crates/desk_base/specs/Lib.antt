@@ -1,3 +1,4 @@
+pub mod Counts
 pub mod Flow
 pub mod Moments
 pub mod Whole

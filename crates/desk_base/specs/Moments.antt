@@ -4,17 +4,17 @@ use Rattle.std.specs.declared.option.Option.{Option}
 use Rattle.desk_base.specs.declared.clock.Told.{Told}
 use Rattle.desk_base.specs.declared.clock.Told.TheVariants.{Moment, Failed}
 
--- seconds since 1970-01-01 00:00:00 UTC, as far as a desk counts them
+-- seconds since 1970-01-01 00:00:00 UTC, from 0 to 137,438,953,472
 abbrev pub IsMoment : ℤ → Type 0
 IsMoment seconds = (pos 0 ≤ℤ seconds) × (seconds ≤ℤ pos (2 ^ 37))
 
 -- Known moments grow by these.
-abbrev pub GrowsBy : Option (List ℤ) → Option (List ℤ) → List ℤ → Type 0
-GrowsBy None new more = ⊤
-GrowsBy (Some xs) None more = ⊥
-GrowsBy (Some xs) (Some ys) more = ys ≡ xs ++ more
+abbrev pub AppendsMoments : Option (List ℤ) → Option (List ℤ) → List ℤ → Type 0
+AppendsMoments None new more = ⊤
+AppendsMoments (Some xs) None more = ⊥
+AppendsMoments (Some xs) (Some ys) more = ys ≡ xs ++ more
 
 -- What one question for the moment does: a moment was given, or none.
 abbrev pub Tells : Option (List ℤ) → Option (List ℤ) → Told → Type 0
-Tells old new (Moment seconds) = IsMoment seconds × GrowsBy old new (seconds ∷ [])
-Tells old new Failed = GrowsBy old new []
+Tells old new (Moment seconds) = IsMoment seconds × AppendsMoments old new (seconds ∷ [])
+Tells old new Failed = AppendsMoments old new []

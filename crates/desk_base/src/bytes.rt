@@ -19,6 +19,7 @@ impl Model for Bytes {
 }
 
 impl Bytes {
+    /// No bytes.
     pub fn new(alloc: Global) -> Bytes
         ensures { result ≡ [] }
     {
@@ -27,6 +28,7 @@ impl Bytes {
         }
     }
 
+    /// A copy of these bytes. The error is want of memory, here and below.
     pub fn from_slice(alloc: Global, bytes: &[u8]) -> Result<Bytes, AllocError>
         ensures { IfOk result (λ b. b ≡ bytes.now) }
     {
@@ -35,12 +37,14 @@ impl Bytes {
         })
     }
 
+    /// The bytes.
     pub fn as_slice(&self) -> &[u8]
         ensures { result.now ≡ self.now }
     {
         self.items.as_slice()
     }
 
+    /// Appends a byte. At an error nothing is appended.
     pub fn push(&mut self, byte: u8) -> Result<(), AllocError>
         ensures ok { OnOk result (self.new ≡ self.old ++ byte ∷ []) }
         ensures err { OnErr result (self.new ≡ self.old) }
@@ -49,6 +53,7 @@ impl Bytes {
         Ok(())
     }
 
+    /// Appends bytes. At an error nothing is appended.
     pub fn extend(&mut self, bytes: &[u8]) -> Result<(), AllocError>
         ensures ok { OnOk result (self.new ≡ self.old ++ bytes.now) }
         ensures err { OnErr result (self.new ≡ self.old) }
@@ -65,7 +70,7 @@ impl Bytes {
     }
 }
 
-/// Appends a number in decimal digits, without sign or leading zeros.
+/// Appends a number in decimal digits, without sign or leading zeros. At an error nothing is appended.
 pub fn decimal(number: u64, out: &mut Bytes) -> Result<(), AllocError>
     ensures ok { OnOk result (out.new ≡ out.old ++ decimal number) }
     ensures err { OnErr result (out.new ≡ out.old) }

@@ -1,4 +1,5 @@
-ghost use Rattle.std.specs.Prelude.{◌≡◌, ◌↔◌, ◌+◌, ◌-◌, ◌^◌, ◌≤◌, min, IsTrue, Contains};
+ghost use Rattle.std.specs.Prelude.{◌≡◌, ◌↔◌, ◌≤◌, IsTrue, Contains};
+ghost use Rattle.desk_base.specs.CallStates.{IsListed, no_calls, one_call, one_fault};
 
 use std::alloc::Global;
 use std::marker::Model;
@@ -7,9 +8,9 @@ use std::marker::Model;
 /// Both counts stand still at the last value of a u64.
 #[derive(Debug, Drop)]
 pub struct Calls {
-    to_fail: Vec<u32>,
-    begun: u64,
-    failed: u64,
+    fails: Vec<u32>,
+    made: u64,
+    faults: u64,
 }
 
 impl Model for Calls {
@@ -17,36 +18,36 @@ impl Model for Calls {
 
     ghost Value = { CallState };
 
-    ghost view = { λ c. record { fails = c.to_fail.items; made = c.begun; faults = c.failed } };
+    ghost view = { λ c. record { fails = c.fails.items; made = c.made; faults = c.faults } };
 }
 
 impl Calls {
     /// No calls yet. Those with these numbers are to fail, counted from 1.
     pub fn new(_alloc: Global, fails: Vec<u32>) -> Calls
-        ensures { result ≡ record { fails = fails.items; made = 0; faults = 0 } }
+        ensures { result ≡ no_calls fails.items }
     {
         Calls {
-            to_fail: fails,
-            begun: 0,
-            failed: 0,
+            fails,
+            made: 0,
+            faults: 0,
         }
     }
 
     /// Counts a call, and answers whether it is one of those that are to fail.
     pub fn begin(&mut self) -> bool
-        ensures counted { self.new ≡ record self.old { made = min (self.old.made + 1) (2 ^ 64 - 1) } }
-        ensures listed { IsTrue result ↔ Contains self.new.fails self.new.made }
+        ensures counted { self.new ≡ one_call self.old }
+        ensures listed { IsTrue result ↔ IsListed self.new }
     {
-        self.begun = self.begun.saturating_add(1);
-        is_among(&self.to_fail, self.begun)
+        self.made = self.made.saturating_add(1);
+        is_among(&self.fails, self.made)
     }
 
     /// Counts a fault.
     pub fn fault(&mut self)
-        ensures counted { self.new ≡ record self.old { faults = min (self.old.faults + 1) (2 ^ 64 - 1) } }
+        ensures counted { self.new ≡ one_fault self.old }
         ensures later { self.old.faults ≤ self.new.faults }
     {
-        self.failed = self.failed.saturating_add(1);
+        self.faults = self.faults.saturating_add(1);
     }
 }
 

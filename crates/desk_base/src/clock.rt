@@ -1,5 +1,5 @@
-ghost use Rattle.std.specs.Prelude.{◌≡◌, ◌≤◌, List, ℕ, ℤ, Option};
-ghost use Rattle.desk_base.specs.Flow.{Rose};
+ghost use Rattle.std.specs.Prelude.{◌≡◌, ◌≢◌, ◌≤◌, List, ℕ, ℤ, Option};
+ghost use Rattle.desk_base.specs.Counts.{Rose};
 ghost use Rattle.desk_base.specs.Moments.{Tells};
 
 /// What a clock answers.
@@ -7,6 +7,7 @@ ghost use Rattle.desk_base.specs.Moments.{Tells};
 pub enum Told {
     /// Seconds since 1970-01-01 00:00:00 UTC, from 0 to 137,438,953,472 (2^37).
     Moment(i64),
+    /// No moment was given, and the count of faults went up.
     Failed,
 }
 
@@ -22,5 +23,6 @@ pub trait Clock {
     fn now(&mut self) -> Told
         ensures tells { Tells (given self.old) (given self.new) result }
         ensures later { faults self.old ≤ faults self.new }
-        ensures failed { result ≡ Told.Failed → Rose (faults self.old) (faults self.new) };
+        ensures failed { result ≡ Told.Failed → Rose (faults self.old) (faults self.new) }
+        ensures steady { result ≢ Told.Failed → faults self.new ≡ faults self.old };
 }

@@ -4,19 +4,21 @@
 mod bytes;
 mod calls;
 mod clock;
-mod flow;
 mod memory_clock;
 mod memory_sink;
 mod memory_source;
+mod sink;
+mod source;
 mod whole;
 
 pub use bytes::{Bytes, decimal};
 pub use calls::Calls;
 pub use clock::{Clock, Told};
-pub use flow::{Got, Put, Sink, Source};
 pub use memory_clock::StepClock;
 pub use memory_sink::MemorySink;
 pub use memory_source::MemorySource;
+pub use sink::{Put, Sink};
+pub use source::{Got, Source};
 pub use whole::{Whole, read_all};
 
 #[cfg(test)]

@@ -1,5 +1,6 @@
-ghost use Rattle.std.specs.Prelude.{◌≡◌, ◌≤◌, [], Some, All};
-ghost use Rattle.desk_base.specs.Flow.{Rose};
+ghost use Rattle.std.specs.Prelude.{◌≡◌, ◌≢◌, ◌≤◌, [], Some, All};
+ghost use Rattle.desk_base.specs.CallStates.{no_calls};
+ghost use Rattle.desk_base.specs.Counts.{Rose};
 ghost use Rattle.desk_base.specs.Moments.{IsMoment, Tells};
 ghost use Rattle.desk_base.specs.MemoryStates.{StepsMemory};
 
@@ -31,7 +32,7 @@ impl StepClock {
     /// A clock of these moments. The calls with these numbers fail, counted from 1, and use up none.
     pub fn new(alloc: Global, moments: Vec<i64>, fails: Vec<u32>) -> StepClock
         requires { All IsMoment moments.items }
-        ensures { result ≡ record { given = []; left = moments.items; calls = record { fails = fails.items; made = 0; faults = 0 } } }
+        ensures { result ≡ record { given = []; left = moments.items; calls = no_calls fails.items } }
     {
         StepClock {
             moments,
@@ -50,9 +51,14 @@ impl Clock for StepClock {
         ensures tells { Tells (Some self.old.given) (Some self.new.given) result }
         ensures later { self.old.calls.faults ≤ self.new.calls.faults }
         ensures failed { result ≡ Told.Failed → Rose self.old.calls.faults self.new.calls.faults }
+        ensures steady { result ≢ Told.Failed → self.new.calls.faults ≡ self.old.calls.faults }
         ensures memory { StepsMemory self.old self.new result }
     {
-        if self.asked.begin() || self.at == self.moments.len() {
+        if self.asked.begin() {
+            self.asked.fault();
+            return Told::Failed;
+        }
+        if self.at == self.moments.len() {
             self.asked.fault();
             return Told::Failed;
         }

@@ -1,12 +1,14 @@
-ghost use Rattle.std.specs.Prelude.{◌≡◌, ◌≤◌, [], Some};
-ghost use Rattle.desk_base.specs.Flow.{Rose, Puts};
+ghost use Rattle.std.specs.Prelude.{◌≡◌, ◌≢◌, ◌≤◌, [], Some};
+ghost use Rattle.desk_base.specs.CallStates.{no_calls};
+ghost use Rattle.desk_base.specs.Counts.{Rose};
+ghost use Rattle.desk_base.specs.Flow.{Puts};
 ghost use Rattle.desk_base.specs.MemoryStates.{WritesMemory};
 
 use crate::{Bytes, Calls, Put, Sink};
 use std::alloc::Global;
 use std::marker::Model;
 
-/// A sink in memory. A write that fails appends nothing. One for which no memory is left fails too.
+/// A sink in memory. A write that fails appends nothing. One for which no memory is left is a fault of the sink.
 #[derive(Debug, Drop)]
 pub struct MemorySink {
     bytes: Bytes,
@@ -24,7 +26,7 @@ impl Model for MemorySink {
 impl MemorySink {
     /// An empty sink. The writes with these numbers fail, counted from 1.
     pub fn new(alloc: Global, fails: Vec<u32>) -> MemorySink
-        ensures { result ≡ record { held = []; calls = record { fails = fails.items; made = 0; faults = 0 } } }
+        ensures { result ≡ record { held = []; calls = no_calls fails.items } }
     {
         MemorySink {
             bytes: Bytes::new(alloc),
@@ -49,7 +51,8 @@ impl Sink for MemorySink {
         ensures puts { Puts (Some self.old.held) (Some self.new.held) result piece.now }
         ensures later { self.old.calls.faults ≤ self.new.calls.faults }
         ensures failed { result ≡ Put.Failed → Rose self.old.calls.faults self.new.calls.faults }
-        ensures memory { WritesMemory self.old self.new result piece.now }
+        ensures steady { result ≢ Put.Failed → self.new.calls.faults ≡ self.old.calls.faults }
+        ensures memory { WritesMemory self.old self.new result }
     {
         if self.writes.begin() {
             self.writes.fault();

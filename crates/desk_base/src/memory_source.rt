@@ -1,5 +1,7 @@
-ghost use Rattle.std.specs.Prelude.{◌≡◌, ◌<◌, ◌≤◌, length, Some};
-ghost use Rattle.desk_base.specs.Flow.{Rose, CountsOne, Gives};
+ghost use Rattle.std.specs.Prelude.{◌≡◌, ◌≢◌, ◌<◌, ◌≤◌, length, Some};
+ghost use Rattle.desk_base.specs.CallStates.{no_calls};
+ghost use Rattle.desk_base.specs.Counts.{Rose, CountsOne};
+ghost use Rattle.desk_base.specs.Flow.{Gives};
 ghost use Rattle.desk_base.specs.MemoryStates.{ReadsMemory};
 
 use crate::{Bytes, Calls, Got, Source};
@@ -28,7 +30,7 @@ impl Model for MemorySource {
 impl MemorySource {
     /// A source of these bytes. The reads with these numbers fail, counted from 1.
     pub fn new(alloc: Global, left: Bytes, fails: Vec<u32>) -> MemorySource
-        ensures { result ≡ record { left = left; calls = record { fails = fails.items; made = 0; faults = 0 } } }
+        ensures { result ≡ record { left = left; calls = no_calls fails.items } }
     {
         MemorySource {
             bytes: left,
@@ -51,6 +53,7 @@ impl Source for MemorySource {
         ensures reads { CountsOne (Some self.old.calls.made) (Some self.new.calls.made) }
         ensures later { self.old.calls.faults ≤ self.new.calls.faults }
         ensures failed { result ≡ Got.Failed → Rose self.old.calls.faults self.new.calls.faults }
+        ensures steady { result ≢ Got.Failed → self.new.calls.faults ≡ self.old.calls.faults }
         ensures memory { ReadsMemory self.old self.new result (length room.new) }
     {
         if self.reads.begin() {

@@ -1,6 +1,6 @@
-ghost use Rattle.std.specs.Prelude.{◌≡◌, ◌≤◌, ◌+◌};
-ghost use Rattle.desk_base.specs.Flow.{Rose, CountsAtMost};
-ghost use Rattle.desk_base.specs.Whole.{ReadsAll};
+ghost use Rattle.std.specs.Prelude.{◌≡◌, ◌≢◌, ◌≤◌, ◌+◌};
+ghost use Rattle.desk_base.specs.Counts.{Rose, CountsAtMost};
+ghost use Rattle.desk_base.specs.Whole.{ReadsAll, StopsAtEnd};
 
 use crate::{Bytes, Got, Source};
 use std::alloc::Global;
@@ -8,10 +8,13 @@ use std::alloc::Global;
 /// What reading a source to its end answers.
 #[derive(Debug, Drop)]
 pub enum Whole {
+    /// These are all its bytes, at most the limit.
     Read(Bytes),
     /// It gave more than the limit before its end.
     TooLong,
+    /// A read failed.
     Failed,
+    /// Memory ran out.
     Memory,
 }
 
@@ -19,8 +22,10 @@ pub enum Whole {
 pub fn read_all<S: Source>(alloc: Global, source: &mut S, limit: usize) -> Whole
     ensures whole { ReadsAll (S.left source.old) (S.left source.new) limit result }
     ensures reads { CountsAtMost (S.reads source.old) (S.reads source.new) (limit + 1) }
+    ensures stops { StopsAtEnd (S.reads source.old) (S.reads source.new) result }
     ensures later { S.faults source.old ≤ S.faults source.new }
     ensures failed { result ≡ Whole.Failed → Rose (S.faults source.old) (S.faults source.new) }
+    ensures steady { result ≢ Whole.Failed → S.faults source.new ≡ S.faults source.old }
 {
     let mut bytes = Bytes::new(alloc);
     let mut room = [0u8; 4096];

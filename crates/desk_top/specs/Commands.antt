@@ -1,5 +1,5 @@
 -- The table of commands.
-use Rattle.std.specs.Prelude.{◌≡◌, ℕ, List, [], ◌∷◌, ◌++◌, codes, flat_map}
+use Rattle.std.specs.Prelude.{◌≡◌, ⊤, ℕ, List, [], ◌∷◌, ◌++◌, codes, flat_map}
 use Rattle.desk_top.specs.declared.command.Command.{Command}
 use Rattle.desk_top.specs.declared.command.Command.TheVariants.{Qna, Help}
 
@@ -7,33 +7,44 @@ use Rattle.desk_top.specs.declared.command.Command.TheVariants.{Qna, Help}
 abbrev pub commands : List Command
 commands = Qna ∷ Help ∷ []
 
--- the one word of a command
-abbrev pub word_of : Command → List ℕ
-word_of Qna = codes "qna"
-word_of Help = codes "--help"
+-- the words of a command
+abbrev pub words_of : Command → List (List ℕ)
+words_of Qna = codes "qna" ∷ []
+words_of Help = codes "--help" ∷ []
 
 -- the words ask for the command
 abbrev pub Asks : List (List ℕ) → Command → Type 0
-Asks words command = words ≡ word_of command ∷ []
+Asks words command = words ≡ words_of command
 
--- the words ask for no command
+-- the words ask for some command, of which P holds
+abbrev pub AsksSome : List (List ℕ) → (Command → Type 0) → Type 0
+AsksSome words P = (command : Command) × Asks words command × P command
+
+-- the words are those of a command
+abbrev pub IsCommand : List (List ℕ) → Type 0
+IsCommand words = (command : Command) × Asks words command
+
+-- the words are those of no command
 abbrev pub IsNoCommand : List (List ℕ) → Type 0
 IsNoCommand words = (command : Command) → ¬ Asks words command
 
--- the words ask for a command of which this holds
-abbrev pub AsksOne : List (List ℕ) → (Command → Type 0) → Type 0
-AsksOne words P = (command : Command) × Asks words command × P command
-
 -- the command reads the source
 abbrev pub ReadsSource : Command → Type 0
-ReadsSource Qna = Unit {0}
+ReadsSource Qna = ⊤
 ReadsSource Help = ⊥
 
+-- what is written where the words are those of no command
 abbrev pub usage_line : List ℕ
 usage_line = codes "usage: desk --help\n"
 
-unfoldable pub help_line : Command → List ℕ
-help_line command = codes "desk " ++ word_of command ++ codes "\n"
+-- a word, and a space before it
+abbrev pub spaced : List ℕ → List ℕ
+spaced word = codes " " ++ word
 
+-- the help's line of a command
+unfoldable pub help_line : Command → List ℕ
+help_line command = codes "desk" ++ flat_map spaced (words_of command) ++ codes "\n"
+
+-- a line for each command
 abbrev pub help_text : List ℕ
 help_text = flat_map help_line commands

@@ -10,12 +10,12 @@ use Rattle.desk_top.specs.declared.command.Command.TheVariants.{Qna, Help}
 abbrev pub input_limit : ℕ
 input_limit = 8388608
 
--- The command took its whole input, of which this holds: all that the source gives up to its end, or nothing.
+-- The command took its whole input, of which P holds: all that the source gave up to its end, at most the limit, or nothing.
 abbrev pub TookInput : Command → Option (List ℕ) → Option (List ℕ) → (List ℕ → Type 0) → Type 0
 TookInput Qna old new P = TookAll old new (λ input. (length input ≤ input_limit) × P input)
 TookInput Help old new P = Keeps old new × P []
 
--- A part of the input was taken.
+-- At most the limit was taken.
 abbrev pub TookPart : Option (List ℕ) → Option (List ℕ) → Type 0
 TookPart old new = Took old new (λ taken. length taken ≤ input_limit)
 

@@ -1,5 +1,5 @@
 -- What the program says.
-use Rattle.std.specs.Prelude.{◌+◌, ◌/◌, ◌%◌, ◌++◌, ℕ, List, [], ◌∷◌, Bool, ◌||◌, ◌==◌, nat_lt, if◌then◌else◌, codes, decimal, flat_map, slice_index}
+use Rattle.std.specs.Prelude.{◌/◌, ◌%◌, ◌++◌, ℕ, List, [], ◌∷◌, ◌||◌, ◌==◌, nat_lt, if◌then◌else◌, codes, decimal, flat_map, slice_index}
 use Rattle.std.specs.Fmt.{signed_decimal}
 use Rattle.rel_lexer.specs.declared.place.Place.{Place}
 use Rattle.rel_eval.specs.declared.value.Value.{Value}
@@ -12,7 +12,7 @@ use Rattle.desk_top.specs.Lines.{lines_of}
 use Rattle.desk_top.specs.Commands.{help_text}
 use Rattle.desk_top.specs.Errors.{error_text}
 
--- a digit from 0 to 15, in lower case
+-- the hexadecimal digit of a number from 0 to 15, in lower case
 abbrev pub hex_digit : ℕ → ℕ
 hex_digit digit = slice_index (codes "0123456789abcdef") digit
 
@@ -20,6 +20,7 @@ hex_digit digit = slice_index (codes "0123456789abcdef") digit
 abbrev pub printed_byte : ℕ → List ℕ
 printed_byte byte = if nat_lt byte 32 || byte == 127 then 37 ∷ hex_digit (byte / 16) ∷ hex_digit (byte % 16) ∷ [] else byte ∷ []
 
+-- an answer's text as it is printed
 abbrev pub printed : List ℕ → List ℕ
 printed text = flat_map printed_byte text
 
@@ -27,15 +28,19 @@ printed text = flat_map printed_byte text
 abbrev pub text_of : Value → List ℕ
 text_of (Integer number) = signed_decimal number
 
+-- a line of the input, echoed
 unfoldable pub said_question : List ℕ → List ℕ
 said_question line = codes "Q: " ++ line ++ codes "\n"
 
+-- a value
 unfoldable pub said_value : Value → List ℕ
 said_value value = codes "A: " ++ printed (text_of value) ++ codes "\n"
 
+-- an error, and the place where it arose
 unfoldable pub said_error : RelKind → Place → List ℕ
 said_error kind place = codes "E: " ++ error_text kind ++ codes " (" ++ decimal place.from ++ codes ".." ++ decimal place.to ++ codes ")\n"
 
+-- an ending: nothing is said of one without an error
 abbrev pub said_ending : Ending → List ℕ
 said_ending Stop = []
 said_ending (Error kind place) = said_error kind place

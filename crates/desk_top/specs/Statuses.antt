@@ -1,10 +1,11 @@
--- Statuses, their numbers, and those that the commands so far can end with.
-use Rattle.std.specs.Prelude.{ℕ}
+-- Statuses.
+use Rattle.std.specs.Prelude.{ℕ, ⊤, Result, Ok, Err}
 use Rattle.desk_top.specs.declared.status.Status.{Status}
 use Rattle.desk_top.specs.declared.status.Status.TheVariants.{Done, Usage, Refused, Source, Sink, Clock, Pocket, Keeper, Door, Memory, InputTooLong}
-use Rattle.desk_top.specs.declared.stop.Stop.{Stop}
-use Rattle.desk_top.specs.declared.stop.Stop.TheVariants as stop
+use Rattle.desk_top.specs.declared.halt.Halt.{Halt}
+use Rattle.desk_top.specs.declared.halt.Halt.TheVariants as halt
 
+-- the number with which the program exits
 abbrev pub status_number : Status → ℕ
 status_number Done = 0
 status_number Usage = 1
@@ -18,15 +19,17 @@ status_number Door = 8
 status_number Memory = 9
 status_number InputTooLong = 10
 
--- the status of a run that ended early
-abbrev pub stop_status : Stop → Status
-stop_status stop.Sink = Sink
-stop_status stop.Memory = Memory
+-- the status of a run with this outcome
+abbrev pub status_after : {T : Type 0} → Result T Halt → Status
+status_after (Ok _) = Done
+status_after (Err halt.Sink) = Sink
+status_after (Err halt.Memory) = Memory
 
-abbrev pub IsBuilt : Status → Type 0
-IsBuilt Refused = ⊥
-IsBuilt Clock = ⊥
-IsBuilt Pocket = ⊥
-IsBuilt Keeper = ⊥
-IsBuilt Door = ⊥
-IsBuilt _ = Unit {0}
+-- a status with which the commands that there are so far can end
+abbrev pub IsStatusSoFar : Status → Type 0
+IsStatusSoFar Refused = ⊥
+IsStatusSoFar Clock = ⊥
+IsStatusSoFar Pocket = ⊥
+IsStatusSoFar Keeper = ⊥
+IsStatusSoFar Door = ⊥
+IsStatusSoFar _ = ⊤

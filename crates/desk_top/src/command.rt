@@ -1,6 +1,6 @@
-// The table of commands: it is what the words are read by and what the help prints.
-ghost use Rattle.std.specs.Prelude.{◌≡◌, ◌∷◌, [], ◌++◌, MatchOption, IfOk, OnOk};
-ghost use Rattle.desk_top.specs.Commands.{Asks, IsNoCommand, word_of, help_line, help_text};
+// The table of commands: the words are read by it, and the help prints it.
+ghost use Rattle.std.specs.Prelude.{◌≡◌, ◌↔◌, ◌++◌, map, flat_map, IsTrue, MatchOption, IfOk, OnOk};
+ghost use Rattle.desk_top.specs.Commands.{Asks, IsNoCommand, words_of, spaced, help_line, help_text};
 
 use desk_base::Bytes;
 use rel_lexer::Text;
@@ -19,12 +19,12 @@ pub enum Command {
 const COMMANDS: [Command; 2] = [Command::Qna, Command::Help];
 
 impl Command {
-    fn word(self) -> &'static str
-        ensures { result.now ≡ word_of self }
+    fn words(self) -> &'static [&'static str]
+        ensures { map (λ word. word.now) result.now ≡ words_of self }
     {
         match self {
-            Command::Qna => "qna",
-            Command::Help => "--help",
+            Command::Qna => &["qna"],
+            Command::Help => &["--help"],
         }
     }
 }
@@ -33,21 +33,24 @@ impl Command {
 pub(crate) fn command_of(words: &[Text]) -> Option<Command>
     ensures { MatchOption result (IsNoCommand words.now) (Asks words.now) }
 {
-    match words {
-        [word] => command_named(word.as_str()),
-        _ => None,
-    }
-}
-
-fn command_named(word: &str) -> Option<Command>
-    ensures { MatchOption result (IsNoCommand (word.now ∷ [])) (Asks (word.now ∷ [])) }
-{
     for command in COMMANDS {
-        if command.word() == word {
+        if are_spelled(words, command.words()) {
             return Some(command);
         }
     }
     None
+}
+
+fn are_spelled(words: &[Text], spelled: &[&str]) -> bool
+    ensures { IsTrue result ↔ (words.now ≡ map (λ word. word.now) spelled.now) }
+{
+    match (words.split_first(), spelled.split_first()) {
+        (None, None) => true,
+        (Some((word, words)), Some((first, spelled))) => {
+            word.as_str() == *first && are_spelled(words, spelled)
+        }
+        _ => false,
+    }
 }
 
 /// A line for each command.
@@ -65,7 +68,19 @@ pub(crate) fn help(alloc: Global) -> Result<Bytes, AllocError>
 fn say_help_line(command: Command, out: &mut Bytes) -> Result<(), AllocError>
     ensures { OnOk result (out.new ≡ out.old ++ help_line command) }
 {
-    out.extend(b"desk ")?;
-    out.extend(command.word().as_bytes())?;
+    out.extend(b"desk")?;
+    say_words(command.words(), out)?;
     out.push(b'\n')
+}
+
+/// Appends a space and each word.
+fn say_words(words: &[&str], out: &mut Bytes) -> Result<(), AllocError>
+    ensures { OnOk result
+        (out.new ≡ out.old ++ flat_map spaced (map (λ word. word.now) words.now)) }
+{
+    for word in words {
+        out.push(b' ')?;
+        out.extend(word.as_bytes())?;
+    }
+    Ok(())
 }

@@ -4,10 +4,10 @@
 mod answers;
 mod command;
 mod errors;
+mod halt;
 mod line;
 mod qna;
 mod status;
-mod stop;
 mod top;
 
 pub use command::Command;

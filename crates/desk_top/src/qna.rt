@@ -1,19 +1,22 @@
 ghost use Rattle.std.specs.Prelude.{◌≡◌, ◌≤◌, IsErrOf, flat_map};
-ghost use Rattle.desk_base.specs.Flow.{Rose, Writes};
+ghost use Rattle.desk_base.specs.Counts.{Rose};
+ghost use Rattle.desk_base.specs.Flow.{Writes};
 ghost use Rattle.desk_top.specs.Lines.{lines_of};
 ghost use Rattle.desk_top.specs.Said.{said_line};
 
 use crate::answers::say_line;
+use crate::halt::{Halt, put};
 use crate::line::first_line;
-use crate::stop::{Stop, put};
 use desk_base::{Bytes, Sink};
 use std::alloc::Global;
 
 /// Writes each line of the input and its answers, by one write a line.
-pub(crate) fn answer_lines<W: Sink>(alloc: Global, input: &[u8], sink: &mut W) -> Result<(), Stop>
-    ensures written { Writes (W.held sink.old) (W.held sink.new) result (flat_map said_line (lines_of input.now)) }
+pub(crate) fn answer_lines<W: Sink>(alloc: Global, input: &[u8], sink: &mut W) -> Result<(), Halt>
+    ensures written { Writes (W.held sink.old) (W.held sink.new) result
+        (flat_map said_line (lines_of input.now)) }
     ensures later { W.faults sink.old ≤ W.faults sink.new }
-    ensures failed { IsErrOf result Stop.Sink → Rose (W.faults sink.old) (W.faults sink.new) }
+    ensures failed { IsErrOf result Halt.Sink → Rose (W.faults sink.old) (W.faults sink.new) }
+    ensures steady { ¬ IsErrOf result Halt.Sink → W.faults sink.new ≡ W.faults sink.old }
 {
     let mut rest = input;
     while !rest.is_empty() {
@@ -24,10 +27,11 @@ pub(crate) fn answer_lines<W: Sink>(alloc: Global, input: &[u8], sink: &mut W) -
     Ok(())
 }
 
-fn answer_line<W: Sink>(alloc: Global, line: &[u8], sink: &mut W) -> Result<(), Stop>
+fn answer_line<W: Sink>(alloc: Global, line: &[u8], sink: &mut W) -> Result<(), Halt>
     ensures written { Writes (W.held sink.old) (W.held sink.new) result (said_line line.now) }
     ensures later { W.faults sink.old ≤ W.faults sink.new }
-    ensures failed { IsErrOf result Stop.Sink → Rose (W.faults sink.old) (W.faults sink.new) }
+    ensures failed { IsErrOf result Halt.Sink → Rose (W.faults sink.old) (W.faults sink.new) }
+    ensures steady { ¬ IsErrOf result Halt.Sink → W.faults sink.new ≡ W.faults sink.old }
 {
     let mut text = Bytes::new(alloc);
     say_line(alloc, line, &mut text)?;

@@ -4,6 +4,7 @@ ghost use Rattle.desk_top.specs.Statuses.{status_number};
 /// How a run ended. The program exits with its number, 0 to 10 in this order.
 #[derive(Clone, Copy, Debug, PartialEq, Eq)]
 pub enum Status {
+    /// All was read and said.
     Done,
     /// The words are none of the table's.
     Usage,

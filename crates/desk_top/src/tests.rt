@@ -37,7 +37,7 @@ const USAGE: &str = "usage: desk --help\n";
 
 const HELP: &str = "desk qna\ndesk --help\n";
 
-#[derive(Drop)]
+#[derive(Clone, Copy)]
 struct Case<'a> {
     words: &'a [&'a str],
     input: &'a str,
@@ -45,24 +45,6 @@ struct Case<'a> {
     sink_fails: &'a [u32],
     status: Status,
     output: &'a str,
-}
-
-fn row_of<'a>(
-    words: &'a [&'a str],
-    input: &'a str,
-    source_fails: &'a [u32],
-    sink_fails: &'a [u32],
-    status: Status,
-    output: &'a str,
-) -> Case<'a> {
-    Case {
-        words,
-        input,
-        source_fails,
-        sink_fails,
-        status,
-        output,
-    }
 }
 
 #[test]
@@ -97,22 +79,96 @@ fn questions_are_answered_line_by_line(rt: HostRuntime) -> Result<(), Fail> {
 
 #[test]
 fn words_and_faults_have_their_statuses(rt: HostRuntime) -> Result<(), Fail> {
-    let cases: [Case; 15] = [
-        row_of(&["qna"], "1\n", &[], &[], Status::Done, "Q: 1\nA: 1\n"),
-        row_of(&["qna"], "1\n", &[1], &[], Status::Source, ""),
-        row_of(&["qna"], "1\n", &[2], &[], Status::Source, ""),
-        row_of(&["qna"], "1\n2\n", &[], &[1], Status::Sink, ""),
-        row_of(&["qna"], "1\n2\n", &[], &[2], Status::Sink, "Q: 1\nA: 1\n"),
-        row_of(&[], "1\n", &[], &[], Status::Usage, USAGE),
-        row_of(&["qn"], "1\n", &[], &[], Status::Usage, USAGE),
-        row_of(&["QNA"], "1\n", &[], &[], Status::Usage, USAGE),
-        row_of(&["qna", "qna"], "1\n", &[], &[], Status::Usage, USAGE),
-        row_of(&["qna", ""], "1\n", &[], &[], Status::Usage, USAGE),
-        row_of(&["--", "qna"], "1\n", &[], &[], Status::Usage, USAGE),
-        row_of(&["--help", "qna"], "1\n", &[], &[], Status::Usage, USAGE),
-        row_of(&["help"], "1\n", &[], &[1], Status::Sink, ""),
-        row_of(&["--help"], "1\n", &[1], &[], Status::Done, HELP),
-        row_of(&["--help"], "1\n", &[], &[1], Status::Sink, ""),
+    let qna = Case {
+        words: &["qna"],
+        input: "1\n2\n",
+        source_fails: &[],
+        sink_fails: &[],
+        status: Status::Done,
+        output: "Q: 1\nA: 1\nQ: 2\nA: 2\n",
+    };
+    let usage = Case {
+        status: Status::Usage,
+        output: USAGE,
+        ..qna
+    };
+    let help = Case {
+        words: &["--help"],
+        output: HELP,
+        ..qna
+    };
+    let cases = [
+        qna,
+        Case {
+            source_fails: &[1],
+            status: Status::Source,
+            output: "",
+            ..qna
+        },
+        Case {
+            source_fails: &[2],
+            status: Status::Source,
+            output: "",
+            ..qna
+        },
+        Case {
+            sink_fails: &[1],
+            status: Status::Sink,
+            output: "",
+            ..qna
+        },
+        Case {
+            sink_fails: &[2],
+            status: Status::Sink,
+            output: "Q: 1\nA: 1\n",
+            ..qna
+        },
+        Case {
+            words: &[],
+            ..usage
+        },
+        Case {
+            words: &["qn"],
+            ..usage
+        },
+        Case {
+            words: &["QNA"],
+            ..usage
+        },
+        Case {
+            words: &["qna", "qna"],
+            ..usage
+        },
+        Case {
+            words: &["qna", ""],
+            ..usage
+        },
+        Case {
+            words: &["--", "qna"],
+            ..usage
+        },
+        Case {
+            words: &["--help", "qna"],
+            ..usage
+        },
+        Case {
+            words: &["help"],
+            sink_fails: &[1],
+            status: Status::Sink,
+            output: "",
+            ..usage
+        },
+        help,
+        Case {
+            source_fails: &[1],
+            ..help
+        },
+        Case {
+            sink_fails: &[1],
+            status: Status::Sink,
+            output: "",
+            ..help
+        },
     ];
     for row in cases {
         let outcome = run(

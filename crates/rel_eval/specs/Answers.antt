@@ -4,7 +4,7 @@ use Rattle.rel_eval.specs.declared.refusal.Refusal.{Refusal}
 use Rattle.rel_eval.specs.declared.cursor.Pulled.{Pulled}
 use Rattle.rel_eval.specs.declared.cursor.Pulled.TheVariants as pulled
 use Rattle.rel_eval.specs.SmallSums.{small_sums}
-use Rattle.rel_eval.specs.SmallReads.{Answers}
+use Rattle.rel_eval.specs.Refusals.{Answers}
 use Rattle.rel_eval.specs.Traces.{Trace, Stop, Error, give, trace}
 
 -- A question, seen as its trace, comes exactly where the text is one, and NotBuilt exactly where it is none.

@@ -1,33 +1,25 @@
--- Temporary: what the functions that read the small language do.
-use Rattle.std.specs.Prelude.{◌≡◌, ℕ, ◌+◌, ◌<◌, List, [], ◌∷◌, ◌++◌, length, Bool, true, false, Option, None, Some, Result, Ok, Err, ⊤}
-use Rattle.rel_eval.specs.declared.refusal.Refusal.{Refusal}
-use Rattle.rel_eval.specs.declared.refusal.Refusal.TheVariants.{At, Memory}
-use Rattle.rel_eval.specs.declared.refusal.RelKind.TheVariants.{NotBuilt}
+-- Temporary: the contracts of the private functions that read the small language. They promise nothing by themselves.
+use Rattle.std.specs.Prelude.{◌≡◌, ℕ, ◌+◌, ◌<◌, List, [], ◌∷◌, length, Bool, true, false, Option, None, Some, ⊤}
 use Rattle.rel_eval.specs.declared.small_tokens.SmallToken.{SmallToken}
 use Rattle.rel_eval.specs.declared.small_tokens.SmallToken.TheVariants.{Plus, Close}
 use Rattle.rel_eval.specs.declared.small_sums.Sum.{Sum}
-use Rattle.rel_eval.specs.SmallTokens.{both, tokens_from}
-use Rattle.rel_eval.specs.SmallSums.{Before, Nothing, Wanting, Having, onto, sums_from}
-use Rattle.rel_eval.specs.Traces.{nowhere}
-
--- An answer is right, or the one refusal where there is none, or want of memory.
-abbrev pub Answers : {T : Type 0} → Result T Refusal → (T → Type 0) → Type 0 → Type 0
-Answers (Ok x) IsRight IsNone = IsRight x
-Answers (Err (At kind place)) IsRight IsNone = (kind ≡ NotBuilt) × (place ≡ nowhere) × IsNone
-Answers (Err Memory) IsRight IsNone = ⊤
+use Rattle.rel_eval.specs.SmallTokens.{concatenation, tokens_from}
+use Rattle.rel_eval.specs.SmallSums.{Before, Nothing, Wanting, Having, sum_with, sums_from}
 
 -- The tokens so far and those from a byte on are the tokens after that byte and those from the next one on.
 abbrev pub Goes : List SmallToken → Option ℕ → ℕ → ℕ → List SmallToken → Option ℕ → Type 0
-Goes old number byte at new more = (bytes : List ℕ) → both (Some old) (tokens_from (byte ∷ bytes) at number) ≡ both (Some new) (tokens_from bytes (at + 1) more)
+Goes old number byte at new more = (bytes : List ℕ) → concatenation (Some old) (tokens_from (byte ∷ bytes) at number) ≡ concatenation (Some new) (tokens_from bytes (at + 1) more)
 
 -- no tokens begin at this byte
 abbrev pub Sticks : Option ℕ → ℕ → ℕ → Type 0
 Sticks number byte at = (bytes : List ℕ) → tokens_from (byte ∷ bytes) at number ≡ None
 
+-- the token is a `+`
 abbrev pub is_plus : SmallToken → Bool
 is_plus (Plus place) = true
 is_plus _ = false
 
+-- the token is a closing bracket
 abbrev pub is_close : SmallToken → Bool
 is_close Close = true
 is_close _ = false
@@ -40,8 +32,9 @@ Lacks test (token ∷ tokens) = test token ≡ false
 -- An item was read, whatever stands before it and outside it.
 pub record ItemReads (depth : ℕ) (tokens : List SmallToken) (item : Sum) (left : List SmallToken) : Type 0 where
   pub shorter : length left < length tokens
-  pub reads : (outside : List Before) (before : Before) → length outside ≡ depth → sums_from tokens outside (Wanting before) ≡ sums_from left outside (Having (onto before item))
+  pub reads : (outside : List Before) (before : Before) → length outside ≡ depth → sums_from tokens outside (Wanting before) ≡ sums_from left outside (Having (sum_with before item))
 
+-- No item stands there.
 abbrev pub ItemFails : ℕ → List SmallToken → Type 0
 ItemFails depth tokens = (outside : List Before) (before : Before) → length outside ≡ depth → sums_from tokens outside (Wanting before) ≡ None
 
@@ -51,5 +44,6 @@ pub record SumReads (depth : ℕ) (tokens : List SmallToken) (sum : Sum) (left :
   pub whole : Lacks is_plus left
   pub reads : (outside : List Before) → length outside ≡ depth → sums_from tokens outside (Wanting Nothing) ≡ sums_from left outside (Having sum)
 
+-- No sum stands there.
 abbrev pub SumFails : ℕ → List SmallToken → Type 0
 SumFails depth tokens = (outside : List Before) → length outside ≡ depth → sums_from tokens outside (Wanting Nothing) ≡ None

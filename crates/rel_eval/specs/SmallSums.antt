@@ -14,13 +14,13 @@ abbrev pub is_i64 : ℤ → Bool
 is_i64 (pos n) = nat_lt n (2 ^ 63)
 is_i64 (negsuc n) = nat_lt n (2 ^ 63)
 
--- two sums and the place of the `+` between them, the left one first
-abbrev pub added : Sum → Place → Sum → Sum
-added (Value left) plus (Value right) = if is_i64 (left +ℤ right) then Value (left +ℤ right) else OutOfRange plus
-added (Value left) plus (OutOfRange place) = OutOfRange place
-added (OutOfRange place) plus right = OutOfRange place
+-- the sum of two sums with the `+` at this place between them: the value, or the first error from the left
+abbrev pub addition : Sum → Place → Sum → Sum
+addition (Value left) plus (Value right) = if is_i64 (left +ℤ right) then Value (left +ℤ right) else OutOfRange plus
+addition (Value left) plus (OutOfRange place) = OutOfRange place
+addition (OutOfRange place) plus right = OutOfRange place
 
--- what stands before an item: nothing, or a sum and its `+`
+-- what stands before an item: nothing, or a sum and the `+` behind it
 pub data Before : Type 0 where
   Nothing : Before
   After : Sum → Place → Before
@@ -30,17 +30,17 @@ pub data Now : Type 0 where
   Wanting : Before → Now
   Having : Sum → Now
 
--- the sum with the item
-abbrev pub onto : Before → Sum → Sum
-onto Nothing item = item
-onto (After sum plus) item = added sum plus item
+-- the sum that an item makes with what stands before it
+abbrev pub sum_with : Before → Sum → Sum
+sum_with Nothing item = item
+sum_with (After sum plus) item = addition sum plus item
 
 -- The sums of these tokens. Outside are the brackets that are open, at most 64: what stands before each, the innermost first.
 abbrev pub sums_from : List SmallToken → List Before → Now → Option (List Sum)
-sums_from (Number n ∷ tokens) outside (Wanting before) = sums_from tokens outside (Having (onto before (Value n)))
+sums_from (Number n ∷ tokens) outside (Wanting before) = sums_from tokens outside (Having (sum_with before (Value n)))
 sums_from (Open ∷ tokens) outside (Wanting before) = if nat_lt (length outside) 64 then sums_from tokens (before ∷ outside) (Wanting Nothing) else None
 sums_from (Plus place ∷ tokens) outside (Having sum) = sums_from tokens outside (Wanting (After sum place))
-sums_from (Close ∷ tokens) (before ∷ outside) (Having sum) = sums_from tokens outside (Having (onto before sum))
+sums_from (Close ∷ tokens) (before ∷ outside) (Having sum) = sums_from tokens outside (Having (sum_with before sum))
 sums_from (Semicolon ∷ tokens) [] (Having sum) = option_map (λ sums. sum ∷ sums) (sums_from tokens [] (Wanting Nothing))
 sums_from [] [] (Having sum) = Some (sum ∷ [])
 sums_from _ _ _ = None

@@ -1,4 +1,4 @@
--- What a question gives: its list meaning.
+-- What a question gives: its list meaning, which is the values that it gives, in order, and how they end.
 use Rattle.std.specs.Prelude.{ℕ, List, [], ◌∷◌, Option, None, Some}
 use Rattle.rel_lexer.specs.declared.place.Place.{Place}
 use Rattle.rel_eval.specs.declared.value.Value.{Value}
@@ -24,23 +24,24 @@ abbrev pub give : Value → Trace → Trace
 give value rest = record { values = value ∷ rest.values; ending = rest.ending }
 
 -- no value, and an error
-abbrev pub fails : RelKind → Place → Trace
-fails kind place = record { values = []; ending = Error kind place }
+abbrev pub failure : RelKind → Place → Trace
+failure kind place = record { values = []; ending = Error kind place }
 
--- a collection's sums one after another; the first error ends it
-abbrev pub trace_of : List Sum → Trace
-trace_of [] = record { values = []; ending = Stop }
-trace_of (sum.Value number ∷ sums) = give (Integer number) (trace_of sums)
-trace_of (sum.OutOfRange plus ∷ sums) = fails OutOfRange plus
+-- the sums' values, one after another; the first error ends them
+abbrev pub trace_of_sums : List Sum → Trace
+trace_of_sums [] = record { values = []; ending = Stop }
+trace_of_sums (sum.Value number ∷ sums) = give (Integer number) (trace_of_sums sums)
+trace_of_sums (sum.OutOfRange plus ∷ sums) = failure OutOfRange plus
 
 -- the start of the text, and no byte of it
 abbrev pub nowhere : Place
 nowhere = record { from = 0; to = 0 }
 
--- what a text gives: what its sums give, or the one refusal
-abbrev pub given : Option (List Sum) → Trace
-given None = fails NotBuilt nowhere
-given (Some sums) = trace_of sums
+-- what was read gives what its sums give; where there was none to read, the refusal
+abbrev pub trace_of_reading : Option (List Sum) → Trace
+trace_of_reading None = failure NotBuilt nowhere
+trace_of_reading (Some sums) = trace_of_sums sums
 
+-- what a question's text gives
 abbrev pub trace : List ℕ → Trace
-trace text = given (small_sums text)
+trace text = trace_of_reading (small_sums text)

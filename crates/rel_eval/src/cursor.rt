@@ -10,6 +10,7 @@ use std::marker::Model;
 /// What a pull answers.
 #[derive(Clone, Copy, Debug, PartialEq, Eq)]
 pub enum Pulled {
+    /// The next value.
     Value(Value),
     /// There are no more values. It is answered again from then on.
     End,
@@ -26,20 +27,20 @@ pub struct Cursor {
 
 impl Model for Cursor {
     ghost use Rattle.std.specs.Prelude.{◌≤◌, length, drop};
-    ghost use Rattle.rel_eval.specs.Traces.{Trace, trace_of};
+    ghost use Rattle.rel_eval.specs.Traces.{Trace, trace_of_sums};
 
     ghost Value = { Trace };
 
-    ghost view = { λ c. trace_of (drop c.next c.sums.items) };
+    ghost view = { λ c. trace_of_sums (drop c.next c.sums.items) };
 
     ghost invariant = { λ c. c.next ≤ length c.sums.items };
 }
 
 impl Cursor {
-    ghost use Rattle.rel_eval.specs.Traces.{trace_of};
+    ghost use Rattle.rel_eval.specs.Traces.{trace_of_sums};
 
     pub(crate) fn new(sums: Vec<Sum>) -> Cursor
-        ensures { result ≡ trace_of sums.items }
+        ensures { result ≡ trace_of_sums sums.items }
     {
         Cursor { sums, next: 0 }
     }

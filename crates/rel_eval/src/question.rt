@@ -7,21 +7,23 @@ use crate::small_sums::{Sum, small_sums};
 use std::alloc::{AllocError, Global};
 use std::marker::Model;
 
-/// A question that was prepared. Contracts see what it gives.
+/// A question that was prepared. Contracts see what it gives. For now there are only numbers in a question, so what it gives is
+/// worked out when it is prepared.
 #[derive(Debug, Drop)]
 pub struct Question {
     sums: Vec<Sum>,
 }
 
 impl Model for Question {
-    ghost use Rattle.rel_eval.specs.Traces.{Trace, trace_of};
+    ghost use Rattle.rel_eval.specs.Traces.{Trace, trace_of_sums};
 
     ghost Value = { Trace };
 
-    ghost view = { λ q. trace_of q.sums.items };
+    ghost view = { λ q. trace_of_sums q.sums.items };
 }
 
-/// Prepares a question from its text.
+/// Prepares a question from its text: at most 1,024 bytes, brackets at most 64 deep, numbers up to 9223372036854775807. All that
+/// is outside the language is refused as NotBuilt at (0..0).
 pub fn prepare(alloc: Global, text: &[u8]) -> Result<Question, Refusal>
     ensures { Prepares text.now result }
 {

@@ -8,8 +8,9 @@ use std::alloc::{AllocError, AllocFailed};
 /// What a question is refused for, or ends with in place of a further value.
 #[derive(Clone, Copy, Debug, PartialEq, Eq)]
 pub enum RelKind {
+    /// A sum is no number of an i64, at the place of its `+`.
     OutOfRange = 9,
-    /// Temporary: the question is outside the language that is built so far.
+    /// Temporary: the text is outside the language that is built so far, at (0..0).
     NotBuilt = 19,
 }
 
@@ -25,7 +26,9 @@ impl RelKind {
 /// Why a text is no question.
 #[derive(Clone, Copy, Debug, PartialEq, Eq)]
 pub enum Refusal {
+    /// It is refused for this, at this place.
     At(RelKind, Place),
+    /// Memory ran out.
     Memory,
 }
 

@@ -1,7 +1,8 @@
 // Temporary: the sums of the small language, until the whole grammar replaces them.
 ghost use Rattle.std.specs.Prelude.{◌≡◌, ◌≤◌, [], ◌∷◌, None, Some, MatchOption};
-ghost use Rattle.rel_eval.specs.SmallSums.{added, small_sums, sums_from, Wanting, Nothing};
-ghost use Rattle.rel_eval.specs.SmallReads.{Answers, Lacks, is_plus, is_close, ItemReads, ItemFails, SumReads, SumFails};
+ghost use Rattle.rel_eval.specs.SmallSums.{addition, small_sums, sums_from, Wanting, Nothing};
+ghost use Rattle.rel_eval.specs.Refusals.{Answers};
+ghost use Rattle.rel_eval.specs.SmallReads.{Lacks, is_plus, is_close, ItemReads, ItemFails, SumReads, SumFails};
 
 use crate::refusal::{NOT_BUILT, Refusal};
 use crate::small_tokens::{SmallToken, small_tokens};
@@ -20,14 +21,16 @@ pub(crate) enum Sum {
 
 /// The sums of a question's text.
 pub(crate) fn small_sums(alloc: Global, text: &[u8]) -> Result<Vec<Sum>, Refusal>
-    ensures { Answers result (λ sums. small_sums text.now ≡ Some sums.items) (small_sums text.now ≡ None) }
+    ensures { Answers result (λ sums. small_sums text.now ≡ Some sums.items)
+        (small_sums text.now ≡ None) }
 {
     let tokens = small_tokens(alloc, text)?;
     read_sums(alloc, &tokens)
 }
 
 fn read_sums(alloc: Global, tokens: &[SmallToken]) -> Result<Vec<Sum>, Refusal>
-    ensures { Answers result (λ sums. sums_from tokens.now [] (Wanting Nothing) ≡ Some sums.items) (sums_from tokens.now [] (Wanting Nothing) ≡ None) }
+    ensures { Answers result (λ sums. sums_from tokens.now [] (Wanting Nothing) ≡ Some sums.items)
+        (sums_from tokens.now [] (Wanting Nothing) ≡ None) }
 {
     let mut sums = Vec::new(alloc);
     let mut rest = tokens;
@@ -48,12 +51,13 @@ fn read_sums(alloc: Global, tokens: &[SmallToken]) -> Result<Vec<Sum>, Refusal>
 #[cycle(sums)]
 fn read_sum(tokens: &[SmallToken], depth: u32) -> Option<(Sum, &[SmallToken])>
     requires { depth ≤ 64 }
-    ensures { MatchOption result (SumFails depth tokens.now) (λ r. SumReads depth tokens.now r.0 r.1.now) }
+    ensures { MatchOption result (SumFails depth tokens.now)
+        (λ r. SumReads depth tokens.now r.0 r.1.now) }
 {
     let (mut sum, mut rest) = read_item(tokens, depth)?;
     while let Some((plus, after)) = after_plus(rest) {
         let (item, left) = read_item(after, depth)?;
-        sum = added(sum, plus, item);
+        sum = addition(sum, plus, item);
         rest = left;
     }
     Some((sum, rest))
@@ -62,7 +66,8 @@ fn read_sum(tokens: &[SmallToken], depth: u32) -> Option<(Sum, &[SmallToken])>
 #[cycle(sums)]
 fn read_item(tokens: &[SmallToken], depth: u32) -> Option<(Sum, &[SmallToken])>
     requires { depth ≤ 64 }
-    ensures { MatchOption result (ItemFails depth tokens.now) (λ r. ItemReads depth tokens.now r.0 r.1.now) }
+    ensures { MatchOption result (ItemFails depth tokens.now)
+        (λ r. ItemReads depth tokens.now r.0 r.1.now) }
 {
     match tokens.split_first()? {
         (SmallToken::Number(number), left) => Some((Sum::Value(*number), left)),
@@ -76,7 +81,8 @@ fn read_item(tokens: &[SmallToken], depth: u32) -> Option<(Sum, &[SmallToken])>
 }
 
 fn after_plus(tokens: &[SmallToken]) -> Option<(Place, &[SmallToken])>
-    ensures { MatchOption result (Lacks is_plus tokens.now) (λ r. tokens.now ≡ SmallToken.Plus r.0 ∷ r.1.now) }
+    ensures { MatchOption result (Lacks is_plus tokens.now)
+        (λ r. tokens.now ≡ SmallToken.Plus r.0 ∷ r.1.now) }
 {
     match tokens.split_first() {
         Some((SmallToken::Plus(place), left)) => Some((*place, left)),
@@ -85,7 +91,8 @@ fn after_plus(tokens: &[SmallToken]) -> Option<(Place, &[SmallToken])>
 }
 
 fn after_close(tokens: &[SmallToken]) -> Option<&[SmallToken]>
-    ensures { MatchOption result (Lacks is_close tokens.now) (λ r. tokens.now ≡ SmallToken.Close ∷ r.now) }
+    ensures { MatchOption result (Lacks is_close tokens.now)
+        (λ r. tokens.now ≡ SmallToken.Close ∷ r.now) }
 {
     match tokens.split_first() {
         Some((SmallToken::Close, left)) => Some(left),
@@ -94,8 +101,8 @@ fn after_close(tokens: &[SmallToken]) -> Option<&[SmallToken]>
 }
 
 /// Two sums with the `+` at this place between them. An error of the left one comes first.
-fn added(left: Sum, plus: Place, right: Sum) -> Sum
-    ensures { result ≡ added left plus right }
+fn addition(left: Sum, plus: Place, right: Sum) -> Sum
+    ensures { result ≡ addition left plus right }
 {
     match (left, right) {
         (Sum::Value(left), Sum::Value(right)) => match left.checked_add(right) {

@@ -1,8 +1,9 @@
 // Temporary: the tokens of the small language, until the whole lexer replaces them.
 ghost use Rattle.std.specs.Prelude.{◌≡◌, ◌<◌, ◌^◌, ◌++◌, true, None, Some, IfOk, OnOk, IfSome};
 ghost use Rattle.std.specs.Char.{is_ascii_digit};
-ghost use Rattle.rel_eval.specs.SmallTokens.{both, byte_tokens, number_tokens, one_digit_more, small_tokens};
-ghost use Rattle.rel_eval.specs.SmallReads.{Answers, Goes, Sticks};
+ghost use Rattle.rel_eval.specs.SmallTokens.{concatenation, byte_tokens, number_tokens, longer_number, small_tokens};
+ghost use Rattle.rel_eval.specs.Refusals.{Answers};
+ghost use Rattle.rel_eval.specs.SmallReads.{Goes, Sticks};
 
 use crate::refusal::{NOT_BUILT, Refusal};
 use rel_lexer::Place;
@@ -26,7 +27,8 @@ pub(crate) enum SmallToken {
 
 /// The tokens of a text.
 pub(crate) fn small_tokens(alloc: Global, text: &[u8]) -> Result<Vec<SmallToken>, Refusal>
-    ensures { Answers result (λ tokens. small_tokens text.now ≡ Some tokens.items) (small_tokens text.now ≡ None) }
+    ensures { Answers result (λ tokens. small_tokens text.now ≡ Some tokens.items)
+        (small_tokens text.now ≡ None) }
 {
     if text.len() > MOST_BYTES {
         return Err(NOT_BUILT);
@@ -40,7 +42,7 @@ pub(crate) fn small_tokens(alloc: Global, text: &[u8]) -> Result<Vec<SmallToken>
     Ok(tokens)
 }
 
-/// Reads a byte behind the digits of a number, if there are some, and answers the digits behind which the next byte stands.
+/// Reads a byte behind a number that was begun or none, and answers which number the next byte stands behind.
 fn read_byte(
     byte: u8,
     at: u32,
@@ -49,11 +51,12 @@ fn read_byte(
 ) -> Result<Option<u64>, Refusal>
     requires within { at < 1024 }
     requires small { IfSome number (λ n. n < 2 ^ 63) }
-    ensures goes { Answers result (λ more. Goes tokens.old.items number byte at tokens.new.items more) (Sticks number byte at) }
+    ensures goes { Answers result (λ more. Goes tokens.old.items number byte at tokens.new.items more)
+        (Sticks number byte at) }
     ensures small { IfOk result (λ more. IfSome more (λ n. n < 2 ^ 63)) }
 {
     if byte.is_ascii_digit() {
-        return match one_digit_more(number, byte) {
+        return match longer_number(number, byte) {
             Some(more) => Ok(Some(more)),
             None => Err(NOT_BUILT),
         };
@@ -63,12 +66,12 @@ fn read_byte(
     Ok(None)
 }
 
-fn one_digit_more(number: Option<u64>, digit: u8) -> Option<u64>
-    requires { is_ascii_digit digit ≡ true }
-    ensures digits { result ≡ one_digit_more number digit }
+fn longer_number(number: Option<u64>, byte: u8) -> Option<u64>
+    requires { is_ascii_digit byte ≡ true }
+    ensures digits { result ≡ longer_number number byte }
     ensures small { IfSome result (λ n. n < 2 ^ 63) }
 {
-    let digit = u64::from(digit - b'0');
+    let digit = u64::from(byte - b'0');
     let more = number.unwrap_or(0).saturating_mul(10).saturating_add(digit);
     if more <= LARGEST { Some(more) } else { None }
 }
@@ -85,7 +88,9 @@ fn push_number(number: Option<u64>, tokens: &mut Vec<SmallToken>) -> Result<(), 
 
 fn push_sign(byte: u8, at: u32, tokens: &mut Vec<SmallToken>) -> Result<(), Refusal>
     requires { at < 1024 }
-    ensures { Answers result (λ _. both (Some tokens.old.items) (byte_tokens byte at) ≡ Some tokens.new.items) (byte_tokens byte at ≡ None) }
+    ensures { Answers result
+        (λ _. concatenation (Some tokens.old.items) (byte_tokens byte at) ≡ Some tokens.new.items)
+        (byte_tokens byte at ≡ None) }
 {
     let sign = match byte {
         b' ' | b'\t' | b'\r' | b'\n' => return Ok(()),

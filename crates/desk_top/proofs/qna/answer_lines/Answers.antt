@@ -1,4 +1,4 @@
-use Rattle.std.proofs.Common.{flat_map, ap, arith}
+use Rattle.std.proofs.Common.{flat_map, ap, ◌∙◌}
 use Rattle.std.proofs.lemmas.Result.{err_from_is_err_and}
 use Rattle.desk_base.proofs.Flowing.{SoFar-step, SoFar-stop}
 use Rattle.desk_top.specs.Lines.{lines_of}
@@ -8,7 +8,7 @@ use Rattle.desk_top.proofs.qna.answer_lines.Goals as goal
 pub loop-rest-preserved : goal.loop-rest-preserved
 loop-rest-preserved g c = record {
   so_far = SoFar-step _ _ _ _ (flat_map said_line (lines_of c.loop-rest.rest.now)) (said_line c.first_line.result.0.now) (flat_map said_line (lines_of c.first_line.result.1.now)) c.loop-rest.invariant.so_far (ap (flat_map said_line) c.first_line.ensures.lines) c.in_ok-answer_line.ensures.written;
-  later = omega arith;
+  steady = c.in_ok-answer_line.ensures.steady (λ e. cc) ∙ c.loop-rest.invariant.steady;
 }
 
 pub returns-in_err-answer_line-clause-written : goal.returns-in_err-answer_line-clause-written
