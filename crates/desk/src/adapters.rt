@@ -1,5 +1,5 @@
 // A reader of std as a source, and a writer as a sink. They count their faults and tell no content.
-ghost use Rattle.std.specs.Prelude.{None};
+ghost use Rattle.std.specs.Prelude.{◌≡◌, None};
 
 use desk_base::{Got, Put, Sink, Source};
 use std::io::{Read, Write};
@@ -13,7 +13,9 @@ pub struct Reading<R: Read> {
 
 impl<R: Read> Reading<R> {
     /// A source of the reader's bytes, without faults so far.
-    pub fn new(inner: R) -> Reading<R> {
+    pub fn new(inner: R) -> Reading<R>
+        ensures { result.faults ≡ 0 }
+    {
         Reading { inner, faults: 0 }
     }
 }
@@ -46,7 +48,9 @@ pub struct Writing<W: Write> {
 
 impl<W: Write> Writing<W> {
     /// A sink into the writer, without faults so far.
-    pub fn new(inner: W) -> Writing<W> {
+    pub fn new(inner: W) -> Writing<W>
+        ensures { result.faults ≡ 0 }
+    {
         Writing { inner, faults: 0 }
     }
 }
