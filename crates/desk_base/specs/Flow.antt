@@ -1,5 +1,5 @@
 -- What a call does to the bytes that a source has left and a sink holds, where these are told.
-use Rattle.std.specs.Prelude.{◌≡◌, ℕ, ◌<◌, ◌≤◌, List, ◌++◌, length, take, ⊤, None, Some, Result, MatchResult}
+use Rattle.std.specs.Prelude.{◌≡◌, ℕ, ◌<◌, ◌≤◌, List, ◌++◌, length, take, ⊤, None, Some}
 use Rattle.std.specs.declared.option.Option.{Option}
 use Rattle.std.specs.Io.KnownBytes.{Appends, Consumes, Keeps, IsAtEnd}
 use Rattle.desk_base.specs.declared.source.Got.{Got}
@@ -24,6 +24,10 @@ abbrev pub Puts : Option (List ℕ) → Option (List ℕ) → Put → List ℕ �
 Puts old new put.Done piece = Appends old new piece
 Puts old new put.Failed piece = AppendsFront old new piece
 
--- At Ok known bytes grew by bs, and at Err by a front of it.
-abbrev pub Writes : {T E : Type 0} → Option (List ℕ) → Option (List ℕ) → Result T E → List ℕ → Type 0
-Writes old new result bs = MatchResult result (λ _. Appends old new bs) (λ _. AppendsFront old new bs)
+-- Known bytes grow by some bytes of which P holds.
+abbrev pub AppendsSome : Option (List ℕ) → Option (List ℕ) → (List ℕ → Type 0) → Type 0
+AppendsSome old new P = (bytes : List ℕ) × P bytes × Appends old new bytes
+
+-- These bytes are a front of bs.
+abbrev pub IsFront : List ℕ → List ℕ → Type 0
+IsFront bs front = (rest : List ℕ) × (bs ≡ front ++ rest)

@@ -1,11 +1,14 @@
 -- What the program says.
-use Rattle.std.specs.Prelude.{◌/◌, ◌%◌, ◌++◌, ℕ, List, [], ◌∷◌, ◌||◌, ◌==◌, nat_lt, if◌then◌else◌, codes, decimal, flat_map, slice_index}
+use Rattle.std.specs.Prelude.{◌≡◌, ◌⊎◌, ◌/◌, ◌%◌, ◌++◌, ℕ, List, [], ◌∷◌, ◌||◌, ◌==◌, nat_lt, if◌then◌else◌, codes, decimal, flat_map, slice_index}
 use Rattle.std.specs.Fmt.{signed_decimal}
 use Rattle.rel_lexer.specs.declared.place.Place.{Place}
 use Rattle.rel_eval.specs.declared.value.Value.{Value}
 use Rattle.rel_eval.specs.declared.value.Value.TheVariants.{Integer}
 use Rattle.rel_eval.specs.declared.refusal.RelKind.{RelKind}
-use Rattle.rel_eval.specs.Traces.{Trace, Ending, Stop, Error, trace}
+use Rattle.rel_eval.specs.declared.refusal.Refusal.{Refusal}
+use Rattle.rel_eval.specs.declared.refusal.Refusal.TheVariants.{At, Memory}
+use Rattle.rel_eval.specs.Traces.{Trace, Ending, Stop, Error, IsTraceOf}
+use Rattle.desk_base.specs.Flow.{IsFront}
 use Rattle.desk_top.specs.declared.command.Command.{Command}
 use Rattle.desk_top.specs.declared.command.Command.TheVariants.{Qna, Help}
 use Rattle.desk_top.specs.Lines.{lines_of}
@@ -49,11 +52,35 @@ said_ending (Error kind place) = said_error kind place
 abbrev pub said_trace : Trace → List ℕ
 said_trace t = flat_map said_value t.values ++ said_ending t.ending
 
--- a line, and its answers
-abbrev pub said_line : List ℕ → List ℕ
-said_line line = said_question line ++ said_trace (trace line)
+-- What a refusal says was appended; of want of memory nothing is said.
+abbrev pub SaysRefusal : Refusal → List ℕ → List ℕ → Type 0
+SaysRefusal (At kind place) old new = new ≡ old ++ said_error kind place
+SaysRefusal Memory old new = ⊥
 
--- what a command says, where these bytes were read from the source
-abbrev pub said : Command → List ℕ → List ℕ
-said Qna input = flat_map said_line (lines_of input)
-said Help input = help_text
+-- These bytes are said of a line: its echo, and what is said of its trace.
+abbrev pub SaysLine : List ℕ → List ℕ → Type 0
+SaysLine line bytes = (t : Trace) × IsTraceOf line t × (bytes ≡ said_question line ++ said_trace t)
+
+-- These bytes are said of lines, one after another.
+abbrev pub SaysLines : List (List ℕ) → List ℕ → Type 0
+SaysLines [] bytes = bytes ≡ []
+SaysLines (line ∷ lines) bytes = (first : List ℕ) × (rest : List ℕ) × SaysLine line first × SaysLines lines rest × (bytes ≡ first ++ rest)
+
+-- A command says these bytes, where that input was read from the source.
+abbrev pub Says : Command → List ℕ → List ℕ → Type 0
+Says Qna input bytes = SaysLines (lines_of input) bytes
+Says Help input bytes = bytes ≡ help_text
+
+-- These bytes are a front of what is said of a line, which may be nothing.
+abbrev pub SaysFrontOfLine : List ℕ → List ℕ → Type 0
+SaysFrontOfLine line front = (front ≡ []) ⊎ ((bytes : List ℕ) × SaysLine line bytes × IsFront bytes front)
+
+-- These bytes are all that is said of some first lines, and a front of what is said of the next one.
+abbrev pub SaysFrontOfLines : List (List ℕ) → List ℕ → Type 0
+SaysFrontOfLines [] front = front ≡ []
+SaysFrontOfLines (line ∷ lines) front = SaysFrontOfLine line front ⊎ ((first : List ℕ) × (rest : List ℕ) × SaysLine line first × SaysFrontOfLines lines rest × (front ≡ first ++ rest))
+
+-- These bytes are a front of what a command says.
+abbrev pub SaysFront : Command → List ℕ → List ℕ → Type 0
+SaysFront Qna input front = SaysFrontOfLines (lines_of input) front
+SaysFront Help input front = IsFront help_text front

@@ -1,5 +1,5 @@
 -- Statuses.
-use Rattle.std.specs.Prelude.{ℕ, ⊤, Result, Ok, Err}
+use Rattle.std.specs.Prelude.{ℕ, ⊤}
 use Rattle.desk_top.specs.declared.status.Status.{Status}
 use Rattle.desk_top.specs.declared.status.Status.TheVariants.{Done, Usage, Refused, Source, Sink, Clock, Pocket, Keeper, Door, Memory, InputTooLong}
 use Rattle.desk_top.specs.declared.halt.Halt.{Halt}
@@ -19,11 +19,10 @@ status_number Door = 8
 status_number Memory = 9
 status_number InputTooLong = 10
 
--- the status of a run with this outcome
-abbrev pub status_after : {T : Type 0} → Result T Halt → Status
-status_after (Ok _) = Done
-status_after (Err halt.Sink) = Sink
-status_after (Err halt.Memory) = Memory
+-- the status of a run that ended early
+abbrev pub status_of : Halt → Status
+status_of halt.Sink = Sink
+status_of halt.Memory = Memory
 
 -- a status with which the commands that there are so far can end
 abbrev pub IsStatusSoFar : Status → Type 0

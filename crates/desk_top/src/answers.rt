@@ -1,7 +1,7 @@
 // The lines that a question is answered by.
-ghost use Rattle.std.specs.Prelude.{◌≡◌, ◌++◌, ◌<◌, OnOk};
-ghost use Rattle.desk_top.specs.Said.{hex_digit, printed, printed_byte, said_question, said_value, said_error, said_trace, said_line, text_of};
-ghost use Rattle.rel_eval.specs.Traces.{trace};
+ghost use Rattle.std.specs.Prelude.{◌≡◌, ◌++◌, ◌<◌, List, ℕ, OnOk};
+ghost use Rattle.desk_top.specs.Said.{hex_digit, printed, printed_byte, said_question, said_value, said_error, said_trace, text_of, SaysLine, SaysRefusal};
+ghost use Rattle.rel_eval.specs.Traces.{IsTraceOf, Trace};
 
 use crate::errors::error_text;
 use desk_base::{Bytes, decimal};
@@ -12,10 +12,11 @@ use std::alloc::{AllocError, Global};
 
 /// Appends a line and its answers.
 pub(crate) fn say_line(alloc: Global, line: &[u8], out: &mut Bytes) -> Result<(), AllocError>
-    ensures { OnOk result (out.new ≡ out.old ++ said_line line.now) }
+    ensures { OnOk result ((bytes : List ℕ) × SaysLine line.now bytes × (out.new ≡ out.old ++ bytes)) }
 {
     say_question(line, out)?;
-    say_answers(alloc, line, out)
+    say_answers(alloc, line, out)?;
+    Ok(())
 }
 
 #[tactic(auto, unfolding(crate::specs::Said::said_question))]
@@ -28,12 +29,20 @@ fn say_question(line: &[u8], out: &mut Bytes) -> Result<(), AllocError>
 }
 
 fn say_answers(alloc: Global, line: &[u8], out: &mut Bytes) -> Result<(), AllocError>
-    ensures { OnOk result (out.new ≡ out.old ++ said_trace (trace line.now)) }
+    ensures { OnOk result ((t : Trace) × IsTraceOf line.now t × (out.new ≡ out.old ++ said_trace t)) }
 {
     match prepare(alloc, line) {
         Ok(question) => say_values(question.open(alloc)?, out),
-        Err(Refusal::At(kind, place)) => say_error(kind, place, out),
-        Err(Refusal::Memory) => Err(AllocError),
+        Err(refusal) => say_refusal(refusal, out),
+    }
+}
+
+fn say_refusal(refusal: Refusal, out: &mut Bytes) -> Result<(), AllocError>
+    ensures { OnOk result (SaysRefusal refusal out.old out.new) }
+{
+    match refusal {
+        Refusal::At(kind, place) => say_error(kind, place, out),
+        Refusal::Memory => Err(AllocError),
     }
 }
 

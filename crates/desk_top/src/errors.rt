@@ -8,7 +8,13 @@ pub(crate) fn error_text(kind: RelKind) -> &'static str
     ensures { result.now ≡ error_text kind }
 {
     match kind {
+        RelKind::BadByte => "A character cannot stand here.",
+        RelKind::BadEscape => "A string is not text.",
+        RelKind::UnclosedString => "A string is not closed.",
+        RelKind::UnclosedComment => "A comment is not closed.",
+        RelKind::TooLong => "The question is too long.",
         RelKind::OutOfRange => "A number is out of range.",
+        RelKind::BadNumber => "A number is too large.",
         RelKind::NotBuilt => "This form is not built.",
     }
 }

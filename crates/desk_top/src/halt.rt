@@ -1,8 +1,9 @@
-ghost use Rattle.std.specs.Prelude.{◌≡◌, ◌≤◌, IsErrOf};
+ghost use Rattle.std.specs.Prelude.{◌≡◌, ◌≤◌, IsErrOf, MatchResult};
+ghost use Rattle.std.specs.Io.KnownBytes.{Appends};
 ghost use Rattle.desk_base.specs.Counts.{Rose};
-ghost use Rattle.desk_base.specs.Flow.{Writes};
+ghost use Rattle.desk_base.specs.Flow.{AppendsSome, IsFront};
 ghost use Rattle.desk_top.specs.declared.halt.Halt.TheVariants.{Memory};
-ghost use Rattle.desk_top.specs.Statuses.{status_after};
+ghost use Rattle.desk_top.specs.Statuses.{status_of};
 
 use crate::status::Status;
 use desk_base::{Put, Sink};
@@ -27,7 +28,9 @@ impl From<AllocError> for Halt {
 
 /// Writes a piece.
 pub(crate) fn put<W: Sink>(sink: &mut W, piece: &[u8]) -> Result<(), Halt>
-    ensures written { Writes (W.held sink.old) (W.held sink.new) result piece.now }
+    ensures written { MatchResult result
+        (λ _. Appends (W.held sink.old) (W.held sink.new) piece.now)
+        (λ _. AppendsSome (W.held sink.old) (W.held sink.new) (IsFront piece.now)) }
     ensures later { W.faults sink.old ≤ W.faults sink.new }
     ensures failed { IsErrOf result Halt.Sink → Rose (W.faults sink.old) (W.faults sink.new) }
     ensures steady { ¬ IsErrOf result Halt.Sink → W.faults sink.new ≡ W.faults sink.old }
@@ -38,13 +41,12 @@ pub(crate) fn put<W: Sink>(sink: &mut W, piece: &[u8]) -> Result<(), Halt>
     }
 }
 
-/// The status of a run with this outcome.
-pub(crate) fn status_after(outcome: Result<(), Halt>) -> Status
-    ensures { result ≡ status_after outcome }
+/// The status of a run that ended early.
+pub(crate) fn halted(halt: Halt) -> Status
+    ensures { result ≡ status_of halt }
 {
-    match outcome {
-        Ok(()) => Status::Done,
-        Err(Halt::Sink) => Status::Sink,
-        Err(Halt::Memory) => Status::Memory,
+    match halt {
+        Halt::Sink => Status::Sink,
+        Halt::Memory => Status::Memory,
     }
 }

@@ -1,8 +1,8 @@
-ghost use Rattle.std.specs.Prelude.{◌≡◌, ◌≤◌, IsErrOf, flat_map};
+ghost use Rattle.std.specs.Prelude.{◌≡◌, ◌≤◌, IsErrOf, MatchResult};
 ghost use Rattle.desk_base.specs.Counts.{Rose};
-ghost use Rattle.desk_base.specs.Flow.{Writes};
+ghost use Rattle.desk_base.specs.Flow.{AppendsSome};
 ghost use Rattle.desk_top.specs.Lines.{lines_of};
-ghost use Rattle.desk_top.specs.Said.{said_line};
+ghost use Rattle.desk_top.specs.Said.{SaysLine, SaysLines, SaysFrontOfLine, SaysFrontOfLines};
 
 use crate::answers::say_line;
 use crate::halt::{Halt, put};
@@ -12,8 +12,9 @@ use std::alloc::Global;
 
 /// Writes each line of the input and its answers, by one write a line.
 pub(crate) fn answer_lines<W: Sink>(alloc: Global, input: &[u8], sink: &mut W) -> Result<(), Halt>
-    ensures written { Writes (W.held sink.old) (W.held sink.new) result
-        (flat_map said_line (lines_of input.now)) }
+    ensures written { MatchResult result
+        (λ _. AppendsSome (W.held sink.old) (W.held sink.new) (SaysLines (lines_of input.now)))
+        (λ _. AppendsSome (W.held sink.old) (W.held sink.new) (SaysFrontOfLines (lines_of input.now))) }
     ensures later { W.faults sink.old ≤ W.faults sink.new }
     ensures failed { IsErrOf result Halt.Sink → Rose (W.faults sink.old) (W.faults sink.new) }
     ensures steady { ¬ IsErrOf result Halt.Sink → W.faults sink.new ≡ W.faults sink.old }
@@ -28,12 +29,15 @@ pub(crate) fn answer_lines<W: Sink>(alloc: Global, input: &[u8], sink: &mut W) -
 }
 
 fn answer_line<W: Sink>(alloc: Global, line: &[u8], sink: &mut W) -> Result<(), Halt>
-    ensures written { Writes (W.held sink.old) (W.held sink.new) result (said_line line.now) }
+    ensures written { MatchResult result
+        (λ _. AppendsSome (W.held sink.old) (W.held sink.new) (SaysLine line.now))
+        (λ _. AppendsSome (W.held sink.old) (W.held sink.new) (SaysFrontOfLine line.now)) }
     ensures later { W.faults sink.old ≤ W.faults sink.new }
     ensures failed { IsErrOf result Halt.Sink → Rose (W.faults sink.old) (W.faults sink.new) }
     ensures steady { ¬ IsErrOf result Halt.Sink → W.faults sink.new ≡ W.faults sink.old }
 {
     let mut text = Bytes::new(alloc);
     say_line(alloc, line, &mut text)?;
-    put(sink, text.as_slice())
+    put(sink, text.as_slice())?;
+    Ok(())
 }

@@ -49,13 +49,31 @@ struct Case<'a> {
 
 #[test]
 fn questions_are_answered_line_by_line(rt: HostRuntime) -> Result<(), Fail> {
-    let cases: [(&[u8], &[u8]); 9] = [
+    let cases: [(&[u8], &[u8]); 15] = [
         (b"", b""),
         (b"(1 + 2); 4\n", b"Q: (1 + 2); 4\nA: 3\nA: 4\n"),
         (b"1 + 2\n", b"Q: 1 + 2\nA: 3\n"),
         (
             b"9223372036854775807 + 1\n",
             b"Q: 9223372036854775807 + 1\nE: A number is out of range. (20..21)\n",
+        ),
+        (
+            b"1?\n",
+            b"Q: 1?\nE: A character cannot stand here. (1..2)\n",
+        ),
+        (
+            b"\"%ff\"\n",
+            b"Q: \"%ff\"\nE: A string is not text. (0..5)\n",
+        ),
+        (b"\"abc\n", b"Q: \"abc\nE: A string is not closed. (0..4)\n"),
+        (b"1 /*\n", b"Q: 1 /*\nE: A comment is not closed. (2..4)\n"),
+        (
+            b"9223372036854775808\n",
+            b"Q: 9223372036854775808\nE: A number is too large. (0..19)\n",
+        ),
+        (
+            b"\"%22a%22\"\n",
+            b"Q: \"%22a%22\"\nE: This form is not built. (0..0)\n",
         ),
         (b"true\n", b"Q: true\nE: This form is not built. (0..0)\n"),
         (b"1 2\n", b"Q: 1 2\nE: This form is not built. (0..0)\n"),
@@ -66,7 +84,7 @@ fn questions_are_answered_line_by_line(rt: HostRuntime) -> Result<(), Fail> {
         ),
         (
             b"7\r\n\x00\xff\n",
-            b"Q: 7\r\nA: 7\nQ: \x00\xff\nE: This form is not built. (0..0)\n",
+            b"Q: 7\r\nA: 7\nQ: \x00\xff\nE: A character cannot stand here. (0..1)\n",
         ),
     ];
     for (input, output) in cases {
@@ -207,7 +225,7 @@ fn a_source_may_give_8388608_bytes(rt: HostRuntime) -> Result<(), Fail> {
         outcome
             .written
             .as_slice()
-            .ends_with(b"1\nE: This form is not built. (0..0)\n")
+            .ends_with(b"1\nE: The question is too long. (0..0)\n")
     );
     input.push(b'1')?;
     let outcome = run(alloc, &["qna"], &input, &[], &[])?;

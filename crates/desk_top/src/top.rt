@@ -1,14 +1,14 @@
-ghost use Rattle.std.specs.Prelude.{◌≡◌, ◌≢◌, ◌+◌, ◌≤◌, ◌<◌, ◌⊎◌, length, IsErrOf, IsSomeAnd};
+ghost use Rattle.std.specs.Prelude.{◌≡◌, ◌≢◌, ◌+◌, ◌≤◌, ◌<◌, ◌⊎◌, length, IsErrOf, IsSomeAnd, MatchResult};
 ghost use Rattle.std.specs.Io.KnownBytes.{Appends};
 ghost use Rattle.desk_base.specs.Counts.{Rose, CountsAtMost};
-ghost use Rattle.desk_base.specs.Flow.{AppendsFront, Writes};
+ghost use Rattle.desk_base.specs.Flow.{AppendsFront, AppendsSome, IsFront};
 ghost use Rattle.desk_top.specs.Commands.{Asks, AsksSome, IsCommand, IsNoCommand, ReadsSource, usage_line, help_text};
 ghost use Rattle.desk_top.specs.Runs.{input_limit, TookInput, TookPart, TookTooMuch};
-ghost use Rattle.desk_top.specs.Said.{said};
+ghost use Rattle.desk_top.specs.Said.{Says, SaysFront};
 ghost use Rattle.desk_top.specs.Statuses.{IsStatusSoFar};
 
 use crate::command::{Command, command_of, help};
-use crate::halt::{Halt, put, status_after};
+use crate::halt::{Halt, halted, put};
 use crate::qna::answer_lines;
 use crate::status::Status;
 use desk_base::{Put, Sink, Source, Whole, read_all};
@@ -29,7 +29,7 @@ pub fn desk<S: Source, W: Sink>(
     // The command's whole input was taken, and exactly what is said of it was written.
     ensures done { result ≡ Status.Done → AsksSome words.now (λ command.
         TookInput command (S.left source.old) (S.left source.new) (λ input.
-        Appends (W.held sink.old) (W.held sink.new) (said command input))) }
+        AppendsSome (W.held sink.old) (W.held sink.new) (Says command input))) }
 
     // Words that are none of the table's are answered by the usage line, unless its writing fails.
     ensures usage { result ≡ Status.Usage → IsNoCommand words.now
@@ -46,13 +46,13 @@ pub fn desk<S: Source, W: Sink>(
     ensures sink { result ≡ Status.Sink → Rose (W.faults sink.old) (W.faults sink.new) }
     ensures sink_front { result ≡ Status.Sink → (command : Command) → Asks words.now command →
         TookInput command (S.left source.old) (S.left source.new) (λ input.
-        AppendsFront (W.held sink.old) (W.held sink.new) (said command input)) }
+        AppendsSome (W.held sink.old) (W.held sink.new) (SaysFront command input)) }
 
     // Memory ran out before anything was written, or after a front of what is said was.
     ensures memory { result ≡ Status.Memory → AsksSome words.now (λ command.
         (TookPart (S.left source.old) (S.left source.new) × (sink.new ≡ sink.old))
         ⊎ TookInput command (S.left source.old) (S.left source.new) (λ input.
-        AppendsFront (W.held sink.old) (W.held sink.new) (said command input))) }
+        AppendsSome (W.held sink.old) (W.held sink.new) (SaysFront command input))) }
 
     // The source gave more than it may, and nothing was written.
     ensures too_long { result ≡ Status.InputTooLong → AsksSome words.now ReadsSource
@@ -87,9 +87,15 @@ pub fn desk<S: Source, W: Sink>(
         };
     };
     match command {
-        Command::Help => status_after(write_help(alloc, sink)),
+        Command::Help => match write_help(alloc, sink) {
+            Ok(()) => Status::Done,
+            Err(halt) => halted(halt),
+        },
         Command::Qna => match read_all(alloc, source, INPUT_LIMIT) {
-            Whole::Read(input) => status_after(answer_lines(alloc, input.as_slice(), sink)),
+            Whole::Read(input) => match answer_lines(alloc, input.as_slice(), sink) {
+                Ok(()) => Status::Done,
+                Err(halt) => halted(halt),
+            },
             Whole::TooLong => Status::InputTooLong,
             Whole::Failed => Status::Source,
             Whole::Memory => Status::Memory,
@@ -98,7 +104,9 @@ pub fn desk<S: Source, W: Sink>(
 }
 
 fn write_help<W: Sink>(alloc: Global, sink: &mut W) -> Result<(), Halt>
-    ensures written { Writes (W.held sink.old) (W.held sink.new) result help_text }
+    ensures written { MatchResult result
+        (λ _. Appends (W.held sink.old) (W.held sink.new) help_text)
+        (λ _. AppendsSome (W.held sink.old) (W.held sink.new) (IsFront help_text)) }
     ensures later { W.faults sink.old ≤ W.faults sink.new }
     ensures failed { IsErrOf result Halt.Sink → Rose (W.faults sink.old) (W.faults sink.new) }
     ensures steady { ¬ IsErrOf result Halt.Sink → W.faults sink.new ≡ W.faults sink.old }

@@ -1,15 +1,16 @@
 -- What preparing a question and drawing from it answer.
-use Rattle.std.specs.Prelude.{◌≡◌, ℕ, List, [], IsSome, Result, None}
+use Rattle.std.specs.Prelude.{◌≡◌, ⊤, ℕ, List, [], Result, Ok, Err}
 use Rattle.rel_eval.specs.declared.refusal.Refusal.{Refusal}
+use Rattle.rel_eval.specs.declared.refusal.Refusal.TheVariants.{At, Memory}
 use Rattle.rel_eval.specs.declared.cursor.Pulled.{Pulled}
 use Rattle.rel_eval.specs.declared.cursor.Pulled.TheVariants as pulled
-use Rattle.rel_eval.specs.SmallSums.{small_sums}
-use Rattle.rel_eval.specs.Refusals.{Answers}
-use Rattle.rel_eval.specs.Traces.{Trace, Stop, Error, give, trace}
+use Rattle.rel_eval.specs.Traces.{Trace, Stop, Error, give, IsQuestionOf, IsRefusedAs}
 
--- A question, seen as its trace, comes exactly where the text is one, and NotBuilt exactly where it is none.
+-- A question, seen as what it gives, comes exactly where the text is one, and a refusal exactly as the text is refused.
 abbrev pub Prepares : List ℕ → Result Trace Refusal → Type 0
-Prepares text result = Answers result (λ question. IsSome (small_sums text) × (question ≡ trace text)) (small_sums text ≡ None)
+Prepares text (Ok question) = IsQuestionOf text question
+Prepares text (Err (At kind place)) = IsRefusedAs text kind place
+Prepares text (Err Memory) = ⊤
 
 -- The next value of what is left was given, or nothing is left but the ending, which stays.
 abbrev pub Pulls : Trace → Trace → Pulled → Type 0

@@ -1,9 +1,31 @@
--- What an answer is that may be refused.
+-- Refusals, and what an answer is that may be one.
 use Rattle.std.specs.Prelude.{◌≡◌, ⊤, Result, Ok, Err}
 use Rattle.rel_eval.specs.declared.refusal.Refusal.{Refusal}
 use Rattle.rel_eval.specs.declared.refusal.Refusal.TheVariants.{At, Memory}
-use Rattle.rel_eval.specs.declared.refusal.RelKind.TheVariants.{NotBuilt}
-use Rattle.rel_eval.specs.Traces.{nowhere}
+use Rattle.rel_eval.specs.declared.refusal.RelKind.{RelKind}
+use Rattle.rel_eval.specs.declared.refusal.RelKind.TheVariants.{BadByte, BadEscape, UnclosedString, UnclosedComment, TooLong, BadNumber, NotBuilt}
+use Rattle.rel_lexer.specs.declared.place.Place.{Place}
+use Rattle.rel_lexer.specs.declared.error.LexError.{LexError}
+use Rattle.rel_lexer.specs.declared.error.LexError.TheVariants as lex
+
+-- the start of the text, and no byte of it
+abbrev pub nowhere : Place
+nowhere = record { from = 0; to = 0 }
+
+-- The lexer's refusal is one for this, at this place.
+abbrev pub IsLexRefusal : LexError → RelKind → Place → Type 0
+IsLexRefusal (lex.BadByte at) kind place = (kind ≡ BadByte) × (place ≡ at)
+IsLexRefusal (lex.BadEscape at) kind place = (kind ≡ BadEscape) × (place ≡ at)
+IsLexRefusal (lex.UnclosedString at) kind place = (kind ≡ UnclosedString) × (place ≡ at)
+IsLexRefusal (lex.UnclosedComment at) kind place = (kind ≡ UnclosedComment) × (place ≡ at)
+IsLexRefusal lex.TooLong kind place = (kind ≡ TooLong) × (place ≡ nowhere)
+IsLexRefusal (lex.BadNumber at) kind place = (kind ≡ BadNumber) × (place ≡ at)
+IsLexRefusal lex.Memory kind place = ⊥
+
+-- The refusal is the lexer's.
+abbrev pub IsRefusalOf : LexError → Refusal → Type 0
+IsRefusalOf error (At kind place) = IsLexRefusal error kind place
+IsRefusalOf error Memory = error ≡ lex.Memory
 
 -- An answer is right, or it is the refusal NotBuilt and there is no answer, or it is want of memory.
 abbrev pub Answers : {T : Type 0} → Result T Refusal → (T → Type 0) → Type 0 → Type 0

@@ -1,5 +1,5 @@
 -- What a question gives: its list meaning, which is the values that it gives, in order, and how they end.
-use Rattle.std.specs.Prelude.{ℕ, List, [], ◌∷◌, Option, None, Some}
+use Rattle.std.specs.Prelude.{◌≡◌, ◌⊎◌, ℕ, List, [], ◌∷◌, None, Some, Ok, Err}
 use Rattle.rel_lexer.specs.declared.place.Place.{Place}
 use Rattle.rel_eval.specs.declared.value.Value.{Value}
 use Rattle.rel_eval.specs.declared.value.Value.TheVariants.{Integer}
@@ -8,6 +8,10 @@ use Rattle.rel_eval.specs.declared.refusal.RelKind.TheVariants.{OutOfRange, NotB
 use Rattle.rel_eval.specs.declared.small_sums.Sum.{Sum}
 use Rattle.rel_eval.specs.declared.small_sums.Sum.TheVariants as sum
 use Rattle.rel_eval.specs.SmallSums.{small_sums}
+use Rattle.rel_eval.specs.Refusals.{nowhere, IsLexRefusal}
+use Rattle.rel_lexer.specs.declared.token_list.Tokens.{Tokens}
+use Rattle.rel_lexer.specs.declared.error.LexError.{LexError}
+use Rattle.rel_lexer.specs.Tokens.{Lexed}
 
 -- how a trace ends
 pub data Ending : Type 0 where
@@ -33,15 +37,16 @@ trace_of_sums [] = record { values = []; ending = Stop }
 trace_of_sums (sum.Value number ∷ sums) = give (Integer number) (trace_of_sums sums)
 trace_of_sums (sum.OutOfRange plus ∷ sums) = failure OutOfRange plus
 
--- the start of the text, and no byte of it
-abbrev pub nowhere : Place
-nowhere = record { from = 0; to = 0 }
+-- The text is a question, and this is what it gives.
+abbrev pub IsQuestionOf : List ℕ → Trace → Type 0
+IsQuestionOf text t = (tokens : Tokens) × Lexed text (Ok tokens) × ((sums : List Sum) × (small_sums text ≡ Some sums) × (t ≡ trace_of_sums sums))
 
--- what was read gives what its sums give; where there was none to read, the refusal
-abbrev pub trace_of_reading : Option (List Sum) → Trace
-trace_of_reading None = failure NotBuilt nowhere
-trace_of_reading (Some sums) = trace_of_sums sums
+-- The text is refused for this, at this place: it has no tokens, or those of no question.
+abbrev pub IsRefusedAs : List ℕ → RelKind → Place → Type 0
+IsRefusedAs text kind place =
+    ((error : LexError) × Lexed text (Err error) × IsLexRefusal error kind place)
+    ⊎ ((tokens : Tokens) × Lexed text (Ok tokens) × (small_sums text ≡ None) × (kind ≡ NotBuilt) × (place ≡ nowhere))
 
--- what a question's text gives
-abbrev pub trace : List ℕ → Trace
-trace text = trace_of_reading (small_sums text)
+-- The text gives this: what the question gives, or no value and its refusal.
+abbrev pub IsTraceOf : List ℕ → Trace → Type 0
+IsTraceOf text t = IsQuestionOf text t ⊎ ((kind : RelKind) × (place : Place) × IsRefusedAs text kind place × (t ≡ failure kind place))

@@ -2,6 +2,7 @@
 #![tactic(auto)]
 
 mod cursor;
+mod law;
 mod question;
 mod refusal;
 mod small_sums;
@@ -9,6 +10,7 @@ mod small_tokens;
 mod value;
 
 pub use cursor::{Cursor, Pulled};
+pub use law::one_trace;
 pub use question::{Question, prepare};
 pub use refusal::{Refusal, RelKind};
 pub use value::Value;

@@ -4,6 +4,7 @@ ghost use Rattle.rel_eval.specs.Answers.{Prepares};
 use crate::cursor::Cursor;
 use crate::refusal::Refusal;
 use crate::small_sums::{Sum, small_sums};
+use rel_lexer::tokens;
 use std::alloc::{AllocError, Global};
 use std::marker::Model;
 
@@ -22,11 +23,13 @@ impl Model for Question {
     ghost view = { λ q. trace_of_sums q.sums.items };
 }
 
-/// Prepares a question from its text: at most 1,024 bytes, brackets at most 64 deep, numbers up to 9223372036854775807. All that
-/// is outside the language is refused as NotBuilt at (0..0).
+/// Prepares a question from its text. A text that has no tokens is refused with its first fault, and for now one that has
+/// tokens but is outside the small language as NotBuilt at (0..0): one of more than 1,024 bytes, with brackets more than 64 deep,
+/// with a comment, or with anything but numbers, `+`, `;` and brackets.
 pub fn prepare(alloc: Global, text: &[u8]) -> Result<Question, Refusal>
     ensures { Prepares text.now result }
 {
+    let _ = tokens(alloc, text)?;
     Ok(Question {
         sums: small_sums(alloc, text)?,
     })

@@ -2,14 +2,26 @@ ghost use Rattle.std.specs.Prelude.{◌≡◌};
 ghost use Rattle.rel_eval.specs.Kinds.{number_of};
 ghost use Rattle.rel_eval.specs.declared.refusal.Refusal.TheVariants.{Memory};
 
-use rel_lexer::Place;
+use rel_lexer::{LexError, Place};
 use std::alloc::{AllocError, AllocFailed};
 
 /// What a question is refused for, or ends with in place of a further value.
 #[derive(Clone, Copy, Debug, PartialEq, Eq)]
 pub enum RelKind {
+    /// A byte can't stand there, at its place.
+    BadByte = 1,
+    /// What a string's escapes stand for is no text, at the place of the string.
+    BadEscape = 2,
+    /// A string isn't closed, from its quote to the end of the text.
+    UnclosedString = 3,
+    /// A comment isn't closed, from its begin to the end of the text.
+    UnclosedComment = 4,
+    /// The text has more than 65,536 bytes, at (0..0).
+    TooLong = 5,
     /// A sum is no number of an i64, at the place of its `+`.
     OutOfRange = 9,
+    /// A number is above 9223372036854775807, at its place.
+    BadNumber = 18,
     /// Temporary: the text is outside the language that is built so far, at (0..0).
     NotBuilt = 19,
 }
@@ -33,7 +45,28 @@ pub enum Refusal {
 }
 
 /// Temporary: the refusal of everything outside the small language.
-pub(crate) const NOT_BUILT: Refusal = Refusal::At(RelKind::NotBuilt, Place { from: 0, to: 0 });
+pub(crate) const NOT_BUILT: Refusal = Refusal::At(RelKind::NotBuilt, NOWHERE);
+
+/// The place of what stands nowhere in the text.
+const NOWHERE: Place = Place { from: 0, to: 0 };
+
+impl From<LexError> for Refusal {
+    ghost use Rattle.rel_eval.specs.Refusals.{IsRefusalOf};
+
+    ghost from_gives = { IsRefusalOf };
+
+    fn from(error: LexError) -> Refusal {
+        match error {
+            LexError::BadByte(place) => Refusal::At(RelKind::BadByte, place),
+            LexError::BadEscape(place) => Refusal::At(RelKind::BadEscape, place),
+            LexError::UnclosedString(place) => Refusal::At(RelKind::UnclosedString, place),
+            LexError::UnclosedComment(place) => Refusal::At(RelKind::UnclosedComment, place),
+            LexError::TooLong => Refusal::At(RelKind::TooLong, NOWHERE),
+            LexError::BadNumber(place) => Refusal::At(RelKind::BadNumber, place),
+            LexError::Memory => Refusal::Memory,
+        }
+    }
+}
 
 impl From<AllocError> for Refusal {
     ghost from_gives = { λ _ e. e ≡ Memory };

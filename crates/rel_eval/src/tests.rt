@@ -79,7 +79,7 @@ fn nested(
 #[test]
 fn what_is_outside_the_small_language_is_not_built(rt: HostRuntime) -> Result<(), Fail> {
     let alloc = rt.alloc();
-    let texts: [&[u8]; 18] = [
+    let texts: [&[u8]; 19] = [
         b"",
         b" ",
         b"true",
@@ -95,8 +95,9 @@ fn what_is_outside_the_small_language_is_not_built(rt: HostRuntime) -> Result<()
         b"(1;2)",
         b"1 ++ 2",
         b"-1",
-        b"9223372036854775808",
-        b"1\x0c",
+        b"1 - 1",
+        b"\"1\"",
+        b"1 /* c */",
         b"(1)(2)",
     ];
     for text in texts {
@@ -115,8 +116,48 @@ fn what_is_outside_the_small_language_is_not_built(rt: HostRuntime) -> Result<()
     Ok(())
 }
 
+fn refused(kind: RelKind, from: u32, to: u32) -> Option<Refusal> {
+    Some(Refusal::At(kind, Place { from, to }))
+}
+
+#[test]
+fn a_text_without_tokens_is_refused_with_its_first_fault(rt: HostRuntime) -> Result<(), Fail> {
+    let alloc = rt.alloc();
+    let cases: [(&[u8], Option<Refusal>); 9] = [
+        (b"\"%ff\"", refused(RelKind::BadEscape, 0, 5)),
+        (b"\"abc", refused(RelKind::UnclosedString, 0, 4)),
+        (b"/*", refused(RelKind::UnclosedComment, 0, 2)),
+        (b"/*/ 1", refused(RelKind::UnclosedComment, 0, 5)),
+        (b"9223372036854775808", refused(RelKind::BadNumber, 0, 19)),
+        (b"1 1 ?", refused(RelKind::BadByte, 4, 5)),
+        (b"\"a\xc3(\"", refused(RelKind::BadByte, 2, 3)),
+        (b"1\x0c", refused(RelKind::BadByte, 1, 2)),
+        (b" :more", refused(RelKind::BadByte, 1, 2)),
+    ];
+    for (text, wanted) in cases {
+        assert_eq!(rt; prepare(alloc, text).err(), wanted, "at {text:?}");
+    }
+    let text = nested(alloc, b" ", 65_536, b"?", b"")?;
+    assert_eq!(rt;
+        prepare(alloc, &text).err(),
+        refused(RelKind::TooLong, 0, 0)
+    );
+    Ok(())
+}
+
 #[test]
 fn kinds_have_their_numbers(rt: HostRuntime) {
-    assert_eq!(rt; RelKind::OutOfRange.number(), 9);
-    assert_eq!(rt; RelKind::NotBuilt.number(), 19);
+    let kinds = [
+        (RelKind::BadByte, 1),
+        (RelKind::BadEscape, 2),
+        (RelKind::UnclosedString, 3),
+        (RelKind::UnclosedComment, 4),
+        (RelKind::TooLong, 5),
+        (RelKind::OutOfRange, 9),
+        (RelKind::BadNumber, 18),
+        (RelKind::NotBuilt, 19),
+    ];
+    for (kind, number) in kinds {
+        assert_eq!(rt; kind.number(), number);
+    }
 }

@@ -1,0 +1,6 @@
+pub mod Bytes
+pub mod Signs
+pub mod Pieces
+pub mod Tokens
+pub mod Runs
+pub mod Reads

@@ -1,4 +1,4 @@
-ghost use Rattle.std.specs.Prelude.{◌≡◌, ◌++◌, IfOk, OnOk, OnErr};
+ghost use Rattle.std.specs.Prelude.{◌≡◌, ◌++◌, IfOk, OnOk, OnErr, IsUtf8, MatchOption, string_bytes};
 
 use std::alloc::{AllocError, Global};
 use std::marker::Model;
@@ -19,7 +19,6 @@ impl Model for Text {
 }
 
 impl Text {
-    /// A copy of this text. The error is want of memory, here and below.
     pub fn from_str(alloc: Global, text: &str) -> Result<Text, AllocError>
         ensures { IfOk result (λ t. t ≡ text.now) }
     {
@@ -28,14 +27,29 @@ impl Text {
         })
     }
 
-    /// The text.
+    pub(crate) fn from_string(text: String) -> Text
+        ensures { result ≡ string_bytes text }
+    {
+        Text { text }
+    }
+
+    /// The text of these bytes, where they are UTF-8.
+    pub(crate) fn from_utf8(bytes: Vec<u8>) -> Option<Text>
+        ensures { MatchOption result (¬ (IsUtf8 bytes.items)) (λ t. IsUtf8 bytes.items × (t ≡ bytes.items)) }
+    {
+        match String::from_utf8(bytes) {
+            Ok(text) => Some(Text { text }),
+            Err(_) => None,
+        }
+    }
+
     pub fn as_str(&self) -> &str
         ensures { result.now ≡ self.now }
     {
         self.text.as_str()
     }
 
-    /// Appends more text. At an error nothing is appended.
+    /// Appends more text.
     pub fn push(&mut self, more: &str) -> Result<(), AllocError>
         ensures ok { OnOk result (self.new ≡ self.old ++ more.now) }
         ensures err { OnErr result (self.new ≡ self.old) }

@@ -1,12 +1,11 @@
-use Rattle.std.proofs.Common.{◌≡◌, length, flat_map}
-use Rattle.desk_base.proofs.Flowing.{SoFar}
+use Rattle.std.proofs.Common.{◌≡◌, length}
 use Rattle.desk_top.specs.Lines.{lines_of}
-use Rattle.desk_top.specs.Said.{said_line}
+use Rattle.desk_top.proofs.Saying.{SaidSoFar}
 use Rattle.desk_top.proofs.qna.answer_lines.Given as goal
 
 abbrev pub invariant-loop-rest : goal.invariant-loop-rest
 invariant-loop-rest g l = record {
-  so_far : SoFar (g.W.Sink.held l.fn.sink) (g.W.Sink.held l.sink) (flat_map said_line (lines_of l.fn.input)) (flat_map said_line (lines_of l.rest));
+  so_far : SaidSoFar (g.W.Sink.held l.fn.sink) (g.W.Sink.held l.sink) (lines_of l.fn.input) (lines_of l.rest);
   steady : g.W.Sink.faults l.sink ≡ g.W.Sink.faults l.fn.sink;
 }
 

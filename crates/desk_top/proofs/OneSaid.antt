@@ -1,0 +1,19 @@
+-- One thing is said of an input.
+use Rattle.std.proofs.Common.{◌≡◌, ℕ, List, [], ◌∷◌, ◌++◌, sym, ap, ◌∙◌}
+use Rattle.rel_eval.proofs.OneTrace.{trace_is_one}
+use Rattle.desk_top.specs.declared.command.Command.{Command}
+use Rattle.desk_top.specs.declared.command.Command.TheVariants.{Qna, Help}
+use Rattle.desk_top.specs.Lines.{lines_of}
+use Rattle.desk_top.specs.Said.{said_question, said_trace, SaysLine, SaysLines, Says}
+
+line_is_one : (line a b : List ℕ) → SaysLine line a → SaysLine line b → a ≡ b
+line_is_one line a b p q = p.2 ∙ ap (λ t. said_question line ++ said_trace t) (trace_is_one line p.0 q.0 p.1 q.1) ∙ sym q.2
+
+lines_are_one : (lines : List (List ℕ)) (a b : List ℕ) → SaysLines lines a → SaysLines lines b → a ≡ b
+lines_are_one [] a b p q = p ∙ sym q
+lines_are_one (line ∷ lines) a b p q =
+    p.4 ∙ ap (λ l. l ++ p.1) (line_is_one line p.0 q.0 p.2 q.2) ∙ ap (λ l. q.0 ++ l) (lines_are_one lines p.1 q.1 p.3 q.3) ∙ sym q.4
+
+pub said_is_one : (command : Command) (input a b : List ℕ) → Says command input a → Says command input b → a ≡ b
+said_is_one Qna input a b p q = lines_are_one (lines_of input) a b p q
+said_is_one Help input a b p q = p ∙ sym q

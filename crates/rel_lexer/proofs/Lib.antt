@@ -1,0 +1,9 @@
+pub mod OneAnswer
+pub mod OneWay
+pub mod Lexing
+pub mod StringLemmas
+pub mod WordLemmas
+pub mod Taking
+pub mod Closing
+pub mod Decoding
+pub mod DigitLemmas

@@ -1,0 +1,6 @@
+use Rattle.std.proofs.Common.{IsUtf8, ap, subst}
+use Rattle.std.proofs.lemmas.Str.{IsUtf8-string_bytes}
+use Rattle.rel_lexer.proofs.text.Text.from_utf8.Goals as goal
+
+pub returns-in-Ok : goal.returns-in-Ok
+returns-in-Ok c = let same = ap (λ v. v.items) c.in-Ok.ensures.ok in (subst (λ l. IsUtf8 l) same (IsUtf8-string_bytes c.in-Ok.text), same)
