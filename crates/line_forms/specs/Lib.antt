@@ -1,0 +1,12 @@
+pub mod Reads
+pub mod Numbers
+pub mod Names
+pub mod Cuts
+pub mod Fields
+pub mod Paths
+pub mod Versions
+pub mod Digests
+pub mod Contents
+pub mod LineStates
+pub mod Lines
+pub mod BadLines

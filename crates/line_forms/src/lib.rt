@@ -1,0 +1,34 @@
+//! What all texts made of lines share: the lines, their fields, and what a field spells.
+#![tactic(auto)]
+
+mod around;
+mod bad_line;
+mod content;
+mod cut;
+mod digest;
+mod fields;
+mod lines;
+mod name;
+mod number;
+mod path;
+mod version;
+
+pub use bad_line::{LineForm, a_cursor_stands_at_the_bad_line, one_first_bad_line};
+pub use content::{one_content, read_content, write_content};
+pub use cut::Cut;
+pub use digest::{one_digest, read_digest, write_digest};
+pub use fields::{after_word, first_field, one_first_field, write_field};
+pub use lines::{
+    Ahead, Lines, a_cursor_stands_behind_its_lines, lines_are_read_again, lines_make_the_text,
+    write_line,
+};
+pub use name::{read_name, read_rest};
+pub use number::{
+    one_number, one_signed_number, read_moment, read_number, read_offset, read_u32, write_number,
+    write_signed_number,
+};
+pub use path::{last_part, read_part, read_path};
+pub use version::{VersionNumbers, read_version, version_numbers};
+
+#[cfg(test)]
+mod tests;
