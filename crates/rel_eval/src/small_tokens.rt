@@ -33,7 +33,7 @@ pub(crate) fn small_tokens(alloc: Global, text: &[u8]) -> Result<Vec<SmallToken>
     if text.len() > MOST_BYTES {
         return Err(NOT_BUILT);
     }
-    let mut tokens = Vec::new(alloc);
+    let mut tokens = Vec::with_capacity(alloc, text.len())?;
     let mut number = None;
     for (at, byte) in text.iter().enumerate() {
         number = read_byte(*byte, at as u32, number, &mut tokens)?;

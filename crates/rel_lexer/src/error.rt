@@ -20,6 +20,7 @@ pub enum LexError {
     TooLong,
     /// The number is above 9,223,372,036,854,775,807.
     BadNumber(Place),
+    /// Memory ran out.
     Memory,
 }
 

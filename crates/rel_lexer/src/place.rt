@@ -1,6 +1,6 @@
 ghost use Rattle.std.specs.Prelude.{◌≡◌, ◌+◌, ◌≤◌};
 
-/// The bytes of a question from `from` up to, and without, `to`, counted from 0. It prints as `(from..to)`.
+/// The bytes of a question from `from` up to, and without, `to`, counted from 0.
 #[derive(Clone, Copy, Debug, PartialEq, Eq)]
 pub struct Place {
     pub from: u32,

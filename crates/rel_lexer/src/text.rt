@@ -19,6 +19,7 @@ impl Model for Text {
 }
 
 impl Text {
+    /// A copy of this text. The error is want of memory, here and below.
     pub fn from_str(alloc: Global, text: &str) -> Result<Text, AllocError>
         ensures { IfOk result (λ t. t ≡ text.now) }
     {
@@ -43,13 +44,14 @@ impl Text {
         }
     }
 
+    /// The text.
     pub fn as_str(&self) -> &str
         ensures { result.now ≡ self.now }
     {
         self.text.as_str()
     }
 
-    /// Appends more text.
+    /// Appends more text. At an error nothing is appended.
     pub fn push(&mut self, more: &str) -> Result<(), AllocError>
         ensures ok { OnOk result (self.new ≡ self.old ++ more.now) }
         ensures err { OnErr result (self.new ≡ self.old) }

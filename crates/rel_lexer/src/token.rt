@@ -12,6 +12,7 @@ pub enum TokenKind {
     Text(Text),
     /// From 0 on.
     Number(i64),
+    /// A sign.
     Sign(Sign),
 }
 

@@ -20,20 +20,21 @@ impl Model for TokenList {
 }
 
 impl TokenList {
-    /// Takes no memory.
+    /// The list of these tokens. It takes no memory.
     pub fn from_vec(tokens: Vec<Token>) -> TokenList
         ensures { result ≡ tokens.items }
     {
         TokenList { items: tokens }
     }
 
-    /// Takes no memory.
+    /// The tokens, to be changed. It takes no memory.
     pub fn into_vec(self) -> Vec<Token>
         ensures { result.items ≡ self }
     {
         self.items
     }
 
+    /// The tokens.
     pub fn as_slice(&self) -> &[Token]
         ensures { result.now ≡ self.now }
     {
