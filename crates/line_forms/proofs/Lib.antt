@@ -1,6 +1,6 @@
 mod Texts
 mod Cutting
-mod Pieces
+pub mod Pieces
 mod LineLemmas
 mod PathLemmas
 mod DigestLemmas

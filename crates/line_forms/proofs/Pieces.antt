@@ -1,4 +1,4 @@
--- The pieces of a text between bytes of one kind.
+-- The pieces of a text between bytes of one kind. Other crates may cite these lemmas.
 use Rattle.std.proofs.Common.{◌≡◌, ◌≢◌, ℕ, ◌<◌, ◌==◌, true, false, List, [], ◌∷◌, length, All, sym, refl, ap, subst, ◌∙◌, inl, inr, arith}
 use Rattle.std.specs.List.{onto_first, join_with_byte}
 use Rattle.std.proofs.lemmas.Bool.{cases_eq}

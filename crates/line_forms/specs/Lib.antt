@@ -3,6 +3,7 @@ pub mod Numbers
 pub mod Names
 pub mod Cuts
 pub mod Fields
+pub mod FieldLists
 pub mod Paths
 pub mod Versions
 pub mod Digests

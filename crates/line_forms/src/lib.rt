@@ -6,6 +6,7 @@ mod bad_line;
 mod content;
 mod cut;
 mod digest;
+mod field_cursor;
 mod fields;
 mod lines;
 mod name;
@@ -17,6 +18,7 @@ pub use bad_line::{LineForm, a_cursor_stands_at_the_bad_line, one_first_bad_line
 pub use content::{one_content, read_content, write_content};
 pub use cut::Cut;
 pub use digest::{one_digest, read_digest, write_digest};
+pub use field_cursor::{Fields, a_line_is_its_fields};
 pub use fields::{after_word, first_field, one_first_field, write_field};
 pub use lines::{
     Ahead, Lines, a_cursor_stands_behind_its_lines, lines_are_read_again, lines_make_the_text,
@@ -24,8 +26,8 @@ pub use lines::{
 };
 pub use name::{read_name, read_rest};
 pub use number::{
-    one_number, one_signed_number, read_moment, read_number, read_offset, read_u32, write_number,
-    write_signed_number,
+    one_number, one_signed_number, read_i64, read_moment, read_number, read_offset, read_u32,
+    write_number, write_signed_number,
 };
 pub use path::{last_part, read_part, read_path};
 pub use version::{VersionNumbers, read_version, version_numbers};

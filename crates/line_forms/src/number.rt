@@ -77,6 +77,13 @@ pub fn read_moment(text: &[u8]) -> Option<i64>
     read_signed_number(text, 0, LAST_MOMENT)
 }
 
+/// Reads a number from -9,223,372,036,854,775,808 to 9,223,372,036,854,775,807.
+pub fn read_i64(text: &[u8]) -> Option<i64>
+    ensures { Reads (IsSignedNumber (negsuc (2 ^ 63 - 1)) (pos (2 ^ 63 - 1)) text.now) result }
+{
+    read_signed_number(text, i64::MIN, i64::MAX)
+}
+
 /// Reads an offset: minutes east of UTC, from -840 to 840.
 pub fn read_offset(text: &[u8]) -> Option<i64>
     ensures { Reads (IsOffsetText text.now) result }
@@ -84,7 +91,7 @@ pub fn read_offset(text: &[u8]) -> Option<i64>
     read_signed_number(text, -FARTHEST_OFFSET, FARTHEST_OFFSET)
 }
 
-/// Appends a moment or an offset, as `read_moment` and `read_offset` read it.
+/// Appends a number that may be below 0, a moment or an offset, as `read_i64`, `read_moment` and `read_offset` read it.
 pub fn write_signed_number(number: i64, out: &mut Bytes) -> Result<(), AllocError>
     ensures ok { OnOk result (out.new ≡ out.old ++ signed_decimal number) }
     ensures err { OnErr result (out.new ≡ out.old) }

@@ -74,6 +74,20 @@ fn fields_are_written(rt: HostRuntime) -> Result<(), Fail> {
 }
 
 #[test]
+fn signed_numbers_have_64_bits(rt: HostRuntime) {
+    let rows = [
+        ("-9223372036854775808", Some(i64::MIN)),
+        ("9223372036854775807", Some(i64::MAX)),
+        ("9223372036854775808", None),
+        ("-0", None),
+        ("-01", None),
+    ];
+    for (text, number) in rows {
+        assert_eq!(rt; read_i64(text.as_bytes()), number);
+    }
+}
+
+#[test]
 fn names_have_1_to_64_bytes(rt: HostRuntime) {
     let rows = [
         ("agentd-1.2_x", true),
@@ -119,6 +133,19 @@ fn fields_are_separated_by_one_space(rt: HostRuntime) -> Result<(), Fail> {
         Some(b" a b".as_slice())
     );
     assert_eq!(rt; after_word(b"titles a", b"title").is_none(), true);
+    Ok(())
+}
+
+#[test]
+fn fields_are_taken_in_turn(rt: HostRuntime) -> Result<(), Fail> {
+    let mut fields = Fields::new(b"7  x");
+    for expected in [b"7".as_slice(), b"", b"x"] {
+        assert_eq!(rt; fields.is_over(), false);
+        let field = fields.take_field().ok_or("no field")?;
+        assert_eq!(rt; field, expected);
+    }
+    assert_eq!(rt; fields.is_over(), true);
+    assert_eq!(rt; fields.take_field().is_none(), true);
     Ok(())
 }
 

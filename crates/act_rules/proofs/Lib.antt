@@ -1,0 +1,7 @@
+pub mod SeriesLemmas
+pub mod RowLemmas
+pub mod OwedLemmas
+pub mod Counting
+pub mod Ends
+pub mod LawLemmas
+pub mod WindowLemmas

@@ -1,0 +1,88 @@
+-- The texts that are written.
+use Rattle.std.proofs.Common.{ℕ, ◌≡◌, ◌+◌, ◌<◌, List, [], ◌∷◌, ◌++◌, length, Bool, false, refl, sym, ap, ◌∙◌, take, get_or, map, append_assoc, append-nil}
+use Rattle.std.specs.Prelude.{codes, decimal, IsTrue, ◌↔◌, OnOk, Ok, Err}
+use Rattle.std.specs.declared.result.Result.{Result}
+use Rattle.std.specs.Fmt.{signed_decimal}
+use Rattle.std.proofs.lemmas.List.{take_more}
+use Rattle.line_forms.specs.FieldLists.{line_of}
+use Rattle.line_forms.specs.Lines.{ended_line, lines_text}
+use Rattle.act_rules.specs.declared.row.Note.{Note}
+use Rattle.report_text.specs.declared.form.Form.{Form}
+use Rattle.report_text.specs.declared.form.Form.TheVariants.{One, Two}
+use Rattle.report_text.specs.declared.report.Report.{Report}
+use Rattle.report_text.specs.declared.report_row.ReportRow.{ReportRow}
+use Rattle.report_text.specs.RowLines.{row_line, added_fields, outcome_field, end_field}
+use Rattle.report_text.specs.Reports.{report_text, form_line, computer_line, seq_line, end_line}
+use Rattle.report_text.specs.Writings.{added_text, head_text}
+
+pub on_ok : {T E : Type 0} (r : Result T E) (P Q : Type 0) → (P → Q) → OnOk r P → OnOk r Q
+on_ok (Ok x) P Q f h = f h
+on_ok (Err e) P Q f h = h
+
+pub not_so : (b : Bool) (P : Type 0) → b ≡ false → (IsTrue b ↔ P) → P → ⊥
+not_so b P fails says h = let yes : IsTrue b = says.1 h in cc
+
+-- a field, and what a form adds behind it
+pub added_line : (form : Form) (field : List ℕ) (note : Note) → line_of (field ∷ added_fields form note) ≡ field ++ added_text form note
+added_line One field note = sym (append-nil field)
+added_line Two field note = refl
+
+-- pieces that were added in turn
+in_turn : (o w a b c d e f : List ℕ) → (((((((o ++ w) ++ 32 ∷ a) ++ 32 ∷ b) ++ 32 ∷ c) ++ 32 ∷ d) ++ 32 ∷ e) ++ f) ++ 10 ∷ []
+    ≡ o ++ (((w ++ 32 ∷ []) ++ (a ++ 32 ∷ (b ++ 32 ∷ (c ++ 32 ∷ (d ++ 32 ∷ (e ++ f)))))) ++ 10 ∷ [])
+in_turn o w a b c d e f =
+    let end = 10 ∷ [] in
+    let one = (o ++ w) ++ 32 ∷ a in
+    let two = one ++ 32 ∷ b in
+    let three = two ++ 32 ∷ c in
+    let four = three ++ 32 ∷ d in
+    append_assoc (four ++ 32 ∷ e) f end ∙ append_assoc four (32 ∷ e) (f ++ end) ∙ append_assoc three (32 ∷ d) (32 ∷ (e ++ (f ++ end)))
+    ∙ append_assoc two (32 ∷ c) (32 ∷ (d ++ 32 ∷ (e ++ (f ++ end)))) ∙ append_assoc one (32 ∷ b) (32 ∷ (c ++ 32 ∷ (d ++ 32 ∷ (e ++ (f ++ end)))))
+    ∙ append_assoc (o ++ w) (32 ∷ a) (32 ∷ (b ++ 32 ∷ (c ++ 32 ∷ (d ++ 32 ∷ (e ++ (f ++ end)))))) ∙ append_assoc o w (32 ∷ (a ++ 32 ∷ (b ++ 32 ∷ (c ++ 32 ∷ (d ++ 32 ∷ (e ++ (f ++ end)))))))
+    ∙ sym (ap (λ l. o ++ l) (append_assoc (w ++ 32 ∷ []) (a ++ 32 ∷ (b ++ 32 ∷ (c ++ 32 ∷ (d ++ 32 ∷ (e ++ f))))) end
+    ∙ append_assoc w (32 ∷ []) ((a ++ 32 ∷ (b ++ 32 ∷ (c ++ 32 ∷ (d ++ 32 ∷ (e ++ f))))) ++ end)
+    ∙ ap (λ l. w ++ 32 ∷ l) (append_assoc a (32 ∷ (b ++ 32 ∷ (c ++ 32 ∷ (d ++ 32 ∷ (e ++ f))))) end
+    ∙ ap (λ l. a ++ 32 ∷ l) (append_assoc b (32 ∷ (c ++ 32 ∷ (d ++ 32 ∷ (e ++ f)))) end
+    ∙ ap (λ l. b ++ 32 ∷ l) (append_assoc c (32 ∷ (d ++ 32 ∷ (e ++ f))) end
+    ∙ ap (λ l. c ++ 32 ∷ l) (append_assoc d (32 ∷ (e ++ f)) end
+    ∙ ap (λ l. d ++ 32 ∷ l) (append_assoc e f end)))))))
+
+pub row_text_is : (form : Form) (row : ReportRow) (a b c d e f g h i : List ℕ) → b ≡ a ++ codes "row" → c ≡ b ++ 32 ∷ decimal row.action → d ≡ c ++ 32 ∷ decimal row.number →
+    e ≡ d ++ 32 ∷ outcome_field row.end → f ≡ e ++ 32 ∷ signed_decimal row.begun → g ≡ f ++ 32 ∷ end_field row.end → h ≡ g ++ added_text form row.note → i ≡ h ++ 10 ∷ [] →
+    i ≡ a ++ ended_line (row_line form row)
+row_text_is form row a b c d e f g h i b_is c_is d_is e_is f_is g_is h_is i_is =
+    rw (added_line form (end_field row.end) row.note)
+    (i_is ∙ ap (λ l. l ++ 10 ∷ []) (h_is ∙ ap (λ l. l ++ added_text form row.note) (g_is ∙ ap (λ l. l ++ 32 ∷ end_field row.end) (f_is ∙ ap (λ l. l ++ 32 ∷ signed_decimal row.begun)
+    (e_is ∙ ap (λ l. l ++ 32 ∷ outcome_field row.end) (d_is ∙ ap (λ l. l ++ 32 ∷ decimal row.number) (c_is ∙ ap (λ l. l ++ 32 ∷ decimal row.action) b_is))))))
+    ∙ in_turn a (codes "row") (decimal row.action) (decimal row.number) (outcome_field row.end) (signed_decimal row.begun) (end_field row.end) (added_text form row.note))
+
+-- one more line
+lines_snoc : (lines : List (List ℕ)) (line : List ℕ) → lines_text (lines ++ line ∷ []) ≡ lines_text lines ++ ended_line line
+lines_snoc [] line = append-nil (ended_line line)
+lines_snoc (x ∷ lines) line = ap (λ l. ended_line x ++ l) (lines_snoc lines line) ∙ sym (append_assoc (ended_line x) (lines_text lines) (ended_line line))
+
+map_snoc : (form : Form) (rows : List ReportRow) (row : ReportRow) → map (row_line form) (rows ++ row ∷ []) ≡ map (row_line form) rows ++ row_line form row ∷ []
+map_snoc form [] row = refl
+map_snoc form (x ∷ rows) row = ap (λ l. row_line form x ∷ l) (map_snoc form rows row)
+
+-- the text as far as these rows
+abbrev pub text_before : Report → List ReportRow → List ℕ
+text_before report rows = head_text report ++ lines_text (map (row_line report.form) rows)
+
+pub text_more : (report : Report) (rows : List ReportRow) (i : ℕ) (d : ReportRow) (old new : List ℕ) → i < length rows → old ≡ text_before report (take i rows) →
+    new ≡ old ++ ended_line (row_line report.form (get_or rows i d)) → new ≡ text_before report (take (i + 1) rows)
+text_more report rows i d old new h old_is new_is =
+    new_is ∙ ap (λ l. l ++ ended_line (row_line report.form (get_or rows i d))) old_is
+    ∙ append_assoc (head_text report) (lines_text (map (row_line report.form) (take i rows))) (ended_line (row_line report.form (get_or rows i d)))
+    ∙ ap (λ l. head_text report ++ l) (sym (lines_snoc (map (row_line report.form) (take i rows)) (row_line report.form (get_or rows i d)))
+    ∙ ap lines_text (sym (map_snoc report.form (take i rows) (get_or rows i d)) ∙ ap (map (row_line report.form)) (sym (take_more rows i d h))))
+
+-- the whole text
+pub text_whole : (report : Report) (out : List ℕ) → out ≡ text_before report report.rows ++ codes "end\n" → out ≡ report_text report
+text_whole report out h =
+    h ∙ append_assoc (head_text report) (lines_text (map (row_line report.form) report.rows)) (codes "end\n")
+    ∙ ap (λ l. head_text report ++ l) (sym (lines_snoc (map (row_line report.form) report.rows) end_line))
+    ∙ three_lines (ended_line (form_line report.form)) (ended_line (computer_line report.computer)) (ended_line (seq_line report.seq)) (lines_text (map (row_line report.form) report.rows ++ end_line ∷ []))
+  where
+    three_lines : (a b c d : List ℕ) → (a ++ (b ++ c)) ++ d ≡ a ++ (b ++ (c ++ d))
+    three_lines a b c d = append_assoc a (b ++ c) d ∙ ap (λ l. a ++ l) (append_assoc b c d)

@@ -1,0 +1,10 @@
+use Rattle.std.proofs.Common.{◌≡◌, take}
+use Rattle.report_text.proofs.TextLemmas.{text_before}
+use Rattle.report_text.proofs.writer.write_report.Given as goal
+
+-- the text as far as the rows so far
+abbrev pub invariant-loop-row : goal.invariant-loop-row
+invariant-loop-row l = record {
+  items : l.row-items ≡ l.report.rows;
+  text : l.out ≡ text_before l.report (take l.row-index l.row-items);
+}

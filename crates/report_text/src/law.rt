@@ -1,0 +1,24 @@
+ghost use Rattle.std.specs.Prelude.{◌≡◌, ◌≤◌, ◌⊎◌, Result, length};
+ghost use Rattle.report_text.specs.declared.error.ReportError.{ReportError};
+ghost use Rattle.report_text.specs.declared.error.ReportError.TheVariants.{Memory};
+ghost use Rattle.report_text.specs.declared.report.Report.{Report};
+ghost use Rattle.report_text.specs.Reports.{IsReport, ReadsReport, report_text};
+
+use line_forms::lines_are_read_again;
+
+/// A text is that of one report at most.
+pub fn one_report()
+    ensures { (report other : Report) → IsReport report → IsReport other
+        → report_text report ≡ report_text other → report ≡ other }
+{
+    lines_are_read_again();
+}
+
+/// The text of a report isn't too long. What was written is read again, or want of memory stands in its place.
+pub fn a_report_is_read_again()
+    ensures short { (report : Report) → IsReport report → length (report_text report) ≤ 65536 }
+    ensures again { (report : Report) (answer : Result Report ReportError) → IsReport report
+        → ReadsReport (report_text report) answer → (answer ≡ Ok report) ⊎ (answer ≡ Err Memory) }
+{
+    lines_are_read_again();
+}

@@ -1,0 +1,29 @@
+//! What is reported of attempts: reports, their texts, and what becomes of them.
+#![tactic(auto)]
+
+mod answer;
+mod error;
+mod field;
+mod form;
+mod head;
+mod law;
+mod reader;
+mod report;
+mod report_row;
+mod row_reader;
+mod row_writer;
+mod writer;
+
+pub use answer::{Gathered, Verdict};
+pub use error::ReportError;
+pub use form::Form;
+pub use law::{a_report_is_read_again, one_report};
+pub use reader::read_report;
+pub use report::{Report, ReportRows};
+pub use report_row::ReportRow;
+pub use writer::{digest, write_report};
+
+#[cfg(test)]
+mod report_cases;
+#[cfg(test)]
+mod tests;
