@@ -1,13 +1,17 @@
 -- One thing is said of an input.
-use Rattle.std.proofs.Common.{◌≡◌, ℕ, List, [], ◌∷◌, ◌++◌, sym, ap, ◌∙◌}
+use Rattle.std.proofs.Common.{◌≡◌, ℕ, Bool, true, false, List, [], ◌∷◌, ◌++◌, sym, ap, ◌∙◌}
 use Rattle.rel_eval.proofs.OneTrace.{trace_is_one}
 use Rattle.desk_top.specs.declared.command.Command.{Command}
 use Rattle.desk_top.specs.declared.command.Command.TheVariants.{Qna, Help}
 use Rattle.desk_top.specs.Lines.{lines_of}
-use Rattle.desk_top.specs.Said.{said_question, said_trace, SaysLine, SaysLines, Says}
+use Rattle.desk_top.specs.Said.{begins_with_colon, said_question, said_trace, SaysAnswers, SaysLine, SaysLines, Says}
+
+answers_are_one : (colon : Bool) (line a b : List ℕ) → SaysAnswers colon line a → SaysAnswers colon line b → a ≡ b
+answers_are_one true line a b p q = p ∙ sym q
+answers_are_one false line a b p q = p.2 ∙ ap said_trace (trace_is_one line p.0 q.0 p.1 q.1) ∙ sym q.2
 
 line_is_one : (line a b : List ℕ) → SaysLine line a → SaysLine line b → a ≡ b
-line_is_one line a b p q = p.2 ∙ ap (λ t. said_question line ++ said_trace t) (trace_is_one line p.0 q.0 p.1 q.1) ∙ sym q.2
+line_is_one line a b p q = p.2 ∙ ap (λ l. said_question line ++ l) (answers_are_one (begins_with_colon line) line p.0 q.0 p.1 q.1) ∙ sym q.2
 
 lines_are_one : (lines : List (List ℕ)) (a b : List ℕ) → SaysLines lines a → SaysLines lines b → a ≡ b
 lines_are_one [] a b p q = p ∙ sym q

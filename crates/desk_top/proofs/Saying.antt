@@ -1,5 +1,5 @@
 -- What is said of lines, one after another, and written piece by piece.
-use Rattle.std.proofs.Common.{◌≡◌, ℕ, List, [], ◌∷◌, ◌++◌, Err, inl, inr, sym, refl, ap, ◌∙◌, append_assoc, append-nil, subst}
+use Rattle.std.proofs.Common.{◌≡◌, ℕ, Bool, true, false, List, [], ◌∷◌, ◌++◌, Err, inl, inr, sym, refl, ap, ◌∙◌, append_assoc, append-nil, subst}
 use Rattle.std.specs.declared.option.Option.{Option}
 use Rattle.std.specs.Io.KnownBytes.{Appends}
 use Rattle.std.proofs.KnownBytes.{Appends-nil, Appends-trans}
@@ -8,7 +8,7 @@ use Rattle.rel_eval.specs.declared.refusal.Refusal.{Refusal}
 use Rattle.rel_eval.specs.declared.refusal.Refusal.TheVariants.{At, Memory}
 use Rattle.rel_eval.specs.Traces.{Trace, failure, IsTraceOf}
 use Rattle.rel_eval.specs.Answers.{Prepares}
-use Rattle.desk_top.specs.Said.{said_question, said_trace, SaysRefusal, SaysLine, SaysLines, SaysFrontOfLine, SaysFrontOfLines}
+use Rattle.desk_top.specs.Said.{begins_with_colon, said_no_command, said_question, said_trace, SaysAnswers, SaysRefusal, SaysLine, SaysLines, SaysFrontOfLine, SaysFrontOfLines}
 
 -- Some first lines are said and written; what is said of the rest, or a front of it, goes on from there.
 pub record SaidSoFar (old now : Option (List ℕ)) (lines rest : List (List ℕ)) : Type 0 where
@@ -50,11 +50,23 @@ SaidSoFar-end a b lines rest before is =
     (s.written ++ [], s.whole [] refl, subst Known (sym (append-nil s.written)) s.appended)
 
 -- what was prepared of a line, refused, and said so
-pub SaysAnswers-refused : (line old new : List ℕ) (refusal : Refusal) → Prepares line (Err refusal) → SaysRefusal refusal old new → (t : Trace) × IsTraceOf line t × (new ≡ old ++ said_trace t)
-SaysAnswers-refused line old new (At kind place) refused said = (failure kind place, inr (kind, place, refused, refl), said)
-SaysAnswers-refused line old new Memory refused said = absurd said
+pub SaysTrace-refused : (line old new : List ℕ) (refusal : Refusal) → Prepares line (Err refusal) → SaysRefusal refusal old new → (t : Trace) × IsTraceOf line t × (new ≡ old ++ said_trace t)
+SaysTrace-refused line old new (At kind place) refused said = (failure kind place, inr (kind, place, refused, refl), said)
+SaysTrace-refused line old new Memory refused said = absurd said
+
+-- a line that begins with `:`
+pub SaysAnswers-colon : (line old new : List ℕ) → begins_with_colon line ≡ true → new ≡ old ++ said_no_command → (bytes : List ℕ) × SaysAnswers (begins_with_colon line) line bytes × (new ≡ old ++ bytes)
+SaysAnswers-colon line old new colon said =
+    let Answers : Bool → Type 0 = λ b. SaysAnswers b line said_no_command in
+    (said_no_command, subst Answers (sym colon) refl, said)
+
+-- a question, and what is said of its trace
+pub SaysAnswers-question : (line old new : List ℕ) → begins_with_colon line ≡ false → (t : Trace) × IsTraceOf line t × (new ≡ old ++ said_trace t) → (bytes : List ℕ) × SaysAnswers (begins_with_colon line) line bytes × (new ≡ old ++ bytes)
+SaysAnswers-question line old new colon said =
+    let Answers : Bool → Type 0 = λ b. SaysAnswers b line (said_trace said.0) in
+    (said_trace said.0, subst Answers (sym colon) (said.0, said.1, refl), said.2)
 
 -- a line's echo and its answers
-pub SaysLine-joined : (line old mid new : List ℕ) → mid ≡ old ++ said_question line → (t : Trace) → IsTraceOf line t → new ≡ mid ++ said_trace t → (bytes : List ℕ) × SaysLine line bytes × (new ≡ old ++ bytes)
-SaysLine-joined line old mid new echoed t is answered =
-    (said_question line ++ said_trace t, (t, is, refl), answered ∙ ap (λ l. l ++ said_trace t) echoed ∙ append_assoc old (said_question line) (said_trace t))
+pub SaysLine-joined : (line old mid new : List ℕ) → mid ≡ old ++ said_question line → (answers : List ℕ) → SaysAnswers (begins_with_colon line) line answers → new ≡ mid ++ answers → (bytes : List ℕ) × SaysLine line bytes × (new ≡ old ++ bytes)
+SaysLine-joined line old mid new echoed answers is answered =
+    (said_question line ++ answers, (answers, is, refl), answered ∙ ap (λ l. l ++ answers) echoed ∙ append_assoc old (said_question line) answers)

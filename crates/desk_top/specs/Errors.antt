@@ -1,7 +1,7 @@
 -- The texts of the kinds of errors.
 use Rattle.std.specs.Prelude.{ℕ, List, codes}
 use Rattle.rel_eval.specs.declared.refusal.RelKind.{RelKind}
-use Rattle.rel_eval.specs.declared.refusal.RelKind.TheVariants.{BadByte, BadEscape, UnclosedString, UnclosedComment, TooLong, OutOfRange, BadNumber, NotBuilt}
+use Rattle.rel_eval.specs.declared.refusal.RelKind.TheVariants.{BadByte, BadEscape, UnclosedString, UnclosedComment, TooLong, NoParse, TooDeep, OutOfRange, BadNumber, NotBuilt}
 
 -- the text of a kind
 abbrev pub error_text : RelKind → List ℕ
@@ -10,6 +10,8 @@ error_text BadEscape = codes "A string is not text."
 error_text UnclosedString = codes "A string is not closed."
 error_text UnclosedComment = codes "A comment is not closed."
 error_text TooLong = codes "The question is too long."
+error_text NoParse = codes "This expression could not be parsed."
+error_text TooDeep = codes "The question is nested too deeply."
 error_text OutOfRange = codes "A number is out of range."
 error_text BadNumber = codes "A number is too large."
 error_text NotBuilt = codes "This form is not built."

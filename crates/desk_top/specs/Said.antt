@@ -1,5 +1,5 @@
 -- What the program says.
-use Rattle.std.specs.Prelude.{◌≡◌, ◌⊎◌, ◌/◌, ◌%◌, ◌++◌, ℕ, List, [], ◌∷◌, ◌||◌, ◌==◌, nat_lt, if◌then◌else◌, codes, decimal, flat_map, slice_index}
+use Rattle.std.specs.Prelude.{◌≡◌, ◌⊎◌, ◌/◌, ◌%◌, ◌++◌, ℕ, List, [], ◌∷◌, Bool, true, false, ◌||◌, ◌==◌, nat_lt, if◌then◌else◌, codes, decimal, flat_map, slice_index}
 use Rattle.std.specs.Fmt.{signed_decimal}
 use Rattle.rel_lexer.specs.declared.place.Place.{Place}
 use Rattle.rel_eval.specs.declared.value.Value.{Value}
@@ -52,14 +52,28 @@ said_ending (Error kind place) = said_error kind place
 abbrev pub said_trace : Trace → List ℕ
 said_trace t = flat_map said_value t.values ++ said_ending t.ending
 
--- What a refusal says was appended; of want of memory nothing is said.
+-- What a refusal says was appended. Want of memory is not said but ends the call.
 abbrev pub SaysRefusal : Refusal → List ℕ → List ℕ → Type 0
 SaysRefusal (At kind place) old new = new ≡ old ++ said_error kind place
 SaysRefusal Memory old new = ⊥
 
--- These bytes are said of a line: its echo, and what is said of its trace.
+-- what is said of a line that begins with `:` and is no command
+unfoldable pub said_no_command : List ℕ
+said_no_command = codes "E: This is no command.\n"
+
+-- The line begins with `:`, as no question does.
+abbrev pub begins_with_colon : List ℕ → Bool
+begins_with_colon [] = false
+begins_with_colon (byte ∷ bytes) = byte == 58
+
+-- These bytes answer a line, which begins with `:` or doesn't. So far no line is a command.
+abbrev pub SaysAnswers : Bool → List ℕ → List ℕ → Type 0
+SaysAnswers true line bytes = bytes ≡ said_no_command
+SaysAnswers false line bytes = (t : Trace) × IsTraceOf line t × (bytes ≡ said_trace t)
+
+-- These bytes are said of a line: its echo, and what answers it.
 abbrev pub SaysLine : List ℕ → List ℕ → Type 0
-SaysLine line bytes = (t : Trace) × IsTraceOf line t × (bytes ≡ said_question line ++ said_trace t)
+SaysLine line bytes = (answers : List ℕ) × SaysAnswers (begins_with_colon line) line answers × (bytes ≡ said_question line ++ answers)
 
 -- These bytes are said of lines, one after another.
 abbrev pub SaysLines : List (List ℕ) → List ℕ → Type 0

@@ -1,6 +1,6 @@
 // The lines that a question is answered by.
 ghost use Rattle.std.specs.Prelude.{◌≡◌, ◌++◌, ◌<◌, List, ℕ, OnOk};
-ghost use Rattle.desk_top.specs.Said.{hex_digit, printed, printed_byte, said_question, said_value, said_error, said_trace, text_of, SaysLine, SaysRefusal};
+ghost use Rattle.desk_top.specs.Said.{begins_with_colon, hex_digit, printed, printed_byte, said_no_command, said_question, said_value, said_error, said_trace, text_of, SaysAnswers, SaysLine, SaysRefusal};
 ghost use Rattle.rel_eval.specs.Traces.{IsTraceOf, Trace};
 
 use crate::errors::error_text;
@@ -29,6 +29,31 @@ fn say_question(line: &[u8], out: &mut Bytes) -> Result<(), AllocError>
 }
 
 fn say_answers(alloc: Global, line: &[u8], out: &mut Bytes) -> Result<(), AllocError>
+    ensures { OnOk result ((bytes : List ℕ) × SaysAnswers (begins_with_colon line.now) line.now bytes × (out.new ≡ out.old ++ bytes)) }
+{
+    if begins_with_colon(line) {
+        return say_no_command(out);
+    }
+    say_trace(alloc, line, out)
+}
+
+fn begins_with_colon(line: &[u8]) -> bool
+    ensures { result ≡ begins_with_colon line.now }
+{
+    match line.first() {
+        Some(byte) => *byte == b':',
+        None => false,
+    }
+}
+
+#[tactic(auto, unfolding(crate::specs::Said::said_no_command))]
+fn say_no_command(out: &mut Bytes) -> Result<(), AllocError>
+    ensures { OnOk result (out.new ≡ out.old ++ said_no_command) }
+{
+    out.extend(b"E: This is no command.\n")
+}
+
+fn say_trace(alloc: Global, line: &[u8], out: &mut Bytes) -> Result<(), AllocError>
     ensures { OnOk result ((t : Trace) × IsTraceOf line.now t × (out.new ≡ out.old ++ said_trace t)) }
 {
     match prepare(alloc, line) {

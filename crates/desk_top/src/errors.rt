@@ -13,6 +13,8 @@ pub(crate) fn error_text(kind: RelKind) -> &'static str
         RelKind::UnclosedString => "A string is not closed.",
         RelKind::UnclosedComment => "A comment is not closed.",
         RelKind::TooLong => "The question is too long.",
+        RelKind::NoParse => "This expression could not be parsed.",
+        RelKind::TooDeep => "The question is nested too deeply.",
         RelKind::OutOfRange => "A number is out of range.",
         RelKind::BadNumber => "A number is too large.",
         RelKind::NotBuilt => "This form is not built.",

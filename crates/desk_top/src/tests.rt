@@ -49,7 +49,7 @@ struct Case<'a> {
 
 #[test]
 fn questions_are_answered_line_by_line(rt: HostRuntime) -> Result<(), Fail> {
-    let cases: [(&[u8], &[u8]); 15] = [
+    let cases: [(&[u8], &[u8]); 20] = [
         (b"", b""),
         (b"(1 + 2); 4\n", b"Q: (1 + 2); 4\nA: 3\nA: 4\n"),
         (b"1 + 2\n", b"Q: 1 + 2\nA: 3\n"),
@@ -76,11 +76,34 @@ fn questions_are_answered_line_by_line(rt: HostRuntime) -> Result<(), Fail> {
             b"Q: \"%22a%22\"\nE: This form is not built. (0..0)\n",
         ),
         (b"true\n", b"Q: true\nE: This form is not built. (0..0)\n"),
-        (b"1 2\n", b"Q: 1 2\nE: This form is not built. (0..0)\n"),
-        (b"\n", b"Q: \nE: This form is not built. (0..0)\n"),
+        (
+            b"1 2\n",
+            b"Q: 1 2\nE: This expression could not be parsed. (2..3)\n",
+        ),
+        (
+            b"1 = 2 = 3\n",
+            b"Q: 1 = 2 = 3\nE: This expression could not be parsed. (6..7)\n",
+        ),
+        (
+            b"\n",
+            b"Q: \nE: This expression could not be parsed. (0..0)\n",
+        ),
         (
             b"1\n\n2",
-            b"Q: 1\nA: 1\nQ: \nE: This form is not built. (0..0)\nQ: 2\nA: 2\n",
+            b"Q: 1\nA: 1\nQ: \nE: This expression could not be parsed. (0..0)\nQ: 2\nA: 2\n",
+        ),
+        (
+            b"((((((((((((((((((((((((((((((((((((((((((((((((((((((((((((((((( 1\n",
+            b"Q: ((((((((((((((((((((((((((((((((((((((((((((((((((((((((((((((((( 1\nE: The question is nested too deeply. (64..65)\n",
+        ),
+        (b":\n", b"Q: :\nE: This is no command.\n"),
+        (
+            b":more \n1\n",
+            b"Q: :more \nE: This is no command.\nQ: 1\nA: 1\n",
+        ),
+        (
+            b" :more\n",
+            b"Q:  :more\nE: A character cannot stand here. (1..2)\n",
         ),
         (
             b"7\r\n\x00\xff\n",

@@ -1,8 +1,8 @@
-mod Texts
+pub mod Texts
 mod Cutting
 pub mod Pieces
 mod LineLemmas
-mod PathLemmas
+pub mod PathLemmas
 mod DigestLemmas
-mod VersionLemmas
+pub mod VersionLemmas
 pub mod BadLines

@@ -7,8 +7,14 @@ use Rattle.rel_lexer.specs.declared.error.LexError.TheVariants.{BadByte, BadEsca
 use Rattle.rel_lexer.specs.Tokens.{Lexed}
 use Rattle.rel_lexer.proofs.OneAnswer.{one_answer}
 use Rattle.rel_eval.specs.declared.refusal.RelKind.{RelKind}
-use Rattle.rel_eval.specs.Refusals.{IsLexRefusal}
-use Rattle.rel_eval.specs.Traces.{Trace, failure, trace_of_sums, IsQuestionOf, IsRefusedAs, IsTraceOf}
+use Rattle.rel_grammar.specs.declared.error.ParseError.{ParseError}
+use Rattle.rel_grammar.specs.declared.error.ParseError.TheVariants as parse
+use Rattle.rel_grammar.specs.Trees.{Plain}
+use Rattle.rel_grammar.specs.Answers.{IsTreeOf}
+use Rattle.rel_grammar.proofs.OneTree.{parsed_is_one, parses, tree_is_one}
+use Rattle.rel_eval.specs.BuiltSums.{sums_of}
+use Rattle.rel_eval.specs.Refusals.{IsLexRefusal, IsParseRefusal}
+use Rattle.rel_eval.specs.Traces.{Trace, failure, trace_of_sums, IsQuestionOf, LexerRefuses, ParserRefuses, IsRefusedAs, IsTraceOf}
 
 -- a refusal of the lexer's is for one thing, at one place
 lex_refusal_is_one : (e : LexError) (k l : RelKind) (p q : Place) → IsLexRefusal e k p → IsLexRefusal e l q → (k ≡ l) × (p ≡ q)
@@ -37,28 +43,80 @@ tokens_or_refusal text tokens e k p lexed refused is =
     let same : Ok tokens ≡ Err e = one_answer text (Ok tokens) (Err e) (λ other. cc) refusal lexed refused in
     cc
 
+abbrev tree_of : Plain → Result Plain ParseError
+tree_of t = Ok t
+
+abbrev no_tree_for : ParseError → Result Plain ParseError
+no_tree_for e = Err e
+
+fault_injective : (a b : ParseError) → no_tree_for a ≡ no_tree_for b → a ≡ b
+fault_injective a b e = cc
+
+-- want of memory is no fault of the tokens
+no_parse_memory : (e : ParseError) (k : RelKind) (p : Place) → IsParseRefusal e k p → no_tree_for e ≢ no_tree_for parse.Memory
+no_parse_memory e k p a same = let Refusal : ParseError → Type 0 = λ x. IsParseRefusal x k p in subst Refusal (fault_injective e parse.Memory same) a
+
+-- a refusal of the parser's is for one thing, at one place
+parse_refusal_is_one : (e : ParseError) (k l : RelKind) (p q : Place) → IsParseRefusal e k p → IsParseRefusal e l q → (k ≡ l) × (p ≡ q)
+parse_refusal_is_one (parse.NoParse at) k l p q a b = (a.0 ∙ sym b.0, a.1 ∙ sym b.1)
+parse_refusal_is_one (parse.TooDeep at) k l p q a b = (a.0 ∙ sym b.0, a.1 ∙ sym b.1)
+parse_refusal_is_one parse.Memory k l p q a b = absurd a
+
+-- a text with a tree is not refused for its tokens
+tree_or_no_tokens : (text : List ℕ) (tree : Plain) (k : RelKind) (p : Place) → IsTreeOf text tree → LexerRefuses text k p → ⊥
+tree_or_no_tokens text tree k p t r = tokens_or_refusal text t.tokens r.0 k p t.lexed r.1 r.2
+
+no_tree_or_no_tokens : (text : List ℕ) (k l : RelKind) (p q : Place) → ParserRefuses text k p → LexerRefuses text l q → ⊥
+no_tree_or_no_tokens text k l p q t r = tokens_or_refusal text t.0 r.0 l q t.1 r.1 r.2
+
+tree_or_none : (text : List ℕ) (tree : Plain) (k : RelKind) (p : Place) → IsTreeOf text tree → ParserRefuses text k p → ⊥
+tree_or_none text tree k p t r =
+    let same : tree_of tree ≡ no_tree_for r.2.0 = parsed_is_one text t.tokens r.0 (tree_of tree) (no_tree_for r.2.0) t.lexed r.1 (λ other. cc) (no_parse_memory r.2.0 k p r.2.2) (parses text tree t) r.2.1 in
+    cc
+
 -- a question is not refused
 question_or_refusal : (text : List ℕ) (t : Trace) (k : RelKind) (p : Place) → IsQuestionOf text t → IsRefusedAs text k p → ⊥
-question_or_refusal text t k p q (inl r) = tokens_or_refusal text q.0 r.0 k p q.1 r.1 r.2
-question_or_refusal text t k p q (inr r) = let none = r.2 in let some = q.2.1 in cc
+question_or_refusal text t k p q (inl r) = tree_or_no_tokens text q.0 k p q.1 r
+question_or_refusal text t k p q (inr (inl r)) = tree_or_none text q.0 k p q.1 r
+question_or_refusal text t k p q (inr (inr r)) =
+    let same : sums_of q.0 ≡ sums_of r.0 = ap sums_of (tree_is_one text q.0 r.0 q.1 r.1) in
+    let some = q.2.1 in
+    let none = r.2 in
+    cc
 
--- a text is refused for one thing, at one place
-refusal_is_one : (text : List ℕ) (k l : RelKind) (p q : Place) → IsRefusedAs text k p → IsRefusedAs text l q → (k ≡ l) × (p ≡ q)
-refusal_is_one text k l p q (inl a) (inl b) =
+no_tokens_for_one : (text : List ℕ) (k l : RelKind) (p q : Place) → LexerRefuses text k p → LexerRefuses text l q → (k ≡ l) × (p ≡ q)
+no_tokens_for_one text k l p q a b =
     let first : refused_as a.0 ≢ refused_as Memory = λ same. no_memory a.0 k p a.2 (err_injective a.0 Memory same) in
     let second : refused_as b.0 ≢ refused_as Memory = λ same. no_memory b.0 l q b.2 (err_injective b.0 Memory same) in
     let answers : refused_as a.0 ≡ refused_as b.0 = one_answer text (Err a.0) (Err b.0) first second a.1 b.1 in
     let same : a.0 ≡ b.0 = err_injective a.0 b.0 answers in
     let Refusal : LexError → Type 0 = λ e. IsLexRefusal e k p in
     lex_refusal_is_one b.0 k l p q (subst Refusal same a.2) b.2
-refusal_is_one text k l p q (inl a) (inr b) = absurd (tokens_or_refusal text b.0 a.0 k p b.1 a.1 a.2)
-refusal_is_one text k l p q (inr a) (inl b) = absurd (tokens_or_refusal text a.0 b.0 l q a.1 b.1 b.2)
-refusal_is_one text k l p q (inr a) (inr b) = (a.3 ∙ sym b.3, a.4 ∙ sym b.4)
+
+no_tree_for_one : (text : List ℕ) (k l : RelKind) (p q : Place) → ParserRefuses text k p → ParserRefuses text l q → (k ≡ l) × (p ≡ q)
+no_tree_for_one text k l p q a b =
+    let answers : no_tree_for a.2.0 ≡ no_tree_for b.2.0 = parsed_is_one text a.0 b.0 (no_tree_for a.2.0) (no_tree_for b.2.0) a.1 b.1 (no_parse_memory a.2.0 k p a.2.2) (no_parse_memory b.2.0 l q b.2.2) a.2.1 b.2.1 in
+    let same : a.2.0 ≡ b.2.0 = fault_injective a.2.0 b.2.0 answers in
+    let Refusal : ParseError → Type 0 = λ e. IsParseRefusal e k p in
+    parse_refusal_is_one b.2.0 k l p q (subst Refusal same a.2.2) b.2.2
+
+-- a text is refused for one thing, at one place
+refusal_is_one : (text : List ℕ) (k l : RelKind) (p q : Place) → IsRefusedAs text k p → IsRefusedAs text l q → (k ≡ l) × (p ≡ q)
+refusal_is_one text k l p q (inl a) (inl b) = no_tokens_for_one text k l p q a b
+refusal_is_one text k l p q (inl a) (inr (inl b)) = absurd (no_tree_or_no_tokens text l k q p b a)
+refusal_is_one text k l p q (inl a) (inr (inr b)) = absurd (tree_or_no_tokens text b.0 k p b.1 a)
+refusal_is_one text k l p q (inr (inl a)) (inl b) = absurd (no_tree_or_no_tokens text k l p q a b)
+refusal_is_one text k l p q (inr (inl a)) (inr (inl b)) = no_tree_for_one text k l p q a b
+refusal_is_one text k l p q (inr (inl a)) (inr (inr b)) = absurd (tree_or_none text b.0 k p b.1 a)
+refusal_is_one text k l p q (inr (inr a)) (inl b) = absurd (tree_or_no_tokens text a.0 l q a.1 b)
+refusal_is_one text k l p q (inr (inr a)) (inr (inl b)) = absurd (tree_or_none text a.0 l q a.1 b)
+refusal_is_one text k l p q (inr (inr a)) (inr (inr b)) = (a.3 ∙ sym b.3, a.4 ∙ sym b.4)
 
 pub trace_is_one : (text : List ℕ) (t u : Trace) → IsTraceOf text t → IsTraceOf text u → t ≡ u
 trace_is_one text t u (inl a) (inl b) =
     let first = a.2.1 in
     let second = b.2.1 in
+    let tree : sums_of a.0 ≡ sums_of b.0 = ap sums_of (tree_is_one text a.0 b.0 a.1 b.1) in
     let same : a.2.0 ≡ b.2.0 = cc in
     a.2.2 ∙ ap trace_of_sums same ∙ sym b.2.2
 trace_is_one text t u (inl a) (inr b) = absurd (question_or_refusal text t b.0 b.1 a b.2)

@@ -1,7 +1,5 @@
 pub mod Kinds
-pub mod SmallTokens
-pub mod SmallSums
+pub mod BuiltSums
 pub mod Refusals
 pub mod Traces
-pub mod SmallReads
 pub mod Answers

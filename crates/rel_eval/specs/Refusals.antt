@@ -3,10 +3,12 @@ use Rattle.std.specs.Prelude.{◌≡◌, ⊤, Result, Ok, Err}
 use Rattle.rel_eval.specs.declared.refusal.Refusal.{Refusal}
 use Rattle.rel_eval.specs.declared.refusal.Refusal.TheVariants.{At, Memory}
 use Rattle.rel_eval.specs.declared.refusal.RelKind.{RelKind}
-use Rattle.rel_eval.specs.declared.refusal.RelKind.TheVariants.{BadByte, BadEscape, UnclosedString, UnclosedComment, TooLong, BadNumber, NotBuilt}
+use Rattle.rel_eval.specs.declared.refusal.RelKind.TheVariants.{BadByte, BadEscape, UnclosedString, UnclosedComment, TooLong, NoParse, TooDeep, BadNumber, NotBuilt}
 use Rattle.rel_lexer.specs.declared.place.Place.{Place}
 use Rattle.rel_lexer.specs.declared.error.LexError.{LexError}
 use Rattle.rel_lexer.specs.declared.error.LexError.TheVariants as lex
+use Rattle.rel_grammar.specs.declared.error.ParseError.{ParseError}
+use Rattle.rel_grammar.specs.declared.error.ParseError.TheVariants as parse
 
 -- the start of the text, and no byte of it
 abbrev pub nowhere : Place
@@ -22,12 +24,23 @@ IsLexRefusal lex.TooLong kind place = (kind ≡ TooLong) × (place ≡ nowhere)
 IsLexRefusal (lex.BadNumber at) kind place = (kind ≡ BadNumber) × (place ≡ at)
 IsLexRefusal lex.Memory kind place = ⊥
 
+-- The parser's refusal is one for this, at this place.
+abbrev pub IsParseRefusal : ParseError → RelKind → Place → Type 0
+IsParseRefusal (parse.NoParse at) kind place = (kind ≡ NoParse) × (place ≡ at)
+IsParseRefusal (parse.TooDeep at) kind place = (kind ≡ TooDeep) × (place ≡ at)
+IsParseRefusal parse.Memory kind place = ⊥
+
 -- The refusal is the lexer's.
 abbrev pub IsRefusalOf : LexError → Refusal → Type 0
 IsRefusalOf error (At kind place) = IsLexRefusal error kind place
 IsRefusalOf error Memory = error ≡ lex.Memory
 
--- An answer is right, or it is the refusal NotBuilt and there is no answer, or it is want of memory.
+-- The refusal is the parser's.
+abbrev pub IsRefusalOfParser : ParseError → Refusal → Type 0
+IsRefusalOfParser error (At kind place) = IsParseRefusal error kind place
+IsRefusalOfParser error Memory = error ≡ parse.Memory
+
+-- Temporary: an answer is right, or it is the refusal NotBuilt where there is none, or it is want of memory.
 abbrev pub Answers : {T : Type 0} → Result T Refusal → (T → Type 0) → Type 0 → Type 0
 Answers (Ok x) IsRight IsNone = IsRight x
 Answers (Err (At kind place)) IsRight IsNone = (kind ≡ NotBuilt) × (place ≡ nowhere) × IsNone

@@ -5,13 +5,17 @@ use Rattle.rel_eval.specs.declared.value.Value.{Value}
 use Rattle.rel_eval.specs.declared.value.Value.TheVariants.{Integer}
 use Rattle.rel_eval.specs.declared.refusal.RelKind.{RelKind}
 use Rattle.rel_eval.specs.declared.refusal.RelKind.TheVariants.{OutOfRange, NotBuilt}
-use Rattle.rel_eval.specs.declared.small_sums.Sum.{Sum}
-use Rattle.rel_eval.specs.declared.small_sums.Sum.TheVariants as sum
-use Rattle.rel_eval.specs.SmallSums.{small_sums}
-use Rattle.rel_eval.specs.Refusals.{nowhere, IsLexRefusal}
+use Rattle.rel_eval.specs.declared.built_sums.Sum.{Sum}
+use Rattle.rel_eval.specs.declared.built_sums.Sum.TheVariants as sum
+use Rattle.rel_eval.specs.BuiltSums.{sums_of}
+use Rattle.rel_eval.specs.Refusals.{nowhere, IsLexRefusal, IsParseRefusal}
 use Rattle.rel_lexer.specs.declared.token_list.Tokens.{Tokens}
 use Rattle.rel_lexer.specs.declared.error.LexError.{LexError}
 use Rattle.rel_lexer.specs.Tokens.{Lexed}
+use Rattle.rel_grammar.specs.declared.error.ParseError.{ParseError}
+use Rattle.rel_grammar.specs.Shapes.{all_shaped}
+use Rattle.rel_grammar.specs.Trees.{Plain}
+use Rattle.rel_grammar.specs.Answers.{IsTreeOf, Parsed}
 
 -- how a trace ends
 pub data Ending : Type 0 where
@@ -39,13 +43,23 @@ trace_of_sums (sum.OutOfRange plus ∷ sums) = failure OutOfRange plus
 
 -- The text is a question, and this is what it gives.
 abbrev pub IsQuestionOf : List ℕ → Trace → Type 0
-IsQuestionOf text t = (tokens : Tokens) × Lexed text (Ok tokens) × ((sums : List Sum) × (small_sums text ≡ Some sums) × (t ≡ trace_of_sums sums))
+IsQuestionOf text t = (tree : Plain) × IsTreeOf text tree × ((sums : List Sum) × (sums_of tree ≡ Some sums) × (t ≡ trace_of_sums sums))
 
--- The text is refused for this, at this place: it has no tokens, or those of no question.
+-- The lexer refuses the text for this, at this place.
+abbrev pub LexerRefuses : List ℕ → RelKind → Place → Type 0
+LexerRefuses text kind place = (error : LexError) × Lexed text (Err error) × IsLexRefusal error kind place
+
+-- The text has tokens, which the parser refuses for this, at this place.
+abbrev pub ParserRefuses : List ℕ → RelKind → Place → Type 0
+ParserRefuses text kind place = (tokens : Tokens) × Lexed text (Ok tokens) × ((error : ParseError) × Parsed tokens.end (all_shaped tokens.list) (Err error) × IsParseRefusal error kind place)
+
+-- Temporary: the text has a tree, whose meaning is not built.
+abbrev pub IsNotBuilt : List ℕ → RelKind → Place → Type 0
+IsNotBuilt text kind place = (tree : Plain) × IsTreeOf text tree × (sums_of tree ≡ None) × (kind ≡ NotBuilt) × (place ≡ nowhere)
+
+-- The text is refused for this, at this place.
 abbrev pub IsRefusedAs : List ℕ → RelKind → Place → Type 0
-IsRefusedAs text kind place =
-    ((error : LexError) × Lexed text (Err error) × IsLexRefusal error kind place)
-    ⊎ ((tokens : Tokens) × Lexed text (Ok tokens) × (small_sums text ≡ None) × (kind ≡ NotBuilt) × (place ≡ nowhere))
+IsRefusedAs text kind place = LexerRefuses text kind place ⊎ ParserRefuses text kind place ⊎ IsNotBuilt text kind place
 
 -- The text gives this: what the question gives, or no value and its refusal.
 abbrev pub IsTraceOf : List ℕ → Trace → Type 0

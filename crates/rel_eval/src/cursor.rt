@@ -1,8 +1,8 @@
 ghost use Rattle.std.specs.Prelude.{◌≡◌};
 ghost use Rattle.rel_eval.specs.Answers.{Pulls};
 
+use crate::built_sums::Sum;
 use crate::refusal::RelKind;
-use crate::small_sums::Sum;
 use crate::value::Value;
 use rel_lexer::Place;
 use std::marker::Model;

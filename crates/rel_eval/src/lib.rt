@@ -1,12 +1,11 @@
 //! Questions: prepared from a text, and their values drawn one at a time.
 #![tactic(auto)]
 
+mod built_sums;
 mod cursor;
 mod law;
 mod question;
 mod refusal;
-mod small_sums;
-mod small_tokens;
 mod value;
 
 pub use cursor::{Cursor, Pulled};

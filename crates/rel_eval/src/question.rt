@@ -1,9 +1,10 @@
 ghost use Rattle.std.specs.Prelude.{◌≡◌, IfOk};
 ghost use Rattle.rel_eval.specs.Answers.{Prepares};
 
+use crate::built_sums::{Sum, sums_of};
 use crate::cursor::Cursor;
 use crate::refusal::Refusal;
-use crate::small_sums::{Sum, small_sums};
+use rel_grammar::parse;
 use rel_lexer::tokens;
 use std::alloc::{AllocError, Global};
 use std::marker::Model;
@@ -23,15 +24,16 @@ impl Model for Question {
     ghost view = { λ q. trace_of_sums q.sums.items };
 }
 
-/// Prepares a question from its text. A text that has no tokens is refused with its first fault, and for now one that has
-/// tokens but is outside the small language as NotBuilt at (0..0): one of more than 1,024 bytes, with brackets more than 64 deep,
-/// with a comment, or with anything but numbers, `+`, `;` and brackets.
+/// Prepares a question from its text. A text that the lexer refuses is refused with its first fault, and one whose tokens the parser
+/// refuses with the first that is wrong. For now a question is refused as NotBuilt at (0..0) that has anything but numbers,
+/// `+`, brackets without filter and object, and semicolons outside all brackets.
 pub fn prepare(alloc: Global, text: &[u8]) -> Result<Question, Refusal>
     ensures { Prepares text.now result }
 {
-    let _ = tokens(alloc, text)?;
+    let tokens = tokens(alloc, text)?;
+    let tree = parse(alloc, &tokens)?;
     Ok(Question {
-        sums: small_sums(alloc, text)?,
+        sums: sums_of(alloc, &tree)?,
     })
 }
 

@@ -2,6 +2,7 @@ ghost use Rattle.std.specs.Prelude.{◌≡◌};
 ghost use Rattle.rel_eval.specs.Kinds.{number_of};
 ghost use Rattle.rel_eval.specs.declared.refusal.Refusal.TheVariants.{Memory};
 
+use rel_grammar::ParseError;
 use rel_lexer::{LexError, Place};
 use std::alloc::{AllocError, AllocFailed};
 
@@ -18,11 +19,15 @@ pub enum RelKind {
     UnclosedComment = 4,
     /// The text has more than 65,536 bytes, at (0..0).
     TooLong = 5,
+    /// The first token with which those so far begin no question; at the end of the text where all of them begin one and are none.
+    NoParse = 6,
+    /// The first token that stands more than 64 deep in brackets, signs before an operand, objects and `if`s.
+    TooDeep = 7,
     /// A sum is no number of an i64, at the place of its `+`.
     OutOfRange = 9,
     /// A number is above 9223372036854775807, at its place.
     BadNumber = 18,
-    /// Temporary: the text is outside the language that is built so far, at (0..0).
+    /// Temporary: the text is a question whose meaning is not built so far, at (0..0).
     NotBuilt = 19,
 }
 
@@ -44,7 +49,7 @@ pub enum Refusal {
     Memory,
 }
 
-/// Temporary: the refusal of everything outside the small language.
+/// Temporary: the refusal of every question whose meaning is not built.
 pub(crate) const NOT_BUILT: Refusal = Refusal::At(RelKind::NotBuilt, NOWHERE);
 
 /// The place of what stands nowhere in the text.
@@ -64,6 +69,20 @@ impl From<LexError> for Refusal {
             LexError::TooLong => Refusal::At(RelKind::TooLong, NOWHERE),
             LexError::BadNumber(place) => Refusal::At(RelKind::BadNumber, place),
             LexError::Memory => Refusal::Memory,
+        }
+    }
+}
+
+impl From<ParseError> for Refusal {
+    ghost use Rattle.rel_eval.specs.Refusals.{IsRefusalOfParser};
+
+    ghost from_gives = { IsRefusalOfParser };
+
+    fn from(error: ParseError) -> Refusal {
+        match error {
+            ParseError::NoParse(place) => Refusal::At(RelKind::NoParse, place),
+            ParseError::TooDeep(place) => Refusal::At(RelKind::TooDeep, place),
+            ParseError::Memory => Refusal::Memory,
         }
     }
 }

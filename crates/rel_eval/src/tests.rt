@@ -22,8 +22,9 @@ fn pulls(alloc: Global, text: &[u8]) -> Result<[Pulled; 3], Fail> {
 
 #[test]
 fn values_are_pulled_in_order(rt: HostRuntime) -> Result<(), Fail> {
-    let cases: [(&[u8], [Pulled; 3]); 7] = [
+    let cases: [(&[u8], [Pulled; 3]); 8] = [
         (b"(1 + 2); 4", [integer(3), integer(4), Pulled::End]),
+        (b"/* a */ 1 /* b */", [integer(1), Pulled::End, Pulled::End]),
         (b"\t007\r\n", [integer(7), Pulled::End, Pulled::End]),
         (b"1+(2+(3))+4;5", [integer(10), integer(5), Pulled::End]),
         (
@@ -76,48 +77,83 @@ fn nested(
     Ok(text)
 }
 
+fn refused(kind: RelKind, from: u32, to: u32) -> Option<Refusal> {
+    Some(Refusal::At(kind, Place { from, to }))
+}
+
 #[test]
-fn what_is_outside_the_small_language_is_not_built(rt: HostRuntime) -> Result<(), Fail> {
+fn a_question_whose_meaning_is_not_built_is_told(rt: HostRuntime) -> Result<(), Fail> {
     let alloc = rt.alloc();
-    let texts: [&[u8]; 19] = [
-        b"",
-        b" ",
+    let texts: [&[u8]; 16] = [
         b"true",
-        b"1 2",
-        b"1 +",
-        b"+ 1",
-        b"1;",
-        b";1",
-        b"1;;2",
-        b"(1",
-        b"1)",
-        b"()",
-        b"(1;2)",
-        b"1 ++ 2",
+        b"it",
+        b"\"1\"",
         b"-1",
         b"1 - 1",
-        b"\"1\"",
-        b"1 /* c */",
-        b"(1)(2)",
+        b"1 + 2 - 3",
+        b"2 * 3",
+        b"1 + 2 * 3",
+        b"(1;2)",
+        b"(1;2); 3",
+        b"1, 2",
+        b"1; 2, 3",
+        b"(1) whose (true)",
+        b"1 of 2",
+        b"1 as string",
+        b"if true then 1 else 2",
     ];
     for text in texts {
         assert_eq!(rt; prepare(alloc, text).err(), Some(NOT_BUILT), "at {text:?}");
     }
-    assert!(rt; prepare(alloc, &nested(alloc, b"(", 64, b"1", b")")?).is_ok());
-    assert_eq!(rt;
-        prepare(alloc, &nested(alloc, b"(", 65, b"1", b")")?).err(),
-        Some(NOT_BUILT)
-    );
-    assert!(rt; prepare(alloc, &nested(alloc, b" ", 1023, b"1", b"")?).is_ok());
-    assert_eq!(rt;
-        prepare(alloc, &nested(alloc, b" ", 1024, b"1", b"")?).err(),
-        Some(NOT_BUILT)
-    );
     Ok(())
 }
 
-fn refused(kind: RelKind, from: u32, to: u32) -> Option<Refusal> {
-    Some(Refusal::At(kind, Place { from, to }))
+#[test]
+fn the_first_token_that_is_wrong_is_told(rt: HostRuntime) -> Result<(), Fail> {
+    let alloc = rt.alloc();
+    let cases: [(&[u8], u32, u32); 17] = [
+        (b"", 0, 0),
+        (b" ", 1, 1),
+        (b"1 2", 2, 3),
+        (b"1 + ", 4, 4),
+        (b"1 +   /* c */", 13, 13),
+        (b"+ 1", 0, 1),
+        (b"1;", 2, 2),
+        (b";1", 0, 1),
+        (b"1;;2", 2, 3),
+        (b"(1", 2, 2),
+        (b"1)", 1, 2),
+        (b"()", 1, 2),
+        (b"1 ++ 2", 3, 4),
+        (b"(1)(2)", 3, 4),
+        (b"1x", 1, 2),
+        (b"1 = 2 = 3", 6, 7),
+        (b"true of if", 8, 10),
+    ];
+    for (text, from, to) in cases {
+        assert_eq!(rt;
+            prepare(alloc, text).err(),
+            refused(RelKind::NoParse, from, to),
+            "at {text:?}"
+        );
+    }
+    Ok(())
+}
+
+#[test]
+fn brackets_nest_64_deep(rt: HostRuntime) -> Result<(), Fail> {
+    let alloc = rt.alloc();
+    assert!(rt; prepare(alloc, &nested(alloc, b"(", 64, b"1", b")")?).is_ok());
+    assert_eq!(rt;
+        prepare(alloc, &nested(alloc, b"(", 65, b"1", b")")?).err(),
+        refused(RelKind::TooDeep, 64, 65)
+    );
+    assert_eq!(rt;
+        prepare(alloc, &nested(alloc, b"(", 64, b")", b"")?).err(),
+        refused(RelKind::NoParse, 64, 65)
+    );
+    assert!(rt; prepare(alloc, &nested(alloc, b" ", 65_535, b"1", b"")?).is_ok());
+    Ok(())
 }
 
 #[test]
@@ -153,6 +189,8 @@ fn kinds_have_their_numbers(rt: HostRuntime) {
         (RelKind::UnclosedString, 3),
         (RelKind::UnclosedComment, 4),
         (RelKind::TooLong, 5),
+        (RelKind::NoParse, 6),
+        (RelKind::TooDeep, 7),
         (RelKind::OutOfRange, 9),
         (RelKind::BadNumber, 18),
         (RelKind::NotBuilt, 19),

@@ -1,0 +1,20 @@
+use Rattle.std.proofs.Common.{arith}
+use Rattle.std.proofs.lemmas.Grind.{common_steps}
+use Rattle.bf_world.specs.Places.{node_at, content_at}
+use Rattle.bf_world.proofs.world.World.content.Goals as goal
+
+pub returns-then-eq : goal.returns-then-eq
+unfolding node_at content_at
+returns-then-eq c = grind (arith, common_steps)
+
+pub returns-in_ok-copy-in-Some-File : goal.returns-in_ok-copy-in-Some-File
+unfolding node_at content_at
+returns-in_ok-copy-in-Some-File c = grind (arith, common_steps)
+
+pub returns-in-Some-Folder : goal.returns-in-Some-Folder
+unfolding node_at content_at
+returns-in-Some-Folder c = grind (arith, common_steps)
+
+pub returns-in-None : goal.returns-in-None
+unfolding node_at content_at
+returns-in-None c = grind (arith, common_steps)

@@ -1,0 +1,10 @@
+pub mod Maps
+pub mod Worlds
+pub mod Paths
+pub mod Places
+pub mod Shown
+pub mod Done
+pub mod Polled
+pub mod Answers
+pub mod Sound
+pub mod Views

@@ -1,0 +1,11 @@
+pub mod Shapes
+pub mod Grammar
+pub mod Spelling
+pub mod Sentences
+pub mod Trees
+pub mod Views
+pub mod Holding
+pub mod Spans
+pub mod Machine
+pub mod Answers
+pub mod Reads

@@ -1,0 +1,10 @@
+pub mod Escaping
+pub mod Unescaping
+pub mod WritingOn
+pub mod Rewriting
+pub mod Spelled
+pub mod Rereading
+pub mod PrintedReads
+pub mod Shortest
+pub mod Shortness
+pub mod ReadsBack

@@ -1,0 +1,11 @@
+//! Trees of questions as texts.
+#![tactic(auto)]
+
+mod escape;
+mod pen;
+mod printing;
+
+pub use printing::print;
+
+#[cfg(test)]
+mod tests;

@@ -1,0 +1,13 @@
+mod Relations
+mod VersionsRead
+mod KindLaws
+mod Digits
+mod Integers
+mod Trims
+mod Joined
+mod Shown
+mod Written
+mod Spelled
+mod Calendars
+mod TimeReads
+mod OneMoment

@@ -1,0 +1,54 @@
+-- Versions as they are read and compared.
+use Rattle.std.proofs.Common.{◌≡◌, ℕ, ◌-◌, ◌^◌, ◌<◌, ◌≤◌, Bool, true, false, ◌&&◌, nat_lt, nat_le, cond, List, [], ◌∷◌, ◌++◌, length, map, take, drop, replicate, zero, suc, All, Option, Some, None, refl, sym, ap, ◌∙◌, arith, Decides}
+use Rattle.std.specs.Char.{is_ascii_digit, digit_value}
+use Rattle.std.specs.List.{list_all, AllPass}
+use Rattle.std.specs.Str.Parse.{AllDigits, digits_value}
+use Rattle.std.proofs.lemmas.Bool.Decides.{Decides-and, Decides-ltb, Decides-by_and, Decides-like, nat_tests}
+use Rattle.line_forms.specs.Cuts.{pieces}
+use Rattle.line_forms.specs.Reads.{Reads}
+use Rattle.line_forms.specs.Versions.{IsVersionNumber, IsVersionOf}
+use Rattle.line_forms.proofs.VersionLemmas.{ByPieces, pieces-version, version-pieces}
+use Rattle.rel_value.specs.Versions.{is_version_number, version_of, four}
+use Rattle.rel_value.proofs.Digits.{Decides-digits}
+
+number-decides : (digits : List ℕ) → Decides (is_version_number digits) (IsVersionNumber digits)
+number-decides digits =
+    Decides-and _ _ (Decides-and _ _ (Decides-ltb 0 (length digits)) (Decides-digits digits)) (Decides-ltb (digits_value 10 digits) (2 ^ 32))
+
+abbrev Good : List ℕ → Type 0
+Good text = (length (pieces 46 text) ≤ 4) × All IsVersionNumber (pieces 46 text)
+
+le-decides : (n : ℕ) → Decides (nat_le n 4) (n ≤ 4)
+le-decides n = (λ h. grind (arith, nat_tests), λ h. grind (arith, nat_tests))
+
+good-decides : (text : List ℕ) → Decides (nat_le (length (pieces 46 text)) 4 && list_all is_version_number (pieces 46 text)) (Good text)
+good-decides text =
+    Decides-and _ _ (le-decides (length (pieces 46 text))) (Decides-by_and is_version_number IsVersionNumber (list_all is_version_number) number-decides refl (λ _ _. refl) (pieces 46 text))
+
+pub version-some : (text numbers : List ℕ) → IsVersionOf text numbers → version_of text ≡ Some numbers
+version-some text numbers is =
+    let by = pieces-version text numbers is in
+    let test = (good-decides text).1 (by.few, by.each) in
+    rw test (ap Some (sym by.values))
+
+none-cond : (b : Bool) (numbers : List ℕ) → (b ≡ true → ⊥) → cond b (Some numbers) None ≡ None
+none-cond true numbers h = absurd (h refl)
+none-cond false numbers h = refl
+
+pub version-none : (text : List ℕ) → ((numbers : List ℕ) → ¬ IsVersionOf text numbers) → version_of text ≡ None
+version-none text none =
+    none-cond _ (map (digits_value 10) (pieces 46 text)) (λ test. let good = (good-decides text).0 test in none (map (digits_value 10) (pieces 46 text)) (version-pieces text _ (record { few = good.0; each = good.1; values = refl })))
+
+-- four numbers of which those behind the first k are 0
+pub four-padded : (ns : List ℕ) (k : ℕ) → length ns ≡ 4 → 0 < k → k ≤ 4 → drop k ns ≡ replicate (4 - k) 0 → four (take k ns) ≡ ns
+four-padded [] k long some few e = absurd (omega arith)
+four-padded (a ∷ []) k long some few e = absurd (omega arith)
+four-padded (a ∷ b ∷ []) k long some few e = absurd (omega arith)
+four-padded (a ∷ b ∷ c ∷ []) k long some few e = absurd (omega arith)
+four-padded (a ∷ b ∷ c ∷ d ∷ x ∷ xs) k long some few e = absurd (omega arith)
+four-padded (a ∷ b ∷ c ∷ d ∷ []) zero long some few e = absurd (omega arith)
+four-padded (a ∷ b ∷ c ∷ d ∷ []) (suc zero) long some few e = ap (λ l. a ∷ l) (sym e)
+four-padded (a ∷ b ∷ c ∷ d ∷ []) (suc (suc zero)) long some few e = ap (λ l. a ∷ b ∷ l) (sym e)
+four-padded (a ∷ b ∷ c ∷ d ∷ []) (suc (suc (suc zero))) long some few e = ap (λ l. a ∷ b ∷ c ∷ l) (sym e)
+four-padded (a ∷ b ∷ c ∷ d ∷ []) (suc (suc (suc (suc zero)))) long some few e = refl
+four-padded (a ∷ b ∷ c ∷ d ∷ []) (suc (suc (suc (suc (suc k))))) long some few e = absurd (omega arith)

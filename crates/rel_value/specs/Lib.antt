@@ -1,0 +1,12 @@
+pub mod Plain
+pub mod Views
+pub mod Outcomes
+pub mod Operands
+pub mod Versions
+pub mod Kinds
+pub mod Signs
+pub mod Calendar
+pub mod Spellings
+pub mod Texts
+pub mod TimesRead
+pub mod Casts

@@ -1,0 +1,11 @@
+pub mod Cutting
+pub mod Literals
+pub mod ItemLemmas
+pub mod FormLemmas
+pub mod TemplateLemmas
+pub mod OneTemplate
+pub mod PieceLemmas
+pub mod Shown
+pub mod KindLemmas
+pub mod Steps
+pub mod Whole

@@ -1,0 +1,14 @@
+pub mod Bytes
+pub mod Runs
+pub mod Templates
+pub mod Items
+pub mod Forms
+pub mod Lines
+pub mod Trees
+pub mod Blocks
+pub mod Parts
+pub mod Views
+pub mod Scripts
+pub mod Refusals
+pub mod Readings
+pub mod Held
