@@ -1,11 +1,19 @@
 ghost use Rattle.std.specs.Prelude.{◌≤◌, IsSome, length};
-ghost use Rattle.desk_base.specs.Moments.{IsMoment};
-ghost use Rattle.line_forms.specs.Numbers.{IsOffset};
 ghost use Rattle.rel_value.specs.Kinds.{binary_kind, cast_kind};
 ghost use Rattle.rel_value.specs.Plain.{integers, texts};
 
 use super::*;
 use rel_lexer::{BinarySign, Text};
+
+mod casts;
+mod longest;
+mod parts;
+mod relations;
+mod shown;
+mod signs;
+mod time_cases;
+mod times;
+mod versions;
 
 /// What a sign gives for two numbers.
 fn numbers(rt: &HostRuntime, sign: BinarySign, left: i64, right: i64) -> Result<Value, ValueFault>
@@ -157,32 +165,9 @@ fn texts_are_cast(rt: HostRuntime) {
     assert!(rt; matches!(minus_zero, Err(ValueFault::Absent)));
 }
 
-fn is_written(rt: &HostRuntime, moment: i64, offset: i64, wanted: &str) -> bool
-    requires moment_in { IsMoment moment }
-    requires offset_in { IsOffset offset }
-{
-    match text(rt.alloc(), &Value::Time(moment), offset) {
-        Ok(out) => out.as_str() == wanted,
-        Err(_) => false,
-    }
-}
-
-fn is_read(rt: &HostRuntime, given: &str, wanted: i64) -> bool {
-    if given.len() > 31 {
-        return false;
-    }
-    match cast_text(rt, Cast::Time, given) {
-        Ok(Value::Time(moment)) => moment == wanted,
-        _ => false,
-    }
-}
-
 #[test]
-fn times_are_written_and_read(rt: HostRuntime) {
-    let last = 137_438_953_472;
-    assert!(rt; is_written(&rt, 1_173_053_048, -480, "Sun, 04 Mar 2007 16:04:08 -0800"));
-    assert!(rt; is_written(&rt, 0, 0, "Thu, 01 Jan 1970 00:00:00 +0000"));
-    assert!(rt; is_written(&rt, last, 840, "Thu, 09 Apr 6325 05:04:32 +1400"));
-    assert!(rt; is_read(&rt, "Thu, 09 Apr 6325 05:04:32 +1400", last));
-    assert!(rt; is_read(&rt, "Wed, 08 Apr 6325 01:04:32 -1400", last));
+fn laws_hold() {
+    signs_keep_kinds();
+    casts_keep_kinds();
+    times_are_read_as_written();
 }
