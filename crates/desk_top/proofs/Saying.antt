@@ -5,8 +5,8 @@ use Rattle.std.specs.Io.KnownBytes.{Appends}
 use Rattle.std.proofs.KnownBytes.{Appends-nil, Appends-trans}
 use Rattle.desk_base.specs.Flow.{AppendsSome}
 use Rattle.rel_eval.specs.declared.refusal.Refusal.{Refusal}
-use Rattle.rel_eval.specs.declared.refusal.Refusal.TheVariants.{At, Memory}
-use Rattle.rel_eval.specs.Traces.{Trace, failure, IsTraceOf}
+use Rattle.rel_eval.specs.declared.refusal.Refusal.TheVariants.{At, NotDefined, Memory}
+use Rattle.rel_eval.specs.Traces.{Trace, failure, undefined, IsTraceOf}
 use Rattle.rel_eval.specs.Answers.{Prepares}
 use Rattle.desk_top.specs.Said.{begins_with_colon, said_no_command, said_question, said_trace, SaysAnswers, SaysRefusal, SaysLine, SaysLines, SaysFrontOfLine, SaysFrontOfLines}
 
@@ -51,7 +51,8 @@ SaidSoFar-end a b lines rest before is =
 
 -- what was prepared of a line, refused, and said so
 pub SaysTrace-refused : (line old new : List ℕ) (refusal : Refusal) → Prepares line (Err refusal) → SaysRefusal refusal old new → (t : Trace) × IsTraceOf line t × (new ≡ old ++ said_trace t)
-SaysTrace-refused line old new (At kind place) refused said = (failure kind place, inr (kind, place, refused, refl), said)
+SaysTrace-refused line old new (At kind place) refused said = (failure kind place, inr (inl (kind, place, refused, refl)), said)
+SaysTrace-refused line old new (NotDefined place words) refused said = (undefined place words, inr (inr (place, words, refused, refl)), said)
 SaysTrace-refused line old new Memory refused said = absurd said
 
 -- a line that begins with `:`

@@ -1,7 +1,7 @@
 -- The texts of the kinds of errors.
-use Rattle.std.specs.Prelude.{ℕ, List, codes}
+use Rattle.std.specs.Prelude.{ℕ, List, ◌++◌, codes}
 use Rattle.rel_eval.specs.declared.refusal.RelKind.{RelKind}
-use Rattle.rel_eval.specs.declared.refusal.RelKind.TheVariants.{BadByte, BadEscape, UnclosedString, UnclosedComment, TooLong, NoParse, TooDeep, OutOfRange, BadNumber, NotBuilt}
+use Rattle.rel_eval.specs.declared.refusal.RelKind.TheVariants.{BadByte, BadEscape, UnclosedString, UnclosedComment, TooLong, NoParse, TooDeep, OutOfRange, NotSingular, Incompatible, BadNumber, NotBuilt}
 
 -- the text of a kind
 abbrev pub error_text : RelKind → List ℕ
@@ -13,5 +13,11 @@ error_text TooLong = codes "The question is too long."
 error_text NoParse = codes "This expression could not be parsed."
 error_text TooDeep = codes "The question is nested too deeply."
 error_text OutOfRange = codes "A number is out of range."
+error_text NotSingular = codes "A singular expression is required."
+error_text Incompatible = codes "Incompatible types."
 error_text BadNumber = codes "A number is too large."
 error_text NotBuilt = codes "This form is not built."
+
+-- the text where nothing is defined of these words
+unfoldable pub undefined_text : List ℕ → List ℕ
+undefined_text words = codes "The operator \"" ++ words ++ codes "\" is not defined."

@@ -6,14 +6,14 @@ use Rattle.rel_eval.specs.declared.value.Value.{Value}
 use Rattle.rel_eval.specs.declared.value.Value.TheVariants.{Integer}
 use Rattle.rel_eval.specs.declared.refusal.RelKind.{RelKind}
 use Rattle.rel_eval.specs.declared.refusal.Refusal.{Refusal}
-use Rattle.rel_eval.specs.declared.refusal.Refusal.TheVariants.{At, Memory}
-use Rattle.rel_eval.specs.Traces.{Trace, Ending, Stop, Error, IsTraceOf}
+use Rattle.rel_eval.specs.declared.refusal.Refusal.TheVariants.{At, NotDefined, Memory}
+use Rattle.rel_eval.specs.Traces.{Trace, Ending, Stop, Error, Undefined, IsTraceOf}
 use Rattle.desk_base.specs.Flow.{IsFront}
 use Rattle.desk_top.specs.declared.command.Command.{Command}
 use Rattle.desk_top.specs.declared.command.Command.TheVariants.{Qna, Help}
 use Rattle.desk_top.specs.Lines.{lines_of}
 use Rattle.desk_top.specs.Commands.{help_text}
-use Rattle.desk_top.specs.Errors.{error_text}
+use Rattle.desk_top.specs.Errors.{error_text, undefined_text}
 
 -- the hexadecimal digit of a number from 0 to 15, in lower case
 abbrev pub hex_digit : ℕ → ℕ
@@ -39,14 +39,23 @@ said_question line = codes "Q: " ++ line ++ codes "\n"
 unfoldable pub said_value : Value → List ℕ
 said_value value = codes "A: " ++ printed (text_of value) ++ codes "\n"
 
+-- the place where an error arose, behind the error's text
+unfoldable pub said_place : Place → List ℕ
+said_place place = codes " (" ++ decimal place.from ++ codes ".." ++ decimal place.to ++ codes ")\n"
+
 -- an error, and the place where it arose
 unfoldable pub said_error : RelKind → Place → List ℕ
-said_error kind place = codes "E: " ++ error_text kind ++ codes " (" ++ decimal place.from ++ codes ".." ++ decimal place.to ++ codes ")\n"
+said_error kind place = codes "E: " ++ error_text kind ++ said_place place
+
+-- that nothing is defined of some words, and their place
+unfoldable pub said_undefined : Place → List ℕ → List ℕ
+said_undefined place words = codes "E: " ++ undefined_text words ++ said_place place
 
 -- an ending: nothing is said of one without an error
 abbrev pub said_ending : Ending → List ℕ
 said_ending Stop = []
 said_ending (Error kind place) = said_error kind place
+said_ending (Undefined place words) = said_undefined place words
 
 -- a question's values, and the error that ends them
 abbrev pub said_trace : Trace → List ℕ
@@ -55,6 +64,7 @@ said_trace t = flat_map said_value t.values ++ said_ending t.ending
 -- What a refusal says was appended. Want of memory is not said but ends the call.
 abbrev pub SaysRefusal : Refusal → List ℕ → List ℕ → Type 0
 SaysRefusal (At kind place) old new = new ≡ old ++ said_error kind place
+SaysRefusal (NotDefined place words) old new = new ≡ old ++ said_undefined place words
 SaysRefusal Memory old new = ⊥
 
 -- what is said of a line that begins with `:` and is no command

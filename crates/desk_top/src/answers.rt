@@ -1,13 +1,14 @@
 // The lines that a question is answered by.
 ghost use Rattle.std.specs.Prelude.{◌≡◌, ◌++◌, ◌<◌, List, ℕ, OnOk};
-ghost use Rattle.desk_top.specs.Said.{begins_with_colon, hex_digit, printed, printed_byte, said_no_command, said_question, said_value, said_error, said_trace, text_of, SaysAnswers, SaysLine, SaysRefusal};
+ghost use Rattle.desk_top.specs.Said.{begins_with_colon, hex_digit, printed, printed_byte, said_no_command, said_question, said_value, said_error, said_place, said_trace, said_undefined, text_of, SaysAnswers, SaysLine, SaysRefusal};
+ghost use Rattle.desk_top.specs.Errors.{undefined_text};
 ghost use Rattle.rel_eval.specs.Traces.{IsTraceOf, Trace};
 
 use crate::errors::error_text;
 use desk_base::{Bytes, decimal};
 use itoa::Buffer;
 use rel_eval::{Cursor, Pulled, Refusal, RelKind, Value, prepare};
-use rel_lexer::Place;
+use rel_lexer::{Place, Text};
 use std::alloc::{AllocError, Global};
 
 /// Appends a line and its answers.
@@ -67,6 +68,7 @@ fn say_refusal(refusal: Refusal, out: &mut Bytes) -> Result<(), AllocError>
 {
     match refusal {
         Refusal::At(kind, place) => say_error(kind, place, out),
+        Refusal::NotDefined(place, words) => say_undefined(place, &words, out),
         Refusal::Memory => Err(AllocError),
     }
 }
@@ -126,6 +128,31 @@ fn say_error(kind: RelKind, place: Place, out: &mut Bytes) -> Result<(), AllocEr
 {
     out.extend(b"E: ")?;
     out.extend(error_text(kind).as_bytes())?;
+    say_place(place, out)
+}
+
+#[tactic(auto, unfolding(crate::specs::Said::said_undefined))]
+fn say_undefined(place: Place, words: &Text, out: &mut Bytes) -> Result<(), AllocError>
+    ensures { OnOk result (out.new ≡ out.old ++ said_undefined place words.now) }
+{
+    out.extend(b"E: ")?;
+    say_undefined_text(words, out)?;
+    say_place(place, out)
+}
+
+#[tactic(auto, unfolding(crate::specs::Errors::undefined_text))]
+fn say_undefined_text(words: &Text, out: &mut Bytes) -> Result<(), AllocError>
+    ensures { OnOk result (out.new ≡ out.old ++ undefined_text words.now) }
+{
+    out.extend(b"The operator \"")?;
+    out.extend(words.as_str().as_bytes())?;
+    out.extend(b"\" is not defined.")
+}
+
+#[tactic(auto, unfolding(crate::specs::Said::said_place))]
+fn say_place(place: Place, out: &mut Bytes) -> Result<(), AllocError>
+    ensures { OnOk result (out.new ≡ out.old ++ said_place place) }
+{
     out.extend(b" (")?;
     decimal(u64::from(place.from), out)?;
     out.extend(b"..")?;

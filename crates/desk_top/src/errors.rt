@@ -16,6 +16,8 @@ pub(crate) fn error_text(kind: RelKind) -> &'static str
         RelKind::NoParse => "This expression could not be parsed.",
         RelKind::TooDeep => "The question is nested too deeply.",
         RelKind::OutOfRange => "A number is out of range.",
+        RelKind::NotSingular => "A singular expression is required.",
+        RelKind::Incompatible => "Incompatible types.",
         RelKind::BadNumber => "A number is too large.",
         RelKind::NotBuilt => "This form is not built.",
     }

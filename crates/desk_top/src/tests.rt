@@ -49,7 +49,7 @@ struct Case<'a> {
 
 #[test]
 fn questions_are_answered_line_by_line(rt: HostRuntime) -> Result<(), Fail> {
-    let cases: [(&[u8], &[u8]); 20] = [
+    let cases: [(&[u8], &[u8]); 23] = [
         (b"", b""),
         (b"(1 + 2); 4\n", b"Q: (1 + 2); 4\nA: 3\nA: 4\n"),
         (b"1 + 2\n", b"Q: 1 + 2\nA: 3\n"),
@@ -76,6 +76,15 @@ fn questions_are_answered_line_by_line(rt: HostRuntime) -> Result<(), Fail> {
             b"Q: \"%22a%22\"\nE: This form is not built. (0..0)\n",
         ),
         (b"true\n", b"Q: true\nE: This form is not built. (0..0)\n"),
+        (
+            b"(1; 2) + 3\n",
+            b"Q: (1; 2) + 3\nE: A singular expression is required. (0..6)\n",
+        ),
+        (b"1; true\n", b"Q: 1; true\nE: Incompatible types. (3..7)\n"),
+        (
+            b"1 is NOT contained by 2\n",
+            b"Q: 1 is NOT contained by 2\nE: The operator \"is not contained by\" is not defined. (2..21)\n",
+        ),
         (
             b"1 2\n",
             b"Q: 1 2\nE: This expression could not be parsed. (2..3)\n",

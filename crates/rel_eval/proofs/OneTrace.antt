@@ -1,5 +1,5 @@
 -- A text has one trace.
-use Rattle.std.proofs.Common.{◌≡◌, ◌≢◌, ℕ, List, Result, Ok, Err, inl, inr, sym, ap, ◌∙◌, subst}
+use Rattle.std.proofs.Common.{◌≡◌, ◌≢◌, ℕ, List, Result, None, Ok, Err, inl, inr, sym, ap, ◌∙◌, subst}
 use Rattle.rel_lexer.specs.declared.place.Place.{Place}
 use Rattle.rel_lexer.specs.declared.token_list.Tokens.{Tokens}
 use Rattle.rel_lexer.specs.declared.error.LexError.{LexError}
@@ -12,9 +12,13 @@ use Rattle.rel_grammar.specs.declared.error.ParseError.TheVariants as parse
 use Rattle.rel_grammar.specs.Trees.{Plain}
 use Rattle.rel_grammar.specs.Answers.{IsTreeOf}
 use Rattle.rel_grammar.proofs.OneTree.{parsed_is_one, parses, tree_is_one}
+use Rattle.rel_types.specs.declared.error.TypeError.{TypeError}
+use Rattle.rel_types.specs.declared.error.TypeError.TheVariants as typing
+use Rattle.rel_types.specs.Plans.{PlainNode}
+use Rattle.rel_types.specs.Typing.{typed}
 use Rattle.rel_eval.specs.BuiltSums.{sums_of}
-use Rattle.rel_eval.specs.Refusals.{IsLexRefusal, IsParseRefusal}
-use Rattle.rel_eval.specs.Traces.{Trace, failure, trace_of_sums, IsQuestionOf, LexerRefuses, ParserRefuses, IsRefusedAs, IsTraceOf}
+use Rattle.rel_eval.specs.Refusals.{IsLexRefusal, IsParseRefusal, IsTypeRefusal}
+use Rattle.rel_eval.specs.Traces.{Trace, failure, undefined, trace_of_sums, IsWellTypedTree, IsQuestionOf, LexerRefuses, ParserRefuses, CheckerRefuses, IsUndefined, IsRefusedAs, IsTraceOf}
 
 -- a refusal of the lexer's is for one thing, at one place
 lex_refusal_is_one : (e : LexError) (k l : RelKind) (p q : Place) → IsLexRefusal e k p → IsLexRefusal e l q → (k ≡ l) × (p ≡ q)
@@ -74,14 +78,63 @@ tree_or_none text tree k p t r =
     let same : tree_of tree ≡ no_tree_for r.2.0 = parsed_is_one text t.tokens r.0 (tree_of tree) (no_tree_for r.2.0) t.lexed r.1 (λ other. cc) (no_parse_memory r.2.0 k p r.2.2) (parses text tree t) r.2.1 in
     cc
 
+abbrev no_plan_for : TypeError → Result PlainNode TypeError
+no_plan_for e = Err e
+
+type_fault_injective : (a b : TypeError) → no_plan_for a ≡ no_plan_for b → a ≡ b
+type_fault_injective a b e = cc
+
+-- a refusal of the checker's is for one thing, at one place
+type_refusal_is_one : (e : TypeError) (k l : RelKind) (p q : Place) → IsTypeRefusal e k p → IsTypeRefusal e l q → (k ≡ l) × (p ≡ q)
+type_refusal_is_one (typing.NotDefined at words) k l p q a b = absurd a
+type_refusal_is_one (typing.NotSingular at) k l p q a b = (a.0 ∙ sym b.0, a.1 ∙ sym b.1)
+type_refusal_is_one (typing.Incompatible at) k l p q a b = (a.0 ∙ sym b.0, a.1 ∙ sym b.1)
+type_refusal_is_one typing.Memory k l p q a b = absurd a
+
+-- a text has one first fault in the order of checking
+type_fault_is_one : (text : List ℕ) (t u : Plain) (d e : TypeError) → IsTreeOf text t → IsTreeOf text u → typed None t ≡ Err d → typed None u ≡ Err e → d ≡ e
+type_fault_is_one text t u d e a b first second =
+    let same : typed None t ≡ typed None u = ap (typed None) (tree_is_one text t u a b) in
+    let faults : no_plan_for d ≡ no_plan_for e = sym first ∙ same ∙ second in
+    type_fault_injective d e faults
+
+-- a text that is well typed has none
+plan_or_fault : (text : List ℕ) (t u : Plain) (e : TypeError) → IsTreeOf text t → IsTreeOf text u → IsWellTypedTree t → typed None u ≡ Err e → ⊥
+plan_or_fault text t u e a b plan fault =
+    let same : typed None t ≡ typed None u = ap (typed None) (tree_is_one text t u a b) in
+    let well_typed : typed None t ≡ Ok plan.0 = plan.1 in
+    cc
+
+-- nothing is defined of some words, and the checker refuses something else
+undefined_or_refused : (e : TypeError) (k : RelKind) (p q : Place) (words : List ℕ) → e ≡ typing.NotDefined q words → IsTypeRefusal e k p → ⊥
+undefined_or_refused e k p q words is refused = let Refused : TypeError → Type 0 = λ x. IsTypeRefusal x k p in subst Refused is refused
+
 -- a question is not refused
 question_or_refusal : (text : List ℕ) (t : Trace) (k : RelKind) (p : Place) → IsQuestionOf text t → IsRefusedAs text k p → ⊥
 question_or_refusal text t k p q (inl r) = tree_or_no_tokens text q.0 k p q.1 r
 question_or_refusal text t k p q (inr (inl r)) = tree_or_none text q.0 k p q.1 r
-question_or_refusal text t k p q (inr (inr r)) =
+question_or_refusal text t k p q (inr (inr (inl r))) = plan_or_fault text q.0 r.0 r.2.0 q.1 r.1 q.2 r.2.1
+question_or_refusal text t k p q (inr (inr (inr r))) =
     let same : sums_of q.0 ≡ sums_of r.0 = ap sums_of (tree_is_one text q.0 r.0 q.1 r.1) in
-    let some = q.2.1 in
-    let none = r.2 in
+    let some = q.3.1 in
+    let none = r.3 in
+    cc
+
+-- a text with a word of which nothing is defined is no question
+question_or_undefined : (text : List ℕ) (t : Trace) (p : Place) (words : List ℕ) → IsQuestionOf text t → IsUndefined text p words → ⊥
+question_or_undefined text t p words q u = plan_or_fault text q.0 u.0 (typing.NotDefined p words) q.1 u.1 q.2 u.2
+
+-- and it is not refused for anything else
+refusal_or_undefined : (text : List ℕ) (k : RelKind) (p q : Place) (words : List ℕ) → IsRefusedAs text k p → IsUndefined text q words → ⊥
+refusal_or_undefined text k p q words (inl r) u = tree_or_no_tokens text u.0 k p u.1 r
+refusal_or_undefined text k p q words (inr (inl r)) u = tree_or_none text u.0 k p u.1 r
+refusal_or_undefined text k p q words (inr (inr (inl r))) u =
+    undefined_or_refused r.2.0 k p q words (type_fault_is_one text r.0 u.0 r.2.0 (typing.NotDefined q words) r.1 u.1 r.2.1 u.2) r.2.2
+refusal_or_undefined text k p q words (inr (inr (inr r))) u = plan_or_fault text r.0 u.0 (typing.NotDefined q words) r.1 u.1 r.2 u.2
+
+undefined_is_one : (text : List ℕ) (p q : Place) (v w : List ℕ) → IsUndefined text p v → IsUndefined text q w → undefined p v ≡ undefined q w
+undefined_is_one text p q v w a b =
+    let same : typing.NotDefined p v ≡ typing.NotDefined q w = type_fault_is_one text a.0 b.0 (typing.NotDefined p v) (typing.NotDefined q w) a.1 b.1 a.2 b.2 in
     cc
 
 no_tokens_for_one : (text : List ℕ) (k l : RelKind) (p q : Place) → LexerRefuses text k p → LexerRefuses text l q → (k ≡ l) × (p ≡ q)
@@ -100,27 +153,45 @@ no_tree_for_one text k l p q a b =
     let Refusal : ParseError → Type 0 = λ e. IsParseRefusal e k p in
     parse_refusal_is_one b.2.0 k l p q (subst Refusal same a.2.2) b.2.2
 
+no_plan_for_one : (text : List ℕ) (k l : RelKind) (p q : Place) → CheckerRefuses text k p → CheckerRefuses text l q → (k ≡ l) × (p ≡ q)
+no_plan_for_one text k l p q a b =
+    let same : a.2.0 ≡ b.2.0 = type_fault_is_one text a.0 b.0 a.2.0 b.2.0 a.1 b.1 a.2.1 b.2.1 in
+    let Refusal : TypeError → Type 0 = λ e. IsTypeRefusal e k p in
+    type_refusal_is_one b.2.0 k l p q (subst Refusal same a.2.2) b.2.2
+
 -- a text is refused for one thing, at one place
 refusal_is_one : (text : List ℕ) (k l : RelKind) (p q : Place) → IsRefusedAs text k p → IsRefusedAs text l q → (k ≡ l) × (p ≡ q)
 refusal_is_one text k l p q (inl a) (inl b) = no_tokens_for_one text k l p q a b
 refusal_is_one text k l p q (inl a) (inr (inl b)) = absurd (no_tree_or_no_tokens text l k q p b a)
-refusal_is_one text k l p q (inl a) (inr (inr b)) = absurd (tree_or_no_tokens text b.0 k p b.1 a)
+refusal_is_one text k l p q (inl a) (inr (inr (inl b))) = absurd (tree_or_no_tokens text b.0 k p b.1 a)
+refusal_is_one text k l p q (inl a) (inr (inr (inr b))) = absurd (tree_or_no_tokens text b.0 k p b.1 a)
 refusal_is_one text k l p q (inr (inl a)) (inl b) = absurd (no_tree_or_no_tokens text k l p q a b)
 refusal_is_one text k l p q (inr (inl a)) (inr (inl b)) = no_tree_for_one text k l p q a b
-refusal_is_one text k l p q (inr (inl a)) (inr (inr b)) = absurd (tree_or_none text b.0 k p b.1 a)
-refusal_is_one text k l p q (inr (inr a)) (inl b) = absurd (tree_or_no_tokens text a.0 l q a.1 b)
-refusal_is_one text k l p q (inr (inr a)) (inr (inl b)) = absurd (tree_or_none text a.0 l q a.1 b)
-refusal_is_one text k l p q (inr (inr a)) (inr (inr b)) = (a.3 ∙ sym b.3, a.4 ∙ sym b.4)
+refusal_is_one text k l p q (inr (inl a)) (inr (inr (inl b))) = absurd (tree_or_none text b.0 k p b.1 a)
+refusal_is_one text k l p q (inr (inl a)) (inr (inr (inr b))) = absurd (tree_or_none text b.0 k p b.1 a)
+refusal_is_one text k l p q (inr (inr (inl a))) (inl b) = absurd (tree_or_no_tokens text a.0 l q a.1 b)
+refusal_is_one text k l p q (inr (inr (inl a))) (inr (inl b)) = absurd (tree_or_none text a.0 l q a.1 b)
+refusal_is_one text k l p q (inr (inr (inl a))) (inr (inr (inl b))) = no_plan_for_one text k l p q a b
+refusal_is_one text k l p q (inr (inr (inl a))) (inr (inr (inr b))) = absurd (plan_or_fault text b.0 a.0 a.2.0 b.1 a.1 b.2 a.2.1)
+refusal_is_one text k l p q (inr (inr (inr a))) (inl b) = absurd (tree_or_no_tokens text a.0 l q a.1 b)
+refusal_is_one text k l p q (inr (inr (inr a))) (inr (inl b)) = absurd (tree_or_none text a.0 l q a.1 b)
+refusal_is_one text k l p q (inr (inr (inr a))) (inr (inr (inl b))) = absurd (plan_or_fault text a.0 b.0 b.2.0 a.1 b.1 a.2 b.2.1)
+refusal_is_one text k l p q (inr (inr (inr a))) (inr (inr (inr b))) = (a.4 ∙ sym b.4, a.5 ∙ sym b.5)
 
 pub trace_is_one : (text : List ℕ) (t u : Trace) → IsTraceOf text t → IsTraceOf text u → t ≡ u
 trace_is_one text t u (inl a) (inl b) =
-    let first = a.2.1 in
-    let second = b.2.1 in
+    let first = a.3.1 in
+    let second = b.3.1 in
     let tree : sums_of a.0 ≡ sums_of b.0 = ap sums_of (tree_is_one text a.0 b.0 a.1 b.1) in
-    let same : a.2.0 ≡ b.2.0 = cc in
-    a.2.2 ∙ ap trace_of_sums same ∙ sym b.2.2
-trace_is_one text t u (inl a) (inr b) = absurd (question_or_refusal text t b.0 b.1 a b.2)
-trace_is_one text t u (inr a) (inl b) = absurd (question_or_refusal text u a.0 a.1 b a.2)
-trace_is_one text t u (inr a) (inr b) =
+    let same : a.3.0 ≡ b.3.0 = cc in
+    a.3.2 ∙ ap trace_of_sums same ∙ sym b.3.2
+trace_is_one text t u (inl a) (inr (inl b)) = absurd (question_or_refusal text t b.0 b.1 a b.2)
+trace_is_one text t u (inl a) (inr (inr b)) = absurd (question_or_undefined text t b.0 b.1 a b.2)
+trace_is_one text t u (inr (inl a)) (inl b) = absurd (question_or_refusal text u a.0 a.1 b a.2)
+trace_is_one text t u (inr (inr a)) (inl b) = absurd (question_or_undefined text u a.0 a.1 b a.2)
+trace_is_one text t u (inr (inl a)) (inr (inr b)) = absurd (refusal_or_undefined text a.0 a.1 b.0 b.1 a.2 b.2)
+trace_is_one text t u (inr (inr a)) (inr (inl b)) = absurd (refusal_or_undefined text b.0 b.1 a.0 a.1 b.2 a.2)
+trace_is_one text t u (inr (inr a)) (inr (inr b)) = a.3 ∙ undefined_is_one text a.0 b.0 a.1 b.1 a.2 b.2 ∙ sym b.3
+trace_is_one text t u (inr (inl a)) (inr (inl b)) =
     let same = refusal_is_one text a.0 b.0 a.1 b.1 a.2 b.2 in
     a.3 ∙ ap (λ k. failure k a.1) same.0 ∙ ap (λ p. failure b.0 p) same.1 ∙ sym b.3

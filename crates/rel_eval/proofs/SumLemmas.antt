@@ -8,7 +8,7 @@ use Rattle.rel_grammar.specs.Views.{PlainLink, linked, parted, shown, shown_link
 use Rattle.rel_grammar.proofs.Shown.{shown-Link2}
 use Rattle.rel_eval.specs.declared.built_sums.Sum.{Sum}
 use Rattle.rel_eval.specs.declared.refusal.Refusal.{Refusal}
-use Rattle.rel_eval.specs.declared.refusal.Refusal.TheVariants.{At, Memory}
+use Rattle.rel_eval.specs.declared.refusal.Refusal.TheVariants.{At, NotDefined, Memory}
 use Rattle.rel_eval.specs.Refusals.{Answers}
 use Rattle.rel_eval.specs.BuiltSums.{and_sum, chain_sum, joined, part_sums, sum_of}
 
@@ -63,4 +63,5 @@ part_fails sums items i x whole before inside is none =
 -- A refusal for one thing is one for another.
 pub refused_too : {A B : Type 0} (e : Refusal) (P : A → Type 0) (Q : B → Type 0) (M N : Type 0) → (M → N) → Answers {T = A} (Err e) P M → Answers {T = B} (Err e) Q N
 refused_too (At kind place) P Q M N f (k, p, m) = (k, p, f m)
+refused_too (NotDefined place words) P Q M N f a = a
 refused_too Memory P Q M N f a = tt

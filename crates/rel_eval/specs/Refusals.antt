@@ -1,14 +1,16 @@
 -- Refusals, and what an answer is that may be one.
 use Rattle.std.specs.Prelude.{◌≡◌, ⊤, Result, Ok, Err}
 use Rattle.rel_eval.specs.declared.refusal.Refusal.{Refusal}
-use Rattle.rel_eval.specs.declared.refusal.Refusal.TheVariants.{At, Memory}
+use Rattle.rel_eval.specs.declared.refusal.Refusal.TheVariants.{At, NotDefined, Memory}
 use Rattle.rel_eval.specs.declared.refusal.RelKind.{RelKind}
-use Rattle.rel_eval.specs.declared.refusal.RelKind.TheVariants.{BadByte, BadEscape, UnclosedString, UnclosedComment, TooLong, NoParse, TooDeep, BadNumber, NotBuilt}
+use Rattle.rel_eval.specs.declared.refusal.RelKind.TheVariants.{BadByte, BadEscape, UnclosedString, UnclosedComment, TooLong, NoParse, TooDeep, NotSingular, Incompatible, BadNumber, NotBuilt}
 use Rattle.rel_lexer.specs.declared.place.Place.{Place}
 use Rattle.rel_lexer.specs.declared.error.LexError.{LexError}
 use Rattle.rel_lexer.specs.declared.error.LexError.TheVariants as lex
 use Rattle.rel_grammar.specs.declared.error.ParseError.{ParseError}
 use Rattle.rel_grammar.specs.declared.error.ParseError.TheVariants as parse
+use Rattle.rel_types.specs.declared.error.TypeError.{TypeError}
+use Rattle.rel_types.specs.declared.error.TypeError.TheVariants as typing
 
 -- the start of the text, and no byte of it
 abbrev pub nowhere : Place
@@ -30,18 +32,34 @@ IsParseRefusal (parse.NoParse at) kind place = (kind ≡ NoParse) × (place ≡ 
 IsParseRefusal (parse.TooDeep at) kind place = (kind ≡ TooDeep) × (place ≡ at)
 IsParseRefusal parse.Memory kind place = ⊥
 
+-- The checker's refusal is one for this, at this place. That nothing is defined of some words is a refusal of its own.
+abbrev pub IsTypeRefusal : TypeError → RelKind → Place → Type 0
+IsTypeRefusal (typing.NotDefined at words) kind place = ⊥
+IsTypeRefusal (typing.NotSingular at) kind place = (kind ≡ NotSingular) × (place ≡ at)
+IsTypeRefusal (typing.Incompatible at) kind place = (kind ≡ Incompatible) × (place ≡ at)
+IsTypeRefusal typing.Memory kind place = ⊥
+
 -- The refusal is the lexer's.
 abbrev pub IsRefusalOf : LexError → Refusal → Type 0
 IsRefusalOf error (At kind place) = IsLexRefusal error kind place
+IsRefusalOf error (NotDefined place words) = ⊥
 IsRefusalOf error Memory = error ≡ lex.Memory
 
 -- The refusal is the parser's.
 abbrev pub IsRefusalOfParser : ParseError → Refusal → Type 0
 IsRefusalOfParser error (At kind place) = IsParseRefusal error kind place
+IsRefusalOfParser error (NotDefined place words) = ⊥
 IsRefusalOfParser error Memory = error ≡ parse.Memory
+
+-- The refusal is the checker's.
+abbrev pub IsRefusalOfChecker : TypeError → Refusal → Type 0
+IsRefusalOfChecker error (At kind place) = IsTypeRefusal error kind place
+IsRefusalOfChecker error (NotDefined place words) = error ≡ typing.NotDefined place words
+IsRefusalOfChecker error Memory = error ≡ typing.Memory
 
 -- Temporary: an answer is right, or it is the refusal NotBuilt where there is none, or it is want of memory.
 abbrev pub Answers : {T : Type 0} → Result T Refusal → (T → Type 0) → Type 0 → Type 0
 Answers (Ok x) IsRight IsNone = IsRight x
 Answers (Err (At kind place)) IsRight IsNone = (kind ≡ NotBuilt) × (place ≡ nowhere) × IsNone
+Answers (Err (NotDefined place words)) IsRight IsNone = ⊥
 Answers (Err Memory) IsRight IsNone = ⊤

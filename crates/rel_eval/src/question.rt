@@ -6,6 +6,7 @@ use crate::cursor::Cursor;
 use crate::refusal::Refusal;
 use rel_grammar::parse;
 use rel_lexer::tokens;
+use rel_types::check;
 use std::alloc::{AllocError, Global};
 use std::marker::Model;
 
@@ -24,14 +25,16 @@ impl Model for Question {
     ghost view = { λ q. trace_of_sums q.sums.items };
 }
 
-/// Prepares a question from its text. A text that the lexer refuses is refused with its first fault, and one whose tokens the parser
-/// refuses with the first that is wrong. For now a question is refused as NotBuilt at (0..0) that has anything but numbers,
-/// `+`, brackets without filter and object, and semicolons outside all brackets.
+/// Prepares a question from its text. A text that the lexer refuses is refused with its first fault, one whose tokens the parser
+/// refuses with the first that is wrong, and one that isn't well typed with the first fault in the order of checking. For now a
+/// question is refused as NotBuilt at (0..0) that is well typed and has anything but numbers, `+`, brackets without filter and
+/// object, and semicolons outside all brackets.
 pub fn prepare(alloc: Global, text: &[u8]) -> Result<Question, Refusal>
     ensures { Prepares text.now result }
 {
     let tokens = tokens(alloc, text)?;
     let tree = parse(alloc, &tokens)?;
+    check(alloc, &tree)?;
     Ok(Question {
         sums: sums_of(alloc, &tree)?,
     })

@@ -3,7 +3,8 @@ ghost use Rattle.rel_eval.specs.Kinds.{number_of};
 ghost use Rattle.rel_eval.specs.declared.refusal.Refusal.TheVariants.{Memory};
 
 use rel_grammar::ParseError;
-use rel_lexer::{LexError, Place};
+use rel_lexer::{LexError, Place, Text};
+use rel_types::TypeError;
 use std::alloc::{AllocError, AllocFailed};
 
 /// What a question is refused for, or ends with in place of a further value.
@@ -25,6 +26,10 @@ pub enum RelKind {
     TooDeep = 7,
     /// A sum is no number of an i64, at the place of its `+`.
     OutOfRange = 9,
+    /// More than one value may stand where one is needed, at what may give them.
+    NotSingular = 13,
+    /// A part, branch or side has another kind than what stands beside it, or a filter or test isn't Boolean, at its place.
+    Incompatible = 14,
     /// A number is above 9223372036854775807, at its place.
     BadNumber = 18,
     /// Temporary: the text is a question whose meaning is not built so far, at (0..0).
@@ -41,10 +46,13 @@ impl RelKind {
 }
 
 /// Why a text is no question.
-#[derive(Clone, Copy, Debug, PartialEq, Eq)]
+#[derive(Debug, Drop)]
 pub enum Refusal {
     /// It is refused for this, at this place.
     At(RelKind, Place),
+    /// Nothing is defined of these words here, which are those of a name, a sign, a cast or `it`, in lower case and joined by
+    /// one space.
+    NotDefined(Place, Text),
     /// Memory ran out.
     Memory,
 }
@@ -83,6 +91,21 @@ impl From<ParseError> for Refusal {
             ParseError::NoParse(place) => Refusal::At(RelKind::NoParse, place),
             ParseError::TooDeep(place) => Refusal::At(RelKind::TooDeep, place),
             ParseError::Memory => Refusal::Memory,
+        }
+    }
+}
+
+impl From<TypeError> for Refusal {
+    ghost use Rattle.rel_eval.specs.Refusals.{IsRefusalOfChecker};
+
+    ghost from_gives = { IsRefusalOfChecker };
+
+    fn from(error: TypeError) -> Refusal {
+        match error {
+            TypeError::NotDefined(place, words) => Refusal::NotDefined(place, words),
+            TypeError::NotSingular(place) => Refusal::At(RelKind::NotSingular, place),
+            TypeError::Incompatible(place) => Refusal::At(RelKind::Incompatible, place),
+            TypeError::Memory => Refusal::Memory,
         }
     }
 }

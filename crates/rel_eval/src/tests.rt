@@ -3,8 +3,6 @@ use rel_lexer::Place;
 use std::alloc::Global;
 use std::test::Fail;
 
-const NOT_BUILT: Refusal = Refusal::At(RelKind::NotBuilt, Place { from: 0, to: 0 });
-
 fn integer(number: i64) -> Pulled {
     Pulled::Value(Value::Integer(number))
 }
@@ -77,8 +75,26 @@ fn nested(
     Ok(text)
 }
 
-fn refused(kind: RelKind, from: u32, to: u32) -> Option<Refusal> {
-    Some(Refusal::At(kind, Place { from, to }))
+/// What a text is refused for, and where.
+fn refusal(alloc: Global, text: &[u8]) -> Option<(RelKind, Place)> {
+    match prepare(alloc, text) {
+        Err(Refusal::At(kind, place)) => Some((kind, place)),
+        _ => None,
+    }
+}
+
+fn refused(kind: RelKind, from: u32, to: u32) -> Option<(RelKind, Place)> {
+    Some((kind, Place { from, to }))
+}
+
+/// Whether a text is refused since nothing is defined of these words there.
+fn is_undefined(alloc: Global, text: &[u8], words: &str, from: u32, to: u32) -> bool {
+    match prepare(alloc, text) {
+        Err(Refusal::NotDefined(place, found)) => {
+            place == Place { from, to } && found.as_str() == words
+        }
+        _ => false,
+    }
 }
 
 #[test]
@@ -86,7 +102,7 @@ fn a_question_whose_meaning_is_not_built_is_told(rt: HostRuntime) -> Result<(), 
     let alloc = rt.alloc();
     let texts: [&[u8]; 16] = [
         b"true",
-        b"it",
+        b"it of 5",
         b"\"1\"",
         b"-1",
         b"1 - 1",
@@ -96,14 +112,18 @@ fn a_question_whose_meaning_is_not_built_is_told(rt: HostRuntime) -> Result<(), 
         b"(1;2)",
         b"(1;2); 3",
         b"1, 2",
-        b"1; 2, 3",
+        b"(1, 2); (3, 4)",
         b"(1) whose (true)",
         b"1 of 2",
         b"1 as string",
         b"if true then 1 else 2",
     ];
     for text in texts {
-        assert_eq!(rt; prepare(alloc, text).err(), Some(NOT_BUILT), "at {text:?}");
+        assert_eq!(rt;
+            refusal(alloc, text),
+            refused(RelKind::NotBuilt, 0, 0),
+            "at {text:?}"
+        );
     }
     Ok(())
 }
@@ -132,7 +152,7 @@ fn the_first_token_that_is_wrong_is_told(rt: HostRuntime) -> Result<(), Fail> {
     ];
     for (text, from, to) in cases {
         assert_eq!(rt;
-            prepare(alloc, text).err(),
+            refusal(alloc, text),
             refused(RelKind::NoParse, from, to),
             "at {text:?}"
         );
@@ -145,11 +165,11 @@ fn brackets_nest_64_deep(rt: HostRuntime) -> Result<(), Fail> {
     let alloc = rt.alloc();
     assert!(rt; prepare(alloc, &nested(alloc, b"(", 64, b"1", b")")?).is_ok());
     assert_eq!(rt;
-        prepare(alloc, &nested(alloc, b"(", 65, b"1", b")")?).err(),
+        refusal(alloc, &nested(alloc, b"(", 65, b"1", b")")?),
         refused(RelKind::TooDeep, 64, 65)
     );
     assert_eq!(rt;
-        prepare(alloc, &nested(alloc, b"(", 64, b")", b"")?).err(),
+        refusal(alloc, &nested(alloc, b"(", 64, b")", b"")?),
         refused(RelKind::NoParse, 64, 65)
     );
     assert!(rt; prepare(alloc, &nested(alloc, b" ", 65_535, b"1", b"")?).is_ok());
@@ -159,7 +179,7 @@ fn brackets_nest_64_deep(rt: HostRuntime) -> Result<(), Fail> {
 #[test]
 fn a_text_without_tokens_is_refused_with_its_first_fault(rt: HostRuntime) -> Result<(), Fail> {
     let alloc = rt.alloc();
-    let cases: [(&[u8], Option<Refusal>); 9] = [
+    let cases: [(&[u8], Option<(RelKind, Place)>); 9] = [
         (b"\"%ff\"", refused(RelKind::BadEscape, 0, 5)),
         (b"\"abc", refused(RelKind::UnclosedString, 0, 4)),
         (b"/*", refused(RelKind::UnclosedComment, 0, 2)),
@@ -171,14 +191,55 @@ fn a_text_without_tokens_is_refused_with_its_first_fault(rt: HostRuntime) -> Res
         (b" :more", refused(RelKind::BadByte, 1, 2)),
     ];
     for (text, wanted) in cases {
-        assert_eq!(rt; prepare(alloc, text).err(), wanted, "at {text:?}");
+        assert_eq!(rt; refusal(alloc, text), wanted, "at {text:?}");
     }
     let text = nested(alloc, b" ", 65_536, b"?", b"")?;
-    assert_eq!(rt;
-        prepare(alloc, &text).err(),
-        refused(RelKind::TooLong, 0, 0)
-    );
+    assert_eq!(rt; refusal(alloc, &text), refused(RelKind::TooLong, 0, 0));
     Ok(())
+}
+
+#[test]
+fn the_first_fault_of_kinds_is_told(rt: HostRuntime) {
+    let cases: [(&[u8], RelKind, u32, u32); 6] = [
+        (b"(1; 2) + 3", RelKind::NotSingular, 0, 6),
+        (b"1 whose (1; 2)", RelKind::NotSingular, 8, 14),
+        (b"1; \"a\"", RelKind::Incompatible, 3, 6),
+        (b"1; 2, 3", RelKind::Incompatible, 3, 7),
+        (b"1 whose (it)", RelKind::Incompatible, 8, 12),
+        (b"if 1 then foo else 2", RelKind::Incompatible, 3, 4),
+    ];
+    for (text, kind, from, to) in cases {
+        assert_eq!(rt;
+            refusal(rt.alloc(), text),
+            refused(kind, from, to),
+            "at {text:?}"
+        );
+    }
+}
+
+#[test]
+fn words_of_which_nothing_is_defined_are_told(rt: HostRuntime) {
+    let cases: [(&[u8], &str, u32, u32); 8] = [
+        (b"foo", "foo", 0, 3),
+        (b"it", "it", 0, 2),
+        (b"item 2 of (1, 2)", "item", 0, 6),
+        (b"1 < true", "<", 2, 3),
+        (b"\"a\" + 1", "+", 4, 5),
+        (b"true as boolean", "boolean", 8, 15),
+        (b"1 as foo  bar", "foo bar", 5, 13),
+        (
+            b"1 is /* c */ not contained by 2",
+            "is not contained by",
+            2,
+            29,
+        ),
+    ];
+    for (text, words, from, to) in cases {
+        assert!(rt;
+            is_undefined(rt.alloc(), text, words, from, to),
+            "at {text:?}"
+        );
+    }
 }
 
 #[test]
@@ -192,6 +253,8 @@ fn kinds_have_their_numbers(rt: HostRuntime) {
         (RelKind::NoParse, 6),
         (RelKind::TooDeep, 7),
         (RelKind::OutOfRange, 9),
+        (RelKind::NotSingular, 13),
+        (RelKind::Incompatible, 14),
         (RelKind::BadNumber, 18),
         (RelKind::NotBuilt, 19),
     ];

@@ -1,4 +1,5 @@
--- Tokens written one after another, with a blank where two would run together.
+-- Tokens written one after another, with a blank where two would run together. A pen is the text so far and the kind of its last
+-- token.
 use Rattle.std.specs.Prelude.{ℕ, ℤ, Bool, true, false, ◌&&◌, ◌==◌, if◌then◌else◌, List, [], ◌∷◌, ◌++◌, codes}
 use Rattle.std.specs.Char.{is_ascii_hexdigit}
 use Rattle.std.specs.Fmt.{signed_decimal}
@@ -40,10 +41,11 @@ abbrev pub gap : Bool → List ℕ
 gap true = 32 ∷ []
 gap false = []
 
+-- a pen that has written nothing
 abbrev pub blank_page : Pen
 blank_page = record { text = []; last = last.Other }
 
--- after a token of a kind is written, whose bytes are these
+-- the pen after one more token, of this kind and with these bytes
 abbrev pub put : Last → List ℕ → Pen → Pen
 put next bytes pen = record { text = (pen.text ++ gap (run_together pen.last next)) ++ bytes; last = next }
 
@@ -63,7 +65,7 @@ begins_hex [] = false
 begins_hex (b ∷ []) = false
 begins_hex (b ∷ c ∷ bs) = is_ascii_hexdigit b && is_ascii_hexdigit c
 
--- each `"` as `%22`
+-- each `"` as `%22`, as the code does to what stands between two `%`
 abbrev pub quotes_escaped : List ℕ → List ℕ
 quotes_escaped [] = []
 quotes_escaped (b ∷ bs) = (if b == 34 then codes "%22" else b ∷ []) ++ quotes_escaped bs

@@ -1,4 +1,4 @@
--- What is written for a tree: the page after it, from the page before.
+-- What is written for a tree: the pen after it, from the pen before.
 use Rattle.std.specs.Prelude.{Bool, true, false, ◌&&◌, List, [], ◌∷◌, codes}
 use Rattle.rel_lexer.specs.declared.sign.Sign.{Sign}
 use Rattle.rel_lexer.specs.declared.sign.Sign.TheVariants as lex
@@ -64,7 +64,7 @@ abbrev pub followed : Held → Held → Bool
 followed no_tree o = is_tree o
 followed (a_tree f) o = true
 
--- in brackets, unless it is a single token that a filter or an object follows
+-- in brackets, where they are needed
 abbrev pub in_brackets_unless : Bool → (Pen → Pen) → Pen → Pen
 in_brackets_unless true write pen = write pen
 in_brackets_unless false write pen = put_sign lex.CloseBracket (write (put_sign lex.OpenBracket pen))
@@ -108,6 +108,6 @@ abbrev mutual
   written_parts sign no_parts pen = pen
   written_parts sign (more_parts ps t) pen = written t (separated sign ps (written_parts sign ps pen))
 
--- the body of a head
+-- the body of a head, as `written` has it, where a filter or an object follows or none does; the code's function is told which
 abbrev pub written_head : Bool → Plain → Pen → Pen
-written_head f b pen = in_brackets_unless (f && is_single b) (written b) pen
+written_head follows b pen = in_brackets_unless (follows && is_single b) (written b) pen

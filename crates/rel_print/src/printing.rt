@@ -12,7 +12,7 @@ use rel_grammar::{CastList, LinkList, Tree, TreeList};
 use rel_lexer::{BinarySign, Sign, Text, UnarySign};
 use std::alloc::{AllocError, Global};
 
-/// A text that reads as this tree, but for the places. It has no blank, bracket or escape that it can do without.
+/// A text that reads as this tree, but for the places. Blanks, brackets and escapes stand only where they are needed.
 pub fn print(alloc: Global, tree: &Tree) -> Result<Text, AllocError>
     // Of the tree of a text it reads as the same tree but for places.
     ensures reads { IfOk result (λ text. (source : List ℕ) → IsTreeOf source (shown tree.now) → ReadsAs text (shown tree.now)) }

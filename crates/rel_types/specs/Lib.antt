@@ -1,0 +1,15 @@
+pub mod Plans
+pub mod Views
+pub mod Outcomes
+pub mod Alike
+pub mod Rows
+pub mod Properties
+pub mod Aggregates
+pub mod Heads
+pub mod Casts
+pub mod Signs
+pub mod Typing
+pub mod WellTyped
+pub mod Agreement
+pub mod Tables
+pub mod Shown
