@@ -1,0 +1,24 @@
+-- What a look does.
+use Rattle.std.specs.Prelude.{◌≡◌, List, [], ◌∷◌, ⊤, Some}
+use Rattle.std.specs.declared.option.Option.{Option}
+use Rattle.bf_world.specs.declared.key.Key.{Key}
+use Rattle.bf_world.specs.Answers.{IsGoodAnswer}
+use Rattle.bf_world.specs.Shown.{shown}
+use Rattle.bf_world.specs.Worlds.{WorldState}
+use Rattle.bf_machine.specs.declared.machine.Looked.{Looked}
+use Rattle.bf_machine.specs.declared.machine.Looked.TheVariants as looked
+
+-- An answer is what is shown of the told world.
+abbrev pub Shows : Option WorldState → Key → Looked → Type 0
+Shows world key (looked.Answer answer) = (w : WorldState) → world ≡ Some w → answer ≡ shown w key
+Shows world key _ = ⊤
+
+-- the keys that a look adds: its own where it answers
+abbrev pub keys_added : Key → Looked → List Key
+keys_added key (looked.Answer answer) = key ∷ []
+keys_added key _ = []
+
+-- An answer is a good one, whether the world is told or not.
+abbrev pub IsGood : Looked → Type 0
+IsGood (looked.Answer answer) = IsGoodAnswer answer
+IsGood _ = ⊤

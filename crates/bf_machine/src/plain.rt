@@ -1,0 +1,203 @@
+ghost use Rattle.std.specs.Prelude.{◌≡◌, ◌≢◌, ◌<◌, ◌≤◌, ◌∷◌, ◌++◌, [], length, Some, IfOk, OnErr};
+ghost use Rattle.desk_base.specs.Counts.{Rose};
+ghost use Rattle.desk_base.specs.Moments.{IsMoment};
+ghost use Rattle.bf_world.specs.Answers.{HasMoment, IsGoodAnswer};
+ghost use Rattle.bf_world.specs.Shown.{shown};
+ghost use Rattle.bf_machine.specs.Told.{Told, Grows};
+ghost use Rattle.bf_machine.specs.Looks.{Shows, keys_added, IsGood};
+ghost use Rattle.bf_machine.specs.Acts.{Acts, commands_added, CountsStarted};
+ghost use Rattle.bf_machine.specs.Polls.{Polls};
+ghost use Rattle.bf_machine.specs.Plain.{unasked, counted, faults_of, LooksPlain, ActsPlain, PollsPlain};
+
+use crate::{Looked, Machine};
+use bf_world::{Acted, Answer, Command, Key, Polled, ProcessNo, World};
+use desk_base::Calls;
+use rel_lexer::Text;
+use std::alloc::{AllocError, Global};
+use std::marker::Model;
+
+/// The machine over a described world. It keeps what was looked up and done.
+#[derive(Drop)]
+pub struct PlainMachine {
+    world: World,
+    looked: Vec<Key>,
+    acted: Vec<Command>,
+    looks: Calls,
+    acts: Calls,
+    polls: Calls,
+}
+
+impl Model for PlainMachine {
+    ghost use Rattle.bf_machine.specs.Plain.{PlainState};
+
+    ghost Value = { PlainState };
+
+    ghost view = { λ m. record {
+      world = m.world;
+      looked = m.looked.items;
+      acted = m.acted.items;
+      looks = m.looks;
+      acts = m.acts;
+      polls = m.polls;
+    } };
+}
+
+impl PlainMachine {
+    /// A machine over this world. The looks, acts and polls with these numbers fail, each counted from 1.
+    pub fn new(
+        alloc: Global,
+        world: World,
+        looks: Vec<u32>,
+        acts: Vec<u32>,
+        polls: Vec<u32>,
+    ) -> PlainMachine
+        ensures { result ≡ unasked world looks.items acts.items polls.items }
+    {
+        PlainMachine {
+            world,
+            looked: Vec::new(alloc),
+            acted: Vec::new(alloc),
+            looks: Calls::new(alloc, looks),
+            acts: Calls::new(alloc, acts),
+            polls: Calls::new(alloc, polls),
+        }
+    }
+
+    /// The world.
+    pub fn world(&self) -> &World
+        ensures { result.now ≡ self.now.world }
+    {
+        &self.world
+    }
+
+    /// The keys of the looks that answered, in their order.
+    pub fn looked(&self) -> &[Key]
+        ensures { result.now ≡ self.now.looked }
+    {
+        self.looked.as_slice()
+    }
+
+    /// The commands that were done, started or refused, in their order.
+    pub fn acted(&self) -> &[Command]
+        ensures { result.now ≡ self.now.acted }
+    {
+        self.acted.as_slice()
+    }
+
+    /// Looks something up, and keeps its key.
+    fn answer(&mut self, key: &Key) -> Result<Answer, AllocError>
+        ensures shown { IfOk result (λ answer. answer ≡ shown self.old.world key.now) }
+        ensures good { IfOk result IsGoodAnswer }
+        ensures kept { IfOk result (λ answer. self.new ≡ record self.old { looked = self.old.looked ++ key.now ∷ [] }) }
+        ensures err { OnErr result (self.new ≡ self.old) }
+    {
+        let answer = self.world.look(key)?;
+        self.looked.push(key.copy()?)?;
+        Ok(answer)
+    }
+
+    /// Does a command, and keeps it where it is done, started or refused.
+    fn carry_out(&mut self, command: &Command, moment: i64) -> Acted
+        requires moment { IsMoment moment }
+        requires date { HasMoment command.now }
+        ensures acts { Acts self.old.world self.new.world command.now moment result }
+        ensures acted { self.new.acted ≡ self.old.acted ++ commands_added command.now result }
+        ensures started { CountsStarted (length self.old.world.started) (length self.new.world.started) result }
+        ensures rest { self.new ≡ record self.old { world = self.new.world; acted = self.new.acted } }
+        ensures never { result ≢ Acted.Failed }
+    {
+        let Ok(kept) = command.copy() else {
+            return Acted::Memory;
+        };
+        if self.acted.push(kept).is_err() {
+            return Acted::Memory;
+        }
+        match self.world.act(command, moment) {
+            Acted::Done => Acted::Done,
+            Acted::Started(process) => Acted::Started(process),
+            Acted::Refused(reason) => Acted::Refused(reason),
+            Acted::Failed | Acted::Memory => {
+                self.acted.pop();
+                Acted::Memory
+            }
+        }
+    }
+}
+
+impl Machine for PlainMachine {
+    ghost world = { λ m. Some m.world };
+
+    ghost looked = { λ m. Some m.looked };
+
+    ghost acted = { λ m. Some m.acted };
+
+    ghost started = { λ m. length m.world.started };
+
+    ghost faults = { λ m. faults_of m };
+
+    fn open(&mut self, _work: &Text) -> Result<(), AllocError> {
+        Ok(())
+    }
+
+    fn look(&mut self, key: &Key) -> Looked
+        ensures shows { Shows (Some self.old.world) key.now result }
+        ensures good { IsGood result }
+        ensures world { Some self.new.world ≡ Some self.old.world }
+        ensures looked { Grows (Some self.old.looked) (Some self.new.looked) (keys_added key.now result) }
+        ensures acted { Some self.new.acted ≡ Some self.old.acted }
+        ensures started { length self.new.world.started ≡ length self.old.world.started }
+        ensures later { faults_of self.old ≤ faults_of self.new }
+        ensures failed { result ≡ Looked.Failed → Rose (faults_of self.old) (faults_of self.new) }
+        ensures steady { result ≢ Looked.Failed → faults_of self.new ≡ faults_of self.old }
+        ensures plain { LooksPlain self.old self.new result }
+    {
+        if self.looks.begin() {
+            self.looks.fault();
+            return Looked::Failed;
+        }
+        match self.answer(key) {
+            Ok(answer) => Looked::Answer(answer),
+            Err(_) => Looked::Memory,
+        }
+    }
+
+    fn act(&mut self, command: &Command, moment: i64) -> Acted
+        requires moment { IsMoment moment }
+        requires date { HasMoment command.now }
+        ensures acts { Told (Some self.old.world) (Some self.new.world)
+            (λ old new. Acts old new command.now moment result) }
+        ensures looked { Some self.new.looked ≡ Some self.old.looked }
+        ensures acted { Grows (Some self.old.acted) (Some self.new.acted) (commands_added command.now result) }
+        ensures started { CountsStarted (length self.old.world.started) (length self.new.world.started) result }
+        ensures later { faults_of self.old ≤ faults_of self.new }
+        ensures failed { result ≡ Acted.Failed → Rose (faults_of self.old) (faults_of self.new) }
+        ensures steady { result ≢ Acted.Failed → faults_of self.new ≡ faults_of self.old }
+        ensures plain { ActsPlain self.old self.new result }
+    {
+        if self.acts.begin() {
+            self.acts.fault();
+            return Acted::Failed;
+        }
+        self.carry_out(command, moment)
+    }
+
+    fn poll(&mut self, process: ProcessNo) -> Polled
+        requires { process.0 < length self.old.world.started }
+        ensures polls { Told (Some self.old.world) (Some self.new.world) (λ old new. Polls old new process.0 result) }
+        ensures looked { Some self.new.looked ≡ Some self.old.looked }
+        ensures acted { Some self.new.acted ≡ Some self.old.acted }
+        ensures started { length self.new.world.started ≡ length self.old.world.started }
+        ensures later { faults_of self.old ≤ faults_of self.new }
+        ensures failed { result ≡ Polled.Failed → Rose (faults_of self.old) (faults_of self.new) }
+        ensures steady { result ≢ Polled.Failed → faults_of self.new ≡ faults_of self.old }
+        ensures plain { PollsPlain self.old self.new result }
+    {
+        if self.polls.begin() {
+            self.polls.fault();
+            return Polled::Failed;
+        }
+        self.world.poll(process.0)
+    }
+
+    ghost counted = { counted };
+}

@@ -1,0 +1,9 @@
+pub mod FieldLemmas
+pub mod PathLemmas
+pub mod RowLemmas
+pub mod OneRow
+pub mod AddLemmas
+pub mod RowLists
+pub mod HeadLemmas
+pub mod StopLemmas
+pub mod PassLemmas

@@ -1,0 +1,4 @@
+pub mod Drafts
+pub mod Rows
+pub mod Texts
+pub mod Readings

@@ -1,0 +1,68 @@
+ghost use Rattle.world_text.specs.Drafts.{IsSoundPending};
+ghost use Rattle.world_text.specs.Texts.{ReadsWorld};
+ghost use Rattle.world_text.specs.Readings.{ReadsLines, ReadsBody, ReadsRows};
+
+use crate::ahead::{row_ahead, skip_line, take_end};
+use crate::draft::Draft;
+use crate::error::WorldError;
+use crate::fault::Fault;
+use crate::head::read_head;
+use bf_world::World;
+use line_forms::Lines;
+use rel_lexer::Text;
+use std::alloc::Global;
+
+/// Reads a world text, whose last line is `end`. A text that describes no machine is answered by its first bad line.
+pub fn read_world(alloc: Global, text: &[u8]) -> Result<World, WorldError>
+    ensures { ReadsWorld text.now result }
+{
+    let mut lines = Lines::new(text);
+    match read_lines(alloc, &mut lines) {
+        Ok(world) => Ok(world),
+        Err(Fault::Bad) => Err(WorldError::BadLine(lines.number())),
+        Err(Fault::Memory) => Err(WorldError::Memory),
+    }
+}
+
+/// Reads the lines of a world. Where they aren't one, the first bad line is ahead afterwards.
+fn read_lines(alloc: Global, lines: &mut Lines<'_>) -> Result<World, Fault>
+    ensures { ReadsLines lines.old lines.new result }
+{
+    let Some(head) = read_head(lines) else {
+        return Err(Fault::Bad);
+    };
+    let name = Text::from_str(alloc, head.name)?;
+    let system = Text::from_str(alloc, head.system)?;
+    let version = Text::from_str(alloc, head.version)?;
+    let world = World::new(alloc, name, system, version, head.offset, head.moment);
+    let mut draft = Draft::just(world);
+    match read_body(alloc, &mut draft, lines) {
+        Ok(()) => Ok(draft.world),
+        Err(fault) => Err(fault),
+    }
+}
+
+/// Adds the lines behind a head to its world, and takes `end`, which is to end the text.
+fn read_body(alloc: Global, draft: &mut Draft, lines: &mut Lines<'_>) -> Result<(), Fault>
+    requires { IsSoundPending draft.old.pending }
+    ensures { ReadsBody draft.old lines.old lines.new draft.new result }
+{
+    read_rows(alloc, draft, lines)?;
+    if !take_end(lines) {
+        return Err(Fault::Bad);
+    }
+    draft.settle()?;
+    Ok(())
+}
+
+/// Adds the lines before `end`, and stops at the first bad one.
+fn read_rows(alloc: Global, draft: &mut Draft, lines: &mut Lines<'_>) -> Result<(), Fault>
+    requires { IsSoundPending draft.old.pending }
+    ensures { ReadsRows draft.old lines.old lines.new draft.new result }
+{
+    while let Some(line) = row_ahead(lines) {
+        draft.add_line(alloc, line)?;
+        skip_line(lines);
+    }
+    Ok(())
+}
