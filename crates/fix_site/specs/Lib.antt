@@ -1,0 +1,10 @@
+pub mod Ids
+pub mod RuleLines
+pub mod Actions
+pub mod Contents
+pub mod Blocks
+pub mod Sites
+pub mod Answers
+pub mod Pieces
+pub mod Readings
+pub mod BlockHeads
