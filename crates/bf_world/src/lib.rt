@@ -21,6 +21,7 @@ pub use command::{Acted, Command, Polled, ProcessNo, Reason};
 pub use key::Key;
 pub use lists::{EntryList, NameList, PackageList, SettingList};
 pub use parts::{Node, Program, Run, SettingValue};
+pub use path::{is_part, is_path, joined, last_name};
 pub use text_map::TextMap;
 pub use world::World;
 

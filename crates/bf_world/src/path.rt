@@ -6,14 +6,14 @@ use rel_lexer::Text;
 use std::alloc::{AllocError, Global};
 
 /// Whether a text is one part of a path.
-pub(crate) fn is_part(text: &str) -> bool
+pub fn is_part(text: &str) -> bool
     ensures { result ≡ is_part text.now }
 {
     read_part(text.as_bytes()).is_some()
 }
 
 /// Whether a text is a path.
-pub(crate) fn is_path(text: &str) -> bool
+pub fn is_path(text: &str) -> bool
     ensures { result ≡ is_path text.now }
 {
     read_path(text.as_bytes()).is_some()
@@ -27,7 +27,7 @@ pub(crate) fn is_free(text: &str) -> bool
 }
 
 /// The last part of a path.
-pub(crate) fn last_name(path: &str) -> &str
+pub fn last_name(path: &str) -> &str
     ensures { result.now ≡ last_name path.now }
 {
     match last_part(path.as_bytes()) {
@@ -54,7 +54,7 @@ fn slash_behind(folder: &str) -> &'static str
 }
 
 /// The path of what has this name in a folder.
-pub(crate) fn joined(alloc: Global, folder: &str, name: &str) -> Result<Text, AllocError>
+pub fn joined(alloc: Global, folder: &str, name: &str) -> Result<Text, AllocError>
     ensures { IfOk result (λ path. path ≡ joined folder.now name.now) }
 {
     let mut path = Text::from_str(alloc, folder)?;

@@ -1,6 +1,6 @@
 mod Relations
 mod VersionsRead
-mod KindLaws
+pub mod KindLaws
 mod Digits
 mod Integers
 mod Trims
@@ -9,5 +9,5 @@ mod Shown
 mod Written
 mod Spelled
 mod Calendars
-mod TimeReads
+pub mod TimeReads
 mod OneMoment

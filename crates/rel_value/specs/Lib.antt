@@ -10,3 +10,4 @@ pub mod Spellings
 pub mod Texts
 pub mod TimesRead
 pub mod Casts
+pub mod RowSorts

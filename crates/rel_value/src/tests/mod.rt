@@ -9,6 +9,7 @@ mod casts;
 mod longest;
 mod parts;
 mod relations;
+mod rows;
 mod shown;
 mod signs;
 mod time_cases;
