@@ -1,0 +1,111 @@
+ghost use Rattle.std.specs.Prelude.{◌≡◌, IfOk};
+ghost use Rattle.desk_base.specs.Moments.{IsMoment};
+ghost use Rattle.hex.specs.Hex.{encode_lower};
+ghost use Rattle.rel_inspect.specs.Traces.{once, text_item};
+ghost use Rattle.rel_inspect.specs.Draws.{item_in, IsSoundItem, values_in};
+ghost use Rattle.rel_inspect.specs.Facets.{sought_item, once_item, once_values};
+ghost use Rattle.rel_inspect.specs.Steps.{Moves, Falls, GivesSound};
+
+use crate::content::{numbered_line, readable};
+use crate::held::Held;
+use crate::{Scene, WalkEvent};
+use desk_base::Bytes;
+use rel_lexer::Text;
+use rel_value::Value;
+use sha1::Sha1;
+use sha2::{Digest, Sha256};
+use std::alloc::{AllocError, Global};
+
+/// What gives one value or none.
+#[derive(Drop)]
+pub(crate) enum Once {
+    Held(Held),
+    Sought(Sought),
+}
+
+/// What has still to be found.
+#[derive(Drop)]
+pub(crate) enum Sought {
+    /// The moment.
+    Now,
+    /// The parameter of this name.
+    Parameter(Text),
+    ExitCode,
+    /// The line of this number, counted from 1.
+    LineAt { number: i64, content: Bytes },
+    /// The digest of a content.
+    Sha1(Bytes),
+    /// The digest of a content.
+    Sha256(Bytes),
+}
+
+impl Once {
+    pub(crate) fn step(&mut self, alloc: Global, scene: &Scene) -> WalkEvent
+        requires { IsSoundItem (once_item self.old scene.now) }
+        ensures moves { Moves (once (once_item self.old scene.now)) result (once (once_item self.new scene.now)) }
+        ensures falls { Falls (once_values self.old) result (once_values self.new) }
+        ensures sound { IsSoundItem (once_item self.new scene.now) }
+        ensures gives_sound { GivesSound result }
+    {
+        match self {
+            Once::Held(held) => given_or_over(held),
+            Once::Sought(sought) => {
+                let Ok(mut held) = sought.find(alloc, scene) else {
+                    return WalkEvent::Memory;
+                };
+                let event = given_or_over(&mut held);
+                *self = Once::Held(held);
+                event
+            }
+        }
+    }
+}
+
+/// Gives what is held. Where nothing is, nothing is left.
+fn given_or_over(held: &mut Held) -> WalkEvent
+    requires { IsSoundItem (item_in held.old) }
+    ensures moves { Moves (once (item_in held.old)) result (once (item_in held.new)) }
+    ensures falls { Falls (values_in (item_in held.old)) result (values_in (item_in held.new)) }
+    ensures most { values_in (item_in held.new) ≡ 0 }
+    ensures sound { IsSoundItem (item_in held.new) }
+    ensures gives_sound { GivesSound result }
+{
+    match held.give() {
+        Some(event) => event,
+        None => WalkEvent::Over,
+    }
+}
+
+impl Sought {
+    fn find(&self, alloc: Global, scene: &Scene) -> Result<Held, AllocError>
+        ensures { IfOk result (λ held. item_in held ≡ sought_item self.now scene.now) }
+    {
+        match self {
+            Sought::Now => Ok(Held::Value(Value::Time(scene.moment))),
+            Sought::Parameter(name) => match scene.parameters.value_of(name.as_str()) {
+                Some(value) => Ok(Held::text(value.copy()?)),
+                None => Ok(Held::Nothing),
+            },
+            Sought::ExitCode => match scene.exit {
+                Some(exit) => Ok(Held::Value(Value::Integer(exit))),
+                None => Ok(Held::Nothing),
+            },
+            Sought::LineAt { number, content } => {
+                match numbered_line(content.as_slice(), *number) {
+                    Some(line) => Ok(Held::text(readable(alloc, line)?)),
+                    None => Ok(Held::Nothing),
+                }
+            }
+            Sought::Sha1(content) => hexadecimal(alloc, &Sha1::digest(content.as_slice())),
+            Sought::Sha256(content) => hexadecimal(alloc, &Sha256::digest(content.as_slice())),
+        }
+    }
+}
+
+/// A digest in hexadecimal digits.
+fn hexadecimal(alloc: Global, digest: &[u8]) -> Result<Held, AllocError>
+    ensures { IfOk result (λ held. item_in held ≡ text_item (encode_lower digest.now)) }
+{
+    let digits = hex::encode(alloc, digest)?;
+    Ok(Held::text(Text::from_str(alloc, digits.as_str())?))
+}
