@@ -9,8 +9,8 @@ use Rattle.rel_value.specs.Plain.{file}
 use Rattle.rel_inspect.specs.declared.descent.Level.{Level}
 use Rattle.rel_inspect.specs.declared.descent.Ahead.TheVariants as ahead
 use Rattle.rel_inspect.specs.declared.descent.Descent.{Descent}
-use Rattle.rel_inspect.specs.Traces.{Trace, Ends, After, Stop, TooLong, Look, Turn, Give, none, one, follow}
-use Rattle.rel_inspect.specs.Rows.{entries_of}
+use Rattle.rel_sources.specs.Traces.{Trace, Ends, After, Stop, TooLong, Look, Turn, Give, none, one, follow}
+use Rattle.rel_sources.specs.Rows.{entries_of}
 use Rattle.rel_inspect.specs.Below.{entries_below, below, descendants}
 use Rattle.rel_inspect.specs.Descents.{entries_left, level_left, levels_left, above_left, ahead_left, descent_left, Enters}
 

@@ -1,11 +1,4 @@
-pub mod LineParts
-pub mod Wrong
-pub mod Standing
-pub mod Separated
-pub mod Gaps
 pub mod Falling
 pub mod Soundness
 pub mod Tuples
-pub mod Listed
 pub mod Walking
-pub mod Naming

@@ -15,9 +15,9 @@ use Rattle.rel_value.specs.Plain.{words, integer, a_package, system}
 use Rattle.rel_value.specs.Versions.{version_of}
 use Rattle.rel_inspect.specs.declared.listing.Listing.{Listing}
 use Rattle.rel_inspect.specs.declared.listing.Listing.TheVariants as listing
-use Rattle.rel_inspect.specs.Traces.{Item, Absent, Present, Unfit, text_item}
-use Rattle.rel_inspect.specs.Rows.{text_item_of, item_of, entries_of, is_of_sort, lines_of, entry_item, value_at, kept, line_item, is_asked, is_wanted, process_item, package_item, setting_item, integer_item}
-use Rattle.rel_inspect.specs.Draws.{IsSoundItem}
+use Rattle.rel_sources.specs.Traces.{Item, Absent, Present, Unfit, text_item}
+use Rattle.rel_sources.specs.Rows.{text_item_of, item_of, entries_of, is_of_sort, lines_of, entry_item, value_at, kept, line_item, is_asked, is_wanted, process_item, package_item, setting_item, integer_item}
+use Rattle.rel_sources.specs.Draws.{IsSoundItem}
 use Rattle.rel_inspect.specs.Facets.{listed_items}
 
 limited : (b : Bool) (t : List ℕ) → (b ≡ true → length t ≤ 4294967295) → IsSoundItem (cond b (Present (words t)) Unfit)

@@ -7,16 +7,16 @@ use Rattle.std.proofs.lemmas.Bool.Decides.{nat_tests}
 use Rattle.std.proofs.lemmas.List.Elements.{All-nil, All-cons, All-head, All-tail, All-append}
 use Rattle.std.proofs.lemmas.List.{append-nil}
 use Rattle.rel_value.specs.declared.value.Value.{Value}
-use Rattle.rel_value.specs.declared.value.Value.TheVariants.{Integer, Tuple, rolls-Integer, rolls-Tuple}
+use Rattle.rel_value.specs.declared.value.Value.TheVariants.{Tuple, rolls-Tuple}
 use Rattle.rel_value.specs.declared.value.Value.TheOpen as layer
 use Rattle.rel_value.specs.declared.value.Values.{Values}
 use Rattle.rel_value.specs.declared.value.Value.TheFolds.{fold-roll-Value, fold_out-Values}
-use Rattle.rel_value.specs.Plain.{Plain, integer, tuple, Parts, no_parts, more_parts}
+use Rattle.rel_value.specs.Plain.{Plain, tuple, Parts, no_parts, more_parts}
 use Rattle.rel_value.specs.Views.{value_step, values_step, shown, shown_parts, value_items, parted}
 use Rattle.rel_value.specs.Operands.{IsSound, AreSound}
 use Rattle.rel_inspect.specs.Offered.{part_list, parts_in}
-use Rattle.rel_inspect.specs.Rows.{part_numbered, item_of}
-use Rattle.rel_inspect.specs.Traces.{once}
+use Rattle.rel_sources.specs.Rows.{part_numbered, item_of}
+use Rattle.rel_sources.specs.Traces.{once}
 use Rattle.rel_inspect.specs.Props.{with}
 use Rattle.rel_inspect.specs.Facets.{IsSoundOffer}
 
@@ -30,9 +30,6 @@ parts-are l = ap part_list (fold_out-Values Plain Parts value_step values_step l
 
 pub shown-tuple : (l : Values) → shown (Tuple l) ≡ tuple (shown_parts l)
 shown-tuple l = ap shown (sym (rolls-Tuple l)) ∙ fold-roll-Value Plain Parts value_step values_step (layer.Tuple l)
-
-pub shown-integer : (z : ℤ) → shown (Integer z) ≡ integer z
-shown-integer z = ap shown (sym (rolls-Integer z)) ∙ fold-roll-Value Plain Parts value_step values_step (layer.Integer z)
 
 -- ---- soundness
 

@@ -8,14 +8,14 @@ use Rattle.bf_machine.specs.Told.{Grows}
 use Rattle.rel_inspect.specs.declared.descent.Ahead.{Ahead}
 use Rattle.rel_inspect.specs.declared.descent.Ahead.TheVariants as ahead
 use Rattle.rel_inspect.specs.declared.descent.Descent.{Descent}
-use Rattle.rel_inspect.specs.declared.event.WalkEvent.{WalkEvent}
-use Rattle.rel_inspect.specs.declared.event.WalkEvent.TheVariants as event
-use Rattle.rel_inspect.specs.declared.event.Step.{Step}
-use Rattle.rel_inspect.specs.declared.scene.Scene.{Scene}
+use Rattle.rel_sources.specs.declared.event.WalkEvent.{WalkEvent}
+use Rattle.rel_sources.specs.declared.event.WalkEvent.TheVariants as event
+use Rattle.rel_sources.specs.declared.event.Step.{Step}
+use Rattle.rel_sources.specs.declared.scene.Scene.{Scene}
 use Rattle.rel_inspect.specs.declared.walk.State.{State}
 use Rattle.rel_inspect.specs.declared.walk.State.TheVariants as state
-use Rattle.rel_inspect.specs.Traces.{Trace}
-use Rattle.rel_inspect.specs.Steps.{Moves, Goes, IsBeforeLook, HasCause, AsRoom, Steps, StepMoves, StepHasCause, GivesSound, StepGivesSound, IsStep, AsStep}
+use Rattle.rel_sources.specs.Traces.{Trace}
+use Rattle.rel_sources.specs.Steps.{Moves, Goes, IsBeforeLook, HasCause, AsRoom, Steps, StepMoves, StepHasCause, GivesSound, StepGivesSound, IsStep, AsStep}
 use Rattle.rel_inspect.specs.Descents.{ahead_left, key_of}
 use Rattle.rel_inspect.specs.Left.{state_left, asked}
 

@@ -6,8 +6,8 @@ use Rattle.bf_world.specs.Paths.{joined}
 use Rattle.bf_world.specs.Shown.{shown}
 use Rattle.bf_world.specs.Worlds.{WorldState}
 use Rattle.rel_value.specs.Plain.{file}
-use Rattle.rel_inspect.specs.Traces.{Trace, After, Look, Turn, none, one, follow}
-use Rattle.rel_inspect.specs.Rows.{entries_of}
+use Rattle.rel_sources.specs.Traces.{Trace, After, Look, Turn, none, one, follow}
+use Rattle.rel_sources.specs.Rows.{entries_of}
 
 -- what follows an entry's turn: of a file the file, of a folder what is below it
 abbrev pub in_place : (List ℕ → Trace) → List ℕ → Entry → Trace

@@ -12,8 +12,8 @@ use Rattle.rel_inspect.specs.declared.descent.Level.{Level}
 use Rattle.rel_inspect.specs.declared.descent.Ahead.{Ahead}
 use Rattle.rel_inspect.specs.declared.descent.Ahead.TheVariants as ahead
 use Rattle.rel_inspect.specs.declared.descent.Descent.{Descent}
-use Rattle.rel_inspect.specs.Traces.{Trace, After, Look, Give, none, follow}
-use Rattle.rel_inspect.specs.Rows.{entries_of}
+use Rattle.rel_sources.specs.Traces.{Trace, After, Look, Give, none, follow}
+use Rattle.rel_sources.specs.Rows.{entries_of}
 use Rattle.rel_inspect.specs.Below.{entries_below, below}
 
 -- the entries of a folder that stands in so many others

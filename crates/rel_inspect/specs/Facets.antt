@@ -20,12 +20,12 @@ use Rattle.rel_inspect.specs.declared.facet.Facet.{Facet}
 use Rattle.rel_inspect.specs.declared.facet.Facet.TheVariants as facet
 use Rattle.rel_inspect.specs.declared.listing.Listing.{Listing}
 use Rattle.rel_inspect.specs.declared.listing.Listing.TheVariants as listing
-use Rattle.rel_inspect.specs.declared.scene.Scene.{Scene}
-use Rattle.rel_inspect.specs.Traces.{Item, Present, text_item}
-use Rattle.rel_inspect.specs.Scenes.{value_of}
-use Rattle.rel_inspect.specs.Words.{text_lines}
-use Rattle.rel_inspect.specs.Rows.{item_of, text_item_of, file_item, folder_item, size_item, modified_item, entries_of, entry_items, lines_of, line_item, numbered, digest_item, system_item, name_item, process_items, package_items, setting_items}
-use Rattle.rel_inspect.specs.Draws.{item_in, values_in}
+use Rattle.rel_sources.specs.declared.scene.Scene.{Scene}
+use Rattle.rel_sources.specs.Traces.{Item, Present, text_item}
+use Rattle.rel_sources.specs.Scenes.{value_of}
+use Rattle.rel_sources.specs.Words.{text_lines}
+use Rattle.rel_sources.specs.Rows.{item_of, text_item_of, file_item, folder_item, size_item, modified_item, entries_of, entry_items, lines_of, line_item, numbered, digest_item, system_item, name_item, process_items, package_items, setting_items}
+use Rattle.rel_sources.specs.Draws.{item_in, values_in}
 
 abbrev pub sought_item : Sought → Scene → Item
 sought_item sought.Now s = Present (time s.moment)

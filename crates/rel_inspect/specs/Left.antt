@@ -6,13 +6,13 @@ use Rattle.desk_base.specs.Moments.{IsMoment}
 use Rattle.bf_world.specs.declared.key.Key.{Key}
 use Rattle.bf_world.specs.Shown.{shown}
 use Rattle.bf_world.specs.Worlds.{WorldState}
-use Rattle.rel_inspect.specs.declared.scene.Scene.{Scene}
+use Rattle.rel_sources.specs.declared.scene.Scene.{Scene}
 use Rattle.rel_inspect.specs.declared.walk.State.{State}
 use Rattle.rel_inspect.specs.declared.walk.State.TheVariants as state
 use Rattle.rel_inspect.specs.declared.walk.Walk.{Walk}
-use Rattle.rel_inspect.specs.Traces.{Trace, After, Look, before, once, turns}
-use Rattle.rel_inspect.specs.Draws.{item_in, IsSoundItem, values_in}
-use Rattle.rel_inspect.specs.Sources.{items_in}
+use Rattle.rel_sources.specs.Traces.{Trace, After, Look, before, once, turns}
+use Rattle.rel_sources.specs.Draws.{item_in, IsSoundItem, values_in}
+use Rattle.rel_sources.specs.Sources.{items_in}
 use Rattle.rel_inspect.specs.Facets.{once_item, once_values, facet_item, listed_items}
 use Rattle.rel_inspect.specs.Descents.{descent_left, asked_below, files_ahead}
 

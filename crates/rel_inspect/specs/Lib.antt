@@ -1,14 +1,6 @@
-pub mod Traces
-pub mod Scenes
-pub mod Words
 pub mod Offered
-pub mod Rows
 pub mod Below
 pub mod Props
-pub mod Steps
-pub mod Draws
-pub mod Members
-pub mod Sources
 pub mod Facets
 pub mod Descents
 pub mod Left

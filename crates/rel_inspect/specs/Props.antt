@@ -15,12 +15,12 @@ use Rattle.bf_world.specs.Worlds.{WorldState}
 use Rattle.rel_value.specs.declared.property.PropertyId.{PropertyId}
 use Rattle.rel_value.specs.declared.property.PropertyId.TheVariants as id
 use Rattle.rel_value.specs.Plain.{Plain, boolean, integer, time, interval, version, client, action}
-use Rattle.rel_inspect.specs.declared.scene.Scene.{Scene}
-use Rattle.rel_inspect.specs.Traces.{Trace, After, Look, none, one, once, turns, text_item}
-use Rattle.rel_inspect.specs.Scenes.{value_of}
-use Rattle.rel_inspect.specs.Words.{pieces_by}
+use Rattle.rel_sources.specs.declared.scene.Scene.{Scene}
+use Rattle.rel_sources.specs.Traces.{Trace, After, Look, none, one, once, turns, text_item}
+use Rattle.rel_sources.specs.Scenes.{value_of}
+use Rattle.rel_sources.specs.Words.{pieces_by}
 use Rattle.rel_inspect.specs.Offered.{text_in, integer_in, file_in, folder_in, path_in, name_in, version_in, value_in, date_in, preceding_in, following_in, parts_in, bounds_in}
-use Rattle.rel_inspect.specs.Rows.{item_of, text_item_of, path_item, size_item, modified_item, entries_of, entry_items, lines_of, line_item, numbered, digest_item, system_item, name_item, process_items, package_items, setting_items, integers, integer_item, first_item, last_item, part_numbered}
+use Rattle.rel_sources.specs.Rows.{item_of, text_item_of, path_item, size_item, modified_item, entries_of, entry_items, lines_of, line_item, numbered, digest_item, system_item, name_item, process_items, package_items, setting_items, integers, integer_item, first_item, last_item, part_numbered}
 use Rattle.rel_inspect.specs.Below.{descendants}
 
 -- nothing where an argument or an object isn't of the row's kind

@@ -1,21 +1,23 @@
 ghost use Rattle.std.specs.Prelude.{◌≡◌, IfOk};
 ghost use Rattle.bf_world.specs.Worlds.{WorldState};
-ghost use Rattle.rel_inspect.specs.declared.scene.Scene.{Scene};
+ghost use Rattle.rel_sources.specs.declared.scene.Scene.{Scene};
 ghost use Rattle.rel_inspect.specs.Props.{prop};
 ghost use Rattle.rel_inspect.specs.Facets.{offered, IsSoundOffer};
 ghost use Rattle.rel_inspect.specs.Left.{left, IsSoundWalk, Begins};
 
 use crate::Walk;
 use crate::facet::Facet;
+use crate::look_rows::{
+    at_name, at_path, computer_name, descendants, entries, line_at, lines, lines_containing,
+    of_content, of_stat, packages, processes, settings, system,
+};
 use crate::offered::{
     bounds_in, date_in, file_in, folder_in, following_in, integer_in, name_in, parts_in, path_in,
     preceding_in, text_in, value_in, version_in,
 };
 use crate::once::Sought;
 use crate::rows::{
-    at_name, at_path, computer_name, descendants, entries, first, given, integers, last, length,
-    line_at, lines, lines_containing, of_content, of_stat, packages, parameter, part, pieces,
-    processes, settings, sought, system, text, time, version,
+    first, given, integers, last, length, parameter, part, pieces, sought, text, time, version,
 };
 use crate::walk::State;
 use rel_value::{PropertyId, Value};

@@ -3,15 +3,15 @@ ghost use Rattle.desk_base.specs.Moments.{IsMoment};
 ghost use Rattle.bf_world.specs.Answers.{IsGoodAnswer};
 ghost use Rattle.sha1.specs.Sha1.{sha1};
 ghost use Rattle.sha2.specs.Sha256.{sha256};
-ghost use Rattle.rel_inspect.specs.declared.scene.Scene.{Scene};
-ghost use Rattle.rel_inspect.specs.Draws.{item_in, IsSoundItem};
-ghost use Rattle.rel_inspect.specs.Rows.{file_item, folder_item, size_item, modified_item, system_item, name_item, digest_item, lines_of, numbered, text_item_of};
+ghost use Rattle.rel_sources.specs.declared.scene.Scene.{Scene};
+ghost use Rattle.rel_sources.specs.Draws.{item_in, IsSoundItem};
+ghost use Rattle.rel_sources.specs.Rows.{file_item, folder_item, size_item, modified_item, system_item, name_item, digest_item, lines_of, numbered, text_item_of};
 ghost use Rattle.rel_inspect.specs.Facets.{once_item, facet_item};
 
-use crate::held::Held;
 use crate::once::{Once, Sought};
 use bf_world::Answer;
 use rel_lexer::Text;
+use rel_sources::Held;
 use rel_value::{Value, Version};
 
 /// What is asked of one thing that a look shows.

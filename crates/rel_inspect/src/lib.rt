@@ -2,31 +2,18 @@
 #![tactic(auto)]
 
 mod begin;
-mod content;
 mod descent;
-mod entries;
-mod event;
 mod facet;
-mod held;
-mod integers;
-mod lines;
 mod listing;
-mod members;
+mod look_rows;
 mod offered;
 mod once;
-mod pair;
-mod pieces;
-mod places;
 mod rows;
-mod scene;
-mod source;
 mod turns;
 mod walk;
 
 pub use begin::inspect;
-pub use event::{Step, WalkEvent};
-pub use pair::{Pair, Pairs};
-pub use scene::Scene;
+pub use rel_sources::{Pair, Pairs, Scene, Step, WalkEvent};
 pub use walk::Walk;
 
 #[cfg(test)]

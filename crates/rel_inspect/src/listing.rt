@@ -1,16 +1,13 @@
 ghost use Rattle.std.specs.Prelude.{◌≡◌, All, map};
 ghost use Rattle.bf_world.specs.Answers.{IsGoodAnswer};
-ghost use Rattle.rel_inspect.specs.Rows.{entries_of, entry_items, lines_of, line_item, process_items, package_items, setting_items};
-ghost use Rattle.rel_inspect.specs.Draws.{IsSoundItem};
-ghost use Rattle.rel_inspect.specs.Sources.{items_in};
+ghost use Rattle.rel_sources.specs.Rows.{entries_of, entry_items, lines_of, line_item, process_items, package_items, setting_items};
+ghost use Rattle.rel_sources.specs.Draws.{IsSoundItem};
+ghost use Rattle.rel_sources.specs.Sources.{items_in};
 ghost use Rattle.rel_inspect.specs.Facets.{listed_items};
 
-use crate::entries::Entries;
-use crate::lines::Lines;
-use crate::members::{Members, Rows};
-use crate::source::Source;
 use bf_world::Answer;
 use rel_lexer::Text;
+use rel_sources::{Entries, Lines, Members, Rows, Source};
 
 /// Which of the things that a look shows are asked for.
 #[derive(Drop)]

@@ -1,16 +1,14 @@
 ghost use Rattle.std.specs.Prelude.{◌≡◌, IfOk};
 ghost use Rattle.desk_base.specs.Moments.{IsMoment};
 ghost use Rattle.hex.specs.Hex.{encode_lower};
-ghost use Rattle.rel_inspect.specs.Traces.{once, text_item};
-ghost use Rattle.rel_inspect.specs.Draws.{item_in, IsSoundItem, values_in};
+ghost use Rattle.rel_sources.specs.Traces.{once, text_item};
+ghost use Rattle.rel_sources.specs.Draws.{item_in, IsSoundItem, values_in};
 ghost use Rattle.rel_inspect.specs.Facets.{sought_item, once_item, once_values};
-ghost use Rattle.rel_inspect.specs.Steps.{Moves, Falls, GivesSound};
+ghost use Rattle.rel_sources.specs.Steps.{Moves, Falls, GivesSound};
 
-use crate::content::{numbered_line, readable};
-use crate::held::Held;
-use crate::{Scene, WalkEvent};
 use desk_base::Bytes;
 use rel_lexer::Text;
+use rel_sources::{Held, Scene, WalkEvent, numbered_line, readable};
 use rel_value::Value;
 use sha1::Sha1;
 use sha2::{Digest, Sha256};

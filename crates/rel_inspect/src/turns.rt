@@ -1,12 +1,10 @@
 ghost use Rattle.std.specs.Prelude.{◌≡◌, All};
-ghost use Rattle.rel_inspect.specs.Traces.{Absent, before, turns};
-ghost use Rattle.rel_inspect.specs.Draws.{item_in, IsSoundItem, values_in};
-ghost use Rattle.rel_inspect.specs.Sources.{items_in};
-ghost use Rattle.rel_inspect.specs.Steps.{Moves, Falls, GivesSound};
+ghost use Rattle.rel_sources.specs.Traces.{Absent, before, turns};
+ghost use Rattle.rel_sources.specs.Draws.{item_in, IsSoundItem, values_in};
+ghost use Rattle.rel_sources.specs.Sources.{items_in};
+ghost use Rattle.rel_sources.specs.Steps.{Moves, Falls, GivesSound};
 
-use crate::WalkEvent;
-use crate::held::{Drawn, Held};
-use crate::source::Source;
+use rel_sources::{Drawn, Held, Source, WalkEvent};
 use std::alloc::Global;
 
 /// A turn, and then the item: what a source with several values does. What is held had its turn.

@@ -1,26 +1,24 @@
 ghost use Rattle.std.specs.Prelude.{◌≡◌, ◌≤◌, Some, None};
 ghost use Rattle.std.specs.Option.{option_copied};
 ghost use Rattle.bf_world.specs.declared.key.Key.{Key};
-ghost use Rattle.rel_inspect.specs.declared.scene.Scene.{Scene};
+ghost use Rattle.rel_sources.specs.declared.scene.Scene.{Scene};
 ghost use Rattle.desk_base.specs.Moments.{IsMoment};
 ghost use Rattle.bf_world.specs.Answers.{IsGoodAnswer};
 ghost use Rattle.bf_world.specs.Shown.{shown};
 ghost use Rattle.bf_world.specs.Worlds.{WorldState};
-ghost use Rattle.rel_inspect.specs.declared.event.WalkEvent.TheVariants as event;
-ghost use Rattle.rel_inspect.specs.Traces.{Trace, After, Look};
-ghost use Rattle.rel_inspect.specs.Steps.{Moves, Goes, Steps, HasCause, StepHasCause, AsRoom, Falls, GivesSound, StepGivesSound};
+ghost use Rattle.rel_sources.specs.declared.event.WalkEvent.TheVariants as event;
+ghost use Rattle.rel_sources.specs.Traces.{Trace, After, Look};
+ghost use Rattle.rel_sources.specs.Steps.{Moves, Goes, Steps, HasCause, StepHasCause, AsRoom, Falls, GivesSound, StepGivesSound};
 ghost use Rattle.rel_inspect.specs.Left.{state_left, left, state_values, values_ahead, asked, IsSoundState, IsSoundWalk};
 
 use crate::descent::Descent;
 use crate::facet::Facet;
-use crate::held::Held;
 use crate::listing::Listing;
 use crate::once::Once;
-use crate::source::Source;
 use crate::turns::Turns;
-use crate::{Scene, Step, WalkEvent};
 use bf_machine::{Looked, Machine};
 use bf_world::{Answer, Key};
+use rel_sources::{Held, Scene, Step, WalkEvent};
 use std::alloc::Global;
 use std::mem;
 

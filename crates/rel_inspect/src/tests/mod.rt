@@ -1,7 +1,7 @@
 ghost use Rattle.std.specs.Prelude.{IfSome};
 ghost use Rattle.desk_base.specs.Moments.{IsMoment};
 ghost use Rattle.rel_inspect.specs.Left.{IsSoundWalk};
-ghost use Rattle.rel_inspect.specs.Steps.{GivesSound};
+ghost use Rattle.rel_sources.specs.Steps.{GivesSound};
 ghost use Rattle.rel_value.specs.Operands.{IsSound};
 ghost use Rattle.rel_value.specs.Views.{shown};
 

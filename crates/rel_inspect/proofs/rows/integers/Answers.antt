@@ -1,6 +1,6 @@
 use Rattle.std.proofs.Common.{List, All, sym, subst}
-use Rattle.rel_inspect.specs.Traces.{Item}
-use Rattle.rel_inspect.specs.Draws.{IsSoundItem}
+use Rattle.rel_sources.specs.Traces.{Item}
+use Rattle.rel_sources.specs.Draws.{IsSoundItem}
 use Rattle.rel_inspect.proofs.Soundness.{integers-sound}
 use Rattle.rel_inspect.proofs.rows.integers.Goals as goal
 

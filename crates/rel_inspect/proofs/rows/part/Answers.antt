@@ -2,8 +2,8 @@ use Rattle.std.proofs.Common.{◌≡◌, ℤ, map, Some, None, FitsSigned, to_z,
 use Rattle.std.proofs.lemmas.Int.{ints}
 use Rattle.std.specs.Option.{option_copied}
 use Rattle.rel_value.specs.Views.{shown}
-use Rattle.rel_inspect.specs.Traces.{one}
-use Rattle.rel_inspect.specs.Rows.{part_numbered}
+use Rattle.rel_sources.specs.Traces.{one}
+use Rattle.rel_sources.specs.Rows.{part_numbered}
 use Rattle.rel_inspect.proofs.Tuples.{part-there, part-absent, part-row}
 use Rattle.rel_inspect.proofs.rows.part.Goals as goal
 

@@ -1,7 +1,7 @@
 use Rattle.std.proofs.Common.{List, All, sym, subst}
-use Rattle.rel_inspect.specs.Traces.{Item}
-use Rattle.rel_inspect.specs.Words.{pieces_by}
-use Rattle.rel_inspect.specs.Draws.{IsSoundItem}
+use Rattle.rel_sources.specs.Traces.{Item}
+use Rattle.rel_sources.specs.Words.{pieces_by}
+use Rattle.rel_sources.specs.Draws.{IsSoundItem}
 use Rattle.rel_inspect.proofs.Soundness.{texts-sound}
 use Rattle.rel_inspect.proofs.rows.pieces.Goals as goal
 

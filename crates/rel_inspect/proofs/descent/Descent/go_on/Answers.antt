@@ -1,7 +1,7 @@
 use Rattle.std.proofs.Common.{◌≡◌, ◌<◌, ◌≤◌, ℕ, List, true, length, refl, ap, ◌∙◌, arith}
 use Rattle.std.proofs.lemmas.Grind.{common_steps}
 use Rattle.bf_world.specs.Paths.{joined}
-use Rattle.rel_inspect.proofs.Listed.{taken-at, on_ok-more}
+use Rattle.rel_sources.proofs.Listed.{taken-at, on_ok-more}
 use Rattle.rel_inspect.proofs.Falling.{goes-in, goes-past}
 use Rattle.rel_inspect.proofs.descent.Descent.go_on.Goals as goal
 

@@ -1,7 +1,7 @@
 use Rattle.std.proofs.Common.{List, All, sym, subst}
 use Rattle.rel_inspect.specs.declared.listing.Listing.TheVariants as listing
-use Rattle.rel_inspect.specs.Traces.{Item}
-use Rattle.rel_inspect.specs.Draws.{IsSoundItem}
+use Rattle.rel_sources.specs.Traces.{Item}
+use Rattle.rel_sources.specs.Draws.{IsSoundItem}
 use Rattle.rel_inspect.proofs.Soundness.{listed-sound}
 use Rattle.rel_inspect.proofs.listing.Listing.of.Goals as goal
 

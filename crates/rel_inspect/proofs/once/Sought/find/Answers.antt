@@ -2,10 +2,10 @@ use Rattle.std.proofs.Common.{◌≡◌, ℕ, ℤ, List, Some, None, FitsSigned,
 use Rattle.std.proofs.lemmas.Int.{ints}
 use Rattle.std.specs.Str.Lines.{lines}
 use Rattle.rel_inspect.specs.declared.once.Sought.{Sought}
-use Rattle.rel_inspect.specs.Traces.{text_item}
-use Rattle.rel_inspect.specs.Rows.{numbered}
+use Rattle.rel_sources.specs.Traces.{text_item}
+use Rattle.rel_sources.specs.Rows.{numbered}
 use Rattle.rel_inspect.specs.Facets.{sought_item}
-use Rattle.rel_inspect.proofs.LineParts.{line-item}
+use Rattle.rel_sources.proofs.LineParts.{line-item}
 use Rattle.rel_inspect.proofs.once.Sought.find.Goals as goal
 
 pub returns-in_ok-readable-in-Some-numbered_line : goal.returns-in_ok-readable-in-Some-numbered_line

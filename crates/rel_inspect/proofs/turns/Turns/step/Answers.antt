@@ -1,8 +1,8 @@
 use Rattle.std.proofs.Common.{List, All, subst}
 use Rattle.std.proofs.lemmas.List.Elements.{All-tail}
-use Rattle.rel_inspect.specs.Traces.{Item}
-use Rattle.rel_inspect.specs.Draws.{item_in, IsSoundItem}
-use Rattle.rel_inspect.specs.Sources.{items_in}
+use Rattle.rel_sources.specs.Traces.{Item}
+use Rattle.rel_sources.specs.Draws.{item_in, IsSoundItem}
+use Rattle.rel_sources.specs.Sources.{items_in}
 use Rattle.rel_inspect.proofs.turns.Turns.step.Goals as goal
 
 pub returns-in-Item-clause-items : goal.returns-in-Item-clause-items

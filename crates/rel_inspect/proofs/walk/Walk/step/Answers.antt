@@ -1,6 +1,6 @@
 use Rattle.std.proofs.Common.{[], pos}
 use Rattle.bf_world.specs.Worlds.{WorldState, bare}
-use Rattle.rel_inspect.specs.Steps.{IsStep}
+use Rattle.rel_sources.specs.Steps.{IsStep}
 use Rattle.rel_inspect.specs.Left.{state_left, left}
 use Rattle.rel_inspect.proofs.Walking.{moves-step, with-room, cause-then, event-then, cause-as, sound-as}
 use Rattle.rel_inspect.proofs.walk.Walk.step.Goals as goal
