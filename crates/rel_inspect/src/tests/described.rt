@@ -1,4 +1,4 @@
-ghost use Rattle.std.specs.Prelude.{IfSome};
+ghost use Rattle.std.specs.Prelude.{◌≡◌, IfSome};
 ghost use Rattle.desk_base.specs.Moments.{IsMoment};
 
 use crate::{Pairs, Scene};
@@ -23,7 +23,9 @@ pub(crate) const FILES: [Described; 8] = [
     ("/a/w", b"\xe2\x82A\n"),
 ];
 
-pub(crate) fn text(alloc: Global, text: &str) -> Option<Text> {
+pub(crate) fn text(alloc: Global, text: &str) -> Option<Text>
+    ensures { IfSome result (λ t. t ≡ text.now) }
+{
     Text::from_str(alloc, text).ok()
 }
 
