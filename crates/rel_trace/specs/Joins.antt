@@ -1,5 +1,5 @@
 -- What two traces make together: signs, `and`, `or`, `|`, `if` and tuples.
-use Rattle.std.specs.Prelude.{Bool, not, if◌then◌else◌}
+use Rattle.std.specs.Prelude.{Bool, not, if◌then◌else◌, Option, None, Some}
 use Rattle.rel_lexer.specs.declared.place.Place.{Place}
 use Rattle.rel_lexer.specs.declared.operator.BinarySign.{BinarySign}
 use Rattle.rel_value.specs.Outcomes.{Outcome, gives, no_row}
@@ -15,6 +15,11 @@ use Rattle.rel_trace.specs.Trace.{Stop, Error, Trace, Ends, After, one, each, tu
 -- a sign's left value with each value of its right side
 abbrev pub with_right : BinarySign → Place → Trace → Plain → Trace
 with_right s p right x = each right (λ y. result_at p (op s x y))
+
+-- the same of the left value in scope; where there is none, nothing
+abbrev pub op_left : BinarySign → Option Plain → Plain → Outcome
+op_left s None y = no_row
+op_left s (Some x) y = op s x y
 
 -- `and` is decided by a left side that is not True, and `or` by one that is
 abbrev pub decides : Logic → Bool → Bool
@@ -40,6 +45,11 @@ abbrev pub tied : Joining → Plain → Plain → Outcome
 tied Pair x y = gives (tuple (more_parts (more_parts no_parts x) y))
 tied Push (tuple ps) y = gives (tuple (more_parts ps y))
 tied Push _ y = no_row
+
+-- the same of the left value in scope; where there is none, nothing
+abbrev pub tied_left : Joining → Option Plain → Plain → Outcome
+tied_left j None y = no_row
+tied_left j (Some x) y = tied j x y
 
 -- an earlier part's value with each value of the later part
 abbrev pub with_later : Joining → Place → Trace → Plain → Trace

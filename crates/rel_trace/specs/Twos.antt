@@ -1,22 +1,18 @@
 -- What the state of a form with two parts makes of the traces of its parts.
 use Rattle.std.specs.Prelude.{ℕ, ◌+◌, ◌*◌, Bool, true, false, Option, Some, None}
 use Rattle.rel_lexer.specs.declared.place.Place.{Place}
-use Rattle.rel_lexer.specs.declared.operator.BinarySign.{BinarySign}
 use Rattle.rel_value.specs.Plain.{Plain}
 use Rattle.rel_trace.specs.declared.logic.Logic.{Logic}
-use Rattle.rel_trace.specs.declared.joining.Joining.{Joining}
 use Rattle.rel_trace.specs.declared.sequence.Sequence.{Sequence}
 use Rattle.rel_trace.specs.declared.sequence.Sequence.TheVariants.{Then, Bar, Logical}
 use Rattle.rel_trace.specs.declared.handing.Handing.{Handing}
-use Rattle.rel_trace.specs.declared.handing.Handing.TheVariants.{Each, Sift, Argument}
-use Rattle.rel_trace.specs.declared.join.Join.{Join}
-use Rattle.rel_trace.specs.declared.join.Join.TheVariants.{Sign, Tuple}
+use Rattle.rel_trace.specs.declared.handing.Handing.TheVariants.{Each, Sift, Argument, Left, Turned}
 use Rattle.rel_trace.specs.declared.two.Two.{Two}
 use Rattle.rel_trace.specs.declared.two.Two.TheVariants as form
 use Rattle.rel_trace.specs.Trace.{Trace, follow, each, turned}
 use Rattle.rel_trace.specs.Draws.{kept, sifted}
-use Rattle.rel_trace.specs.Joins.{with_right, decided, barred, with_later, tupled}
-use Rattle.rel_trace.specs.Scopes.{Around, with_it, with_argument}
+use Rattle.rel_trace.specs.Joins.{decided, barred}
+use Rattle.rel_trace.specs.Scopes.{Around, with_argument, with_it, with_left}
 
 -- the forms with two parts
 pub data TwoKind : Type 0 where
@@ -26,8 +22,8 @@ pub data TwoKind : Type 0 where
   each_kind : (head : Place) → TwoKind
   sift_kind : (head : Place) → TwoKind
   argument_kind : TwoKind
-  sign_kind : (sign : BinarySign) (place : Place) → TwoKind
-  tuple_kind : (joining : Joining) (span : Place) → TwoKind
+  left_kind : TwoKind
+  turned_kind : (span : Place) → TwoKind
 
 -- what a form makes of the trace of its first part and of what its second part is in any scope
 abbrev pub two_whole : TwoKind → Trace → (Around → Trace) → Around → Trace
@@ -37,8 +33,8 @@ two_whole (logic_kind l) a f s = each a (decided l (f s))
 two_whole (each_kind h) a f s = each a (λ v. turned h (f (with_it s v)))
 two_whole (sift_kind h) a f s = each a (sifted h (λ v. f (with_it s v)))
 two_whole argument_kind a f s = each a (λ v. f (with_argument s v))
-two_whole (sign_kind g p) a f s = each a (with_right g p (f s))
-two_whole (tuple_kind j p) a f s = each a (tupled j p (f s))
+two_whole left_kind a f s = each a (λ v. f (with_left s v))
+two_whole (turned_kind p) a f s = each a (λ v. turned p (f (with_left s v)))
 
 -- Below, `a` is what the first part has left, `b` what the second has left in any scope, and `f` what the second is from its
 -- beginning.
@@ -65,6 +61,8 @@ abbrev pub handing_kind : Handing → TwoKind
 handing_kind (Each h held) = each_kind h
 handing_kind (Sift h held seen) = sift_kind h
 handing_kind (Argument held) = argument_kind
+handing_kind (Left held) = left_kind
+handing_kind (Turned p held) = turned_kind p
 
 abbrev pub handing_left : Handing → Trace → (Around → Trace) → (Around → Trace) → Around → Trace
 handing_left (Each h None) a b f s = each a (λ v. turned h (f (with_it s v)))
@@ -73,6 +71,10 @@ handing_left (Sift h None seen) a b f s = each a (sifted h (λ v. f (with_it s v
 handing_left (Sift h (Some v) seen) a b f s = follow (kept v seen (b (with_it s v))) (each a (sifted h (λ v. f (with_it s v))))
 handing_left (Argument None) a b f s = each a (λ v. f (with_argument s v))
 handing_left (Argument (Some v)) a b f s = follow (b (with_argument s v)) (each a (λ v. f (with_argument s v)))
+handing_left (Left None) a b f s = each a (λ v. f (with_left s v))
+handing_left (Left (Some v)) a b f s = follow (b (with_left s v)) (each a (λ v. f (with_left s v)))
+handing_left (Turned p None) a b f s = each a (λ v. turned p (f (with_left s v)))
+handing_left (Turned p (Some v)) a b f s = follow (b (with_left s v)) (each a (λ v. turned p (f (with_left s v))))
 
 abbrev pub holds : Option Plain → Bool
 holds None = false
@@ -82,49 +84,36 @@ abbrev pub handing_on : Handing → Bool
 handing_on (Each h held) = holds held
 handing_on (Sift h held seen) = holds held
 handing_on (Argument held) = holds held
+handing_on (Left held) = holds held
+handing_on (Turned p held) = holds held
 
 -- what is handed down to the second part
 abbrev pub handed_down : Handing → Around → Around
 handed_down (Each h (Some v)) s = with_it s v
 handed_down (Sift h (Some v) seen) s = with_it s v
 handed_down (Argument (Some v)) s = with_argument s v
+handed_down (Left (Some v)) s = with_left s v
+handed_down (Turned p (Some v)) s = with_left s v
 handed_down _ s = s
-
-abbrev pub join_kind : Join → TwoKind
-join_kind (Sign g p held) = sign_kind g p
-join_kind (Tuple j p held) = tuple_kind j p
-
-abbrev pub join_left : Join → Trace → (Around → Trace) → (Around → Trace) → Around → Trace
-join_left (Sign g p None) a b f s = each a (with_right g p (f s))
-join_left (Sign g p (Some x)) a b f s = follow (with_right g p (b s) x) (each a (with_right g p (f s)))
-join_left (Tuple j p None) a b f s = each a (tupled j p (f s))
-join_left (Tuple j p (Some x)) a b f s = follow (with_later j p (b s) x) (each a (tupled j p (f s)))
-
-abbrev pub join_on : Join → Bool
-join_on (Sign g p held) = holds held
-join_on (Tuple j p held) = holds held
 
 abbrev pub two_kind : Two → TwoKind
 two_kind (form.Sequence q) = sequence_kind q
 two_kind (form.Handing h) = handing_kind h
-two_kind (form.Join j) = join_kind j
 
 -- what is left of a form
 abbrev pub two_left : Two → Trace → (Around → Trace) → (Around → Trace) → Around → Trace
 two_left (form.Sequence q) a b f s = sequence_left q a b f s
 two_left (form.Handing h) a b f s = handing_left h a b f s
-two_left (form.Join j) a b f s = join_left j a b f s
 
 -- the next step is one of the second part
 abbrev pub on_second : Two → Bool
 on_second (form.Sequence q) = sequence_on q
 on_second (form.Handing h) = handing_on h
-on_second (form.Join j) = join_on j
 
 -- the scope of the second part
 abbrev pub second_around : Two → Around → Around
 second_around (form.Handing h) s = handed_down h s
-second_around _ s = s
+second_around (form.Sequence q) s = s
 
 -- the second part begins anew, or goes on
 abbrev pub begun : Bool → (Around → Trace) → (Around → Trace) → Around → Trace
@@ -149,15 +138,12 @@ abbrev pub handing_quiet : Handing → ℕ → ℕ → ℕ → ℕ
 handing_quiet (Each h held) q r c = half_quiet (holds held) q r
 handing_quiet (Sift h held seen) q r c = half_quiet (holds held) q r
 handing_quiet (Argument held) q r c = half_quiet (holds held) (q * (c + 2)) r
-
-abbrev pub join_quiet : Join → ℕ → ℕ → ℕ → ℕ
-join_quiet (Sign g p held) q r c = half_quiet (holds held) (q * (c + 2)) r
-join_quiet (Tuple j p held) q r c = half_quiet (holds held) q r
+handing_quiet (Left held) q r c = half_quiet (holds held) (q * (c + 2)) r
+handing_quiet (Turned p held) q r c = half_quiet (holds held) q r
 
 abbrev pub two_quiet : Two → ℕ → ℕ → ℕ → ℕ
 two_quiet (form.Sequence s) q r c = sequence_quiet s q r c
 two_quiet (form.Handing h) q r c = handing_quiet h q r c
-two_quiet (form.Join j) q r c = join_quiet j q r c
 
 abbrev pub begun_quiet : Bool → ℕ → ℕ → ℕ
 begun_quiet true r c = c

@@ -4,16 +4,17 @@ ghost use Rattle.line_forms.specs.Numbers.{IsOffset};
 ghost use Rattle.rel_trace.specs.Trace.{Trace, each};
 ghost use Rattle.rel_trace.specs.Steps.{Goes, HasCause, AsRoom, Falls};
 ghost use Rattle.rel_trace.specs.Ones.{applied, apply_place, made};
+ghost use Rattle.rel_trace.specs.Scopes.{lent};
 ghost use Rattle.rel_trace.specs.Works.{Works};
 
-use crate::operation::{cast_of, inverse, opposite};
+use crate::operation::{cast_of, inverse, operate_left, opposite};
 use crate::worked::Worked;
-use crate::{Held, Step};
-use rel_lexer::Place;
+use crate::{Held, Joining, Step};
+use rel_lexer::{BinarySign, Place};
 use rel_value::Cast;
 use std::alloc::Global;
 
-/// A form that makes a value of each value of its part, without a state.
+/// A form that makes a value of each value of its part, and of the one to the left in scope, without a state.
 #[derive(Clone, Copy)]
 pub enum Apply {
     /// `-` at this place.
@@ -22,32 +23,44 @@ pub enum Apply {
     Not { place: Place },
     /// A cast, whose words are at this place.
     Cast { to: Cast, place: Place },
+    /// A sign between the left value and the part's, at this place.
+    Sign { sign: BinarySign, place: Place },
+    /// The left value and the part's as a tuple. The place is the span of the left one's part.
+    Tuple { joining: Joining, span: Place },
 }
 
 impl Apply {
     /// After a step of the part. Times are written as a clock shows them that is `offset` minutes east of UTC.
-    pub(crate) fn after(self, alloc: Global, step: Step, offset: i64) -> Step
+    pub(crate) fn after(
+        self,
+        alloc: Global,
+        step: Step,
+        left: Option<&Held>,
+        offset: i64,
+    ) -> Step
         requires { IsOffset offset }
-        ensures goes { (l l' : List Key) (t t' : Trace) → Goes l t step l' t' → Goes l (each t (applied self offset)) result l' (each t' (applied self offset)) }
+        ensures goes { (l l' : List Key) (t t' : Trace) → Goes l t step l' t' → Goes l (each t (applied self offset (lent left.entry))) result l' (each t' (applied self offset (lent left.entry))) }
         ensures cause { (a b : ℕ) → HasCause a b step → HasCause a b result }
         ensures room { (r : Bool) → AsRoom r step → AsRoom r result }
         ensures falls { (q q' : ℕ) → Falls step q q' → Falls result q q' }
     {
         match step {
-            Step::Given(value) => self.of(alloc, &value, offset).at(self.place()),
+            Step::Given(value) => self.of(alloc, left, value, offset).at(self.place()),
             other => other,
         }
     }
 
     /// What it makes of a value.
-    fn of(self, alloc: Global, value: &Held, offset: i64) -> Worked
+    fn of(self, alloc: Global, left: Option<&Held>, value: Held, offset: i64) -> Worked
         requires { IsOffset offset }
-        ensures { Works (made self offset value.now) result }
+        ensures { Works (made self offset (lent left.entry) value) result }
     {
         match self {
-            Apply::Negate { .. } => opposite(value),
-            Apply::Not { .. } => inverse(value),
-            Apply::Cast { to, .. } => cast_of(alloc, to, value, offset),
+            Apply::Negate { .. } => opposite(&value),
+            Apply::Not { .. } => inverse(&value),
+            Apply::Cast { to, .. } => cast_of(alloc, to, &value, offset),
+            Apply::Sign { sign, .. } => operate_left(alloc, sign, left, &value),
+            Apply::Tuple { joining, .. } => joining.tie_left(alloc, left, value),
         }
     }
 
@@ -58,6 +71,8 @@ impl Apply {
             Apply::Negate { place } => place,
             Apply::Not { place } => place,
             Apply::Cast { place, .. } => place,
+            Apply::Sign { place, .. } => place,
+            Apply::Tuple { span, .. } => span,
         }
     }
 }

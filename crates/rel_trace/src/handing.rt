@@ -26,6 +26,15 @@ pub enum Handing {
     Argument {
         held: Option<Held>,
     },
+    /// The second part with the value to its left.
+    Left {
+        held: Option<Held>,
+    },
+    /// A turn at the first part's span, and then the second part with the value to its left.
+    Turned {
+        span: Place,
+        held: Option<Held>,
+    },
 }
 
 impl Handing {
@@ -36,6 +45,8 @@ impl Handing {
             Handing::Each { held, .. } => held.is_some(),
             Handing::Sift { held, .. } => held.is_some(),
             Handing::Argument { held } => held.is_some(),
+            Handing::Left { held } => held.is_some(),
+            Handing::Turned { held, .. } => held.is_some(),
         }
     }
 
@@ -47,6 +58,8 @@ impl Handing {
             Handing::Each { held, .. } => *held = None,
             Handing::Sift { held, .. } => *held = None,
             Handing::Argument { held } => *held = None,
+            Handing::Left { held } => *held = None,
+            Handing::Turned { held, .. } => *held = None,
         }
     }
 
@@ -60,18 +73,29 @@ impl Handing {
                 ..
             } => Scope {
                 it: Some(value),
-                argument: scope.argument,
+                ..scope
             },
             Handing::Sift {
                 held: Some(value),
                 ..
             } => Scope {
                 it: Some(value),
-                argument: scope.argument,
+                ..scope
             },
             Handing::Argument { held: Some(value) } => Scope {
-                it: scope.it,
                 argument: Some(value),
+                ..scope
+            },
+            Handing::Left { held: Some(value) } => Scope {
+                left: Some(value),
+                ..scope
+            },
+            Handing::Turned {
+                held: Some(value),
+                ..
+            } => Scope {
+                left: Some(value),
+                ..scope
             },
             _ => scope,
         }
@@ -106,6 +130,20 @@ impl Handing {
                 Step::Given(value) => {
                     *held = Some(value);
                     Next::beginning(Step::Quiet)
+                }
+                other => Next::going_on(other),
+            },
+            Handing::Left { held } => match step {
+                Step::Given(value) => {
+                    *held = Some(value);
+                    Next::beginning(Step::Quiet)
+                }
+                other => Next::going_on(other),
+            },
+            Handing::Turned { span, held } => match step {
+                Step::Given(value) => {
+                    *held = Some(value);
+                    Next::beginning(Step::Turned(*span))
                 }
                 other => Next::going_on(other),
             },
@@ -155,6 +193,20 @@ impl Handing {
                 other => other,
             },
             Handing::Argument { held } => match step {
+                Step::Over => {
+                    *held = None;
+                    Step::Quiet
+                }
+                other => other,
+            },
+            Handing::Left { held } => match step {
+                Step::Over => {
+                    *held = None;
+                    Step::Quiet
+                }
+                other => other,
+            },
+            Handing::Turned { held, .. } => match step {
                 Step::Over => {
                     *held = None;
                     Step::Quiet

@@ -3,7 +3,8 @@ ghost use Rattle.rel_value.specs.Outcomes.{gives};
 ghost use Rattle.rel_value.specs.Plain.{more_parts, tuple};
 ghost use Rattle.rel_value.specs.Views.{shown, shown_parts};
 ghost use Rattle.rel_trace.specs.declared.joining.Joining.TheVariants.{Pair, Push};
-ghost use Rattle.rel_trace.specs.Joins.{tied};
+ghost use Rattle.rel_trace.specs.Joins.{tied, tied_left};
+ghost use Rattle.rel_trace.specs.Scopes.{lent};
 ghost use Rattle.rel_trace.specs.Works.{Works};
 
 use crate::Held;
@@ -21,8 +22,18 @@ pub enum Joining {
 }
 
 impl Joining {
+    /// The tuple of the left value in scope and a later one.
+    pub(crate) fn tie_left(self, alloc: Global, left: Option<&Held>, later: Held) -> Worked
+        ensures { Works (tied_left self (lent left.entry) later) result }
+    {
+        match left {
+            Some(earlier) => self.tie(alloc, earlier, later),
+            None => Worked::Without,
+        }
+    }
+
     /// The tuple of an earlier value, or of the parts of an earlier tuple, and a later one.
-    pub(crate) fn tie(self, alloc: Global, earlier: &Held, later: Held) -> Worked
+    fn tie(self, alloc: Global, earlier: &Held, later: Held) -> Worked
         ensures { Works (tied self earlier.now later) result }
     {
         match self {

@@ -3,11 +3,11 @@ ghost use Rattle.bf_world.specs.declared.key.Key.{Key};
 ghost use Rattle.line_forms.specs.Numbers.{IsOffset};
 ghost use Rattle.rel_trace.specs.Trace.{Trace};
 ghost use Rattle.rel_trace.specs.Steps.{Goes, HasCause, AsRoom, Falls};
-ghost use Rattle.rel_trace.specs.Ones.{cast_kind, exists_kind, fold_kind, is_done, negate_kind, not_kind, one_kind, one_left, one_quiet, one_whole, single_kind};
+ghost use Rattle.rel_trace.specs.Ones.{cast_kind, exists_kind, fold_kind, is_done, negate_kind, not_kind, one_kind, one_left, one_quiet, one_whole, sign_kind, single_kind, tuple_kind};
 ghost use Rattle.rel_trace.specs.Scopes.{Around, seen};
 
-use crate::{Apply, Draw, Fold, Folding, Scope, Step};
-use rel_lexer::Place;
+use crate::{Apply, Draw, Fold, Folding, Joining, Scope, Step};
+use rel_lexer::{BinarySign, Place};
 use rel_value::Cast;
 use std::alloc::Global;
 
@@ -72,6 +72,22 @@ impl One {
         One::Apply(Apply::Cast { to, place })
     }
 
+    /// A sign between the left value in scope and the part's, at this place.
+    pub fn sign(sign: BinarySign, place: Place) -> One
+        ensures kind { one_kind result ≡ sign_kind sign place }
+        ensures left { (s : Around) (offset : ℤ) (t : Trace) → one_left result s offset t ≡ one_whole (sign_kind sign place) s offset t }
+    {
+        One::Apply(Apply::Sign { sign, place })
+    }
+
+    /// The left value in scope and the part's as a tuple. The place is the span of the left one's part.
+    pub fn tuple(joining: Joining, span: Place) -> One
+        ensures kind { one_kind result ≡ tuple_kind joining span }
+        ensures left { (s : Around) (offset : ℤ) (t : Trace) → one_left result s offset t ≡ one_whole (tuple_kind joining span) s offset t }
+    {
+        One::Apply(Apply::Tuple { joining, span })
+    }
+
     /// Whether it has given all that it gives. Its part is not stepped any more.
     pub fn is_done(&self) -> bool
         ensures { result ≡ is_done self.now }
@@ -108,7 +124,7 @@ impl One {
         match self {
             One::Draw(draw) => draw.after(step),
             One::Fold(folding) => folding.after(alloc, step, scope.argument),
-            One::Apply(apply) => apply.after(alloc, step, offset),
+            One::Apply(apply) => apply.after(alloc, step, scope.left, offset),
         }
     }
 }

@@ -5,7 +5,9 @@ ghost use Rattle.rel_value.specs.Outcomes.{Outcome};
 ghost use Rattle.rel_value.specs.Signs.{negated, op};
 ghost use Rattle.rel_value.specs.Views.{shown};
 ghost use Rattle.rel_trace.specs.Folds.{beyond, later_if, signed};
+ghost use Rattle.rel_trace.specs.Joins.{op_left};
 ghost use Rattle.rel_trace.specs.Ones.{inverted};
+ghost use Rattle.rel_trace.specs.Scopes.{lent};
 ghost use Rattle.rel_trace.specs.Works.{Works};
 
 use crate::Held;
@@ -24,6 +26,21 @@ pub(crate) fn operate(alloc: Global, sign: BinarySign, left: &Held, right: &Held
         Worked::of(binary(alloc, sign, left, right))
     } else {
         Worked::Without
+    }
+}
+
+/// What a sign gives for the left value in scope and a right one.
+pub(crate) fn operate_left(
+    alloc: Global,
+    sign: BinarySign,
+    left: Option<&Held>,
+    right: &Held,
+) -> Worked
+    ensures { Works (op_left sign (lent left.entry) right.now) result }
+{
+    match left {
+        Some(left) => operate(alloc, sign, left, right),
+        None => Worked::Without,
     }
 }
 

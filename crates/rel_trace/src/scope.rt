@@ -7,4 +7,6 @@ pub struct Scope<'a> {
     pub it: Option<&'a Held>,
     /// The argument of the head around it.
     pub argument: Option<&'a Held>,
+    /// The value to its left, which a sign or a tuple joins with its own.
+    pub left: Option<&'a Held>,
 }

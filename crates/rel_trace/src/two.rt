@@ -3,18 +3,16 @@ ghost use Rattle.bf_world.specs.declared.key.Key.{Key};
 ghost use Rattle.rel_trace.specs.Trace.{Trace};
 ghost use Rattle.rel_trace.specs.Steps.{Goes, HasCause, AsRoom, Falls};
 ghost use Rattle.rel_trace.specs.Scopes.{Around, seen};
-ghost use Rattle.rel_trace.specs.Twos.{argument_kind, bar_kind, begun, begun_quiet, each_kind, logic_kind, on_second, second_around, sift_kind, sign_kind, then_kind, tuple_kind, two_kind, two_left, two_quiet, two_whole};
+ghost use Rattle.rel_trace.specs.Twos.{argument_kind, bar_kind, begun, begun_quiet, each_kind, left_kind, logic_kind, on_second, second_around, sift_kind, then_kind, turned_kind, two_kind, two_left, two_quiet, two_whole};
 
-use crate::{Handing, Join, Joining, Logic, Next, Scope, Sequence, Step};
-use rel_lexer::{BinarySign, Place};
-use std::alloc::Global;
+use crate::{Handing, Logic, Next, Scope, Sequence, Step};
+use rel_lexer::Place;
 
 /// The state of a form with two parts.
 #[derive(Drop)]
 pub enum Two {
     Sequence(Sequence),
     Handing(Handing),
-    Join(Join),
 }
 
 impl Two {
@@ -73,28 +71,20 @@ impl Two {
         Two::Handing(Handing::Argument { held: None })
     }
 
-    /// A sign between two operands, at this place.
-    pub fn sign(sign: BinarySign, place: Place) -> Two
-        ensures kind { two_kind result ≡ sign_kind sign place }
-        ensures left { (a : Trace) (b f : Around → Trace) (s : Around) → two_left result a b f s ≡ two_whole (sign_kind sign place) a f s }
+    /// The second part with the value of the first to its left.
+    pub fn left() -> Two
+        ensures kind { two_kind result ≡ left_kind }
+        ensures left { (a : Trace) (b f : Around → Trace) (s : Around) → two_left result a b f s ≡ two_whole (left_kind) a f s }
     {
-        Two::Join(Join::Sign {
-            sign,
-            place,
-            held: None,
-        })
+        Two::Handing(Handing::Left { held: None })
     }
 
-    /// A tuple of its earlier parts and the next one. The place is the span of the part before the next one.
-    pub fn tuple(joining: Joining, span: Place) -> Two
-        ensures kind { two_kind result ≡ tuple_kind joining span }
-        ensures left { (a : Trace) (b f : Around → Trace) (s : Around) → two_left result a b f s ≡ two_whole (tuple_kind joining span) a f s }
+    /// A turn at the first part's span, and then the second part with the value of the first to its left.
+    pub fn turned(span: Place) -> Two
+        ensures kind { two_kind result ≡ turned_kind span }
+        ensures left { (a : Trace) (b f : Around → Trace) (s : Around) → two_left result a b f s ≡ two_whole (turned_kind span) a f s }
     {
-        Two::Join(Join::Tuple {
-            joining,
-            span,
-            held: None,
-        })
+        Two::Handing(Handing::Turned { span, held: None })
     }
 
     /// Whether the next step is one of the second part.
@@ -104,7 +94,6 @@ impl Two {
         match self {
             Two::Sequence(sequence) => sequence.on_second(),
             Two::Handing(handing) => handing.on_second(),
-            Two::Join(join) => join.on_second(),
         }
     }
 
@@ -116,7 +105,6 @@ impl Two {
         match self {
             Two::Sequence(sequence) => sequence.reset(),
             Two::Handing(handing) => handing.reset(),
-            Two::Join(join) => join.reset(),
         }
     }
 
@@ -126,7 +114,7 @@ impl Two {
     {
         match self {
             Two::Handing(handing) => handing.hand_down(scope),
-            _ => scope,
+            Two::Sequence(_) => scope,
         }
     }
 
@@ -142,12 +130,11 @@ impl Two {
         match self {
             Two::Sequence(sequence) => sequence.after_first(step),
             Two::Handing(handing) => handing.after_first(step),
-            Two::Join(join) => join.after_first(step),
         }
     }
 
     /// The step that follows from a step of the second part.
-    pub fn after_second(&mut self, alloc: Global, step: Step) -> Step
+    pub fn after_second(&mut self, step: Step) -> Step
         requires { on_second self.old ≡ true }
         ensures kind { two_kind self.new ≡ two_kind self.old }
         ensures goes { (l l' : List Key) (a : Trace) (b b' f : Around → Trace) (s : Around) → Goes l (b (second_around self.old s)) step l' (b' (second_around self.old s)) → Goes l (two_left self.old a b f s) result l' (two_left self.new a b' f s) }
@@ -158,7 +145,6 @@ impl Two {
         match self {
             Two::Sequence(sequence) => sequence.after_second(step),
             Two::Handing(handing) => handing.after_second(step),
-            Two::Join(join) => join.after_second(alloc, step),
         }
     }
 }

@@ -75,8 +75,8 @@ fn a_part_is_given_as_its_text(rt: HostRuntime) -> Result<(), AllocError> {
 fn listed(rt: &HostRuntime, first: &str, second: &str) -> Result<Step, AllocError> {
     let separator = Held::new(Value::Text(text(rt, ", ")?));
     let scope = Scope {
-        it: None,
         argument: Some(&separator),
+        ..ALONE
     };
     let mut listed = One::fold(Fold::Separated, HERE);
     let first = Step::Given(Held::new(Value::Text(text(rt, first)?)));

@@ -1,23 +1,44 @@
 use super::*;
 use rel_lexer::BinarySign;
-use rel_value::{Cast, text};
+use rel_value::{Cast, Values, text};
 use std::alloc::AllocError;
+
+/// A number.
+fn held(number: i64) -> Held {
+    Held::new(Value::Integer(number))
+}
+
+/// After a step of the part, with a value to its left.
+fn beside(rt: &HostRuntime, one: &mut One, left: &Held, step: Step) -> Step {
+    let scope = Scope {
+        left: Some(left),
+        ..ALONE
+    };
+    if one.is_done() {
+        return Step::Over;
+    }
+    one.after(rt.alloc(), step, scope, 0)
+}
 
 #[test]
 fn a_sign_joins_two_numbers(rt: HostRuntime) {
-    let mut sum = Two::sign(BinarySign::Plus, HERE);
-    let next = first(&mut sum, number(1));
-    assert!(rt; next.begins);
-    let step = second(&rt, &mut sum, number(2));
+    let mut sum = One::sign(BinarySign::Plus, HERE);
+    let step = beside(&rt, &mut sum, &held(1), number(2));
     assert!(rt; is_number(&step, 3));
 }
 
 #[test]
 fn a_fault_is_an_error_at_the_sign(rt: HostRuntime) {
-    let mut quotient = Two::sign(BinarySign::Over, HERE);
-    let _ = first(&mut quotient, number(1));
-    let step = second(&rt, &mut quotient, number(0));
+    let mut quotient = One::sign(BinarySign::Over, HERE);
+    let step = beside(&rt, &mut quotient, &held(1), number(0));
     assert!(rt; is_error(&step, RelKind::DivideByZero));
+}
+
+#[test]
+fn a_sign_without_a_left_value_gives_nothing(rt: HostRuntime) {
+    let mut sum = One::sign(BinarySign::Plus, HERE);
+    let step = on(&rt, &mut sum, number(2));
+    assert!(rt; is_quiet(&step));
 }
 
 #[test]
@@ -56,23 +77,25 @@ fn is_tuple(rt: &HostRuntime, step: &Step, wanted: &str) -> bool {
 }
 
 #[test]
-fn a_tuple_of_two_takes_a_turn(rt: HostRuntime) {
-    let mut pair = Two::tuple(Joining::Pair, HERE);
-    let next = first(&mut pair, number(1));
-    assert!(rt; is_turn(&next.step));
-    let step = second(&rt, &mut pair, number(2));
+fn two_values_make_a_tuple(rt: HostRuntime) {
+    let mut pair = One::tuple(Joining::Pair, HERE);
+    let step = beside(&rt, &mut pair, &held(1), number(2));
     assert!(rt; is_tuple(&rt, &step, "1, 2"));
 }
 
+/// `1, 2`
+fn one_and_two(rt: &HostRuntime) -> Result<Held, AllocError> {
+    let parts = Values::pair(rt.alloc(), Value::Integer(1), Value::Integer(2))?;
+    Ok(Held::new(Value::Tuple(parts)))
+}
+
 #[test]
-fn a_further_part_is_put_at_the_end(rt: HostRuntime) {
-    let mut pair = Two::tuple(Joining::Pair, HERE);
-    let _ = first(&mut pair, number(1));
-    let step = second(&rt, &mut pair, number(2));
-    let mut push = Two::tuple(Joining::Push, HERE);
-    let _ = first(&mut push, step);
-    let step = second(&rt, &mut push, number(3));
+fn a_further_part_is_put_at_the_end(rt: HostRuntime) -> Result<(), AllocError> {
+    let earlier = one_and_two(&rt)?;
+    let mut push = One::tuple(Joining::Push, HERE);
+    let step = beside(&rt, &mut push, &earlier, number(3));
     assert!(rt; is_tuple(&rt, &step, "1, 2, 3"));
-    let step = second(&rt, &mut push, number(4));
+    let step = beside(&rt, &mut push, &earlier, number(4));
     assert!(rt; is_tuple(&rt, &step, "1, 2, 4"));
+    Ok(())
 }

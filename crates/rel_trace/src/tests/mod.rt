@@ -15,6 +15,7 @@ const HERE: Place = Place { from: 3, to: 7 };
 const ALONE: Scope<'static> = Scope {
     it: None,
     argument: None,
+    left: None,
 };
 
 /// A step that gives a number.
@@ -109,9 +110,9 @@ fn first(two: &mut Two, step: Step) -> Next {
 }
 
 /// After a step of the second part, where it is that one's turn.
-fn second(rt: &HostRuntime, two: &mut Two, step: Step) -> Step {
+fn second(two: &mut Two, step: Step) -> Step {
     if two.on_second() {
-        return two.after_second(rt.alloc(), step);
+        return two.after_second(step);
     }
     Step::Memory
 }

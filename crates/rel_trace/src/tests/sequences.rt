@@ -7,7 +7,7 @@ fn one_part_follows_the_other(rt: HostRuntime) {
     assert!(rt; is_number(&next.step, 1));
     let next = first(&mut both, Step::Over);
     assert!(rt; next.begins);
-    let step = second(&rt, &mut both, Step::Over);
+    let step = second(&mut both, Step::Over);
     assert!(rt; is_over(&step));
 }
 
@@ -17,7 +17,7 @@ fn a_bar_goes_on_after_an_error(rt: HostRuntime) {
     let next = first(&mut bar, erred(RelKind::DivideByZero));
     assert!(rt; next.begins);
     assert!(rt; is_quiet(&next.step));
-    let step = second(&rt, &mut bar, number(7));
+    let step = second(&mut bar, number(7));
     assert!(rt; is_number(&step, 7));
 }
 
@@ -38,7 +38,7 @@ fn a_side_that_decides_is_all(rt: HostRuntime) {
     let mut either = Two::logical(Logic::Or);
     let next = first(&mut either, truth(false));
     assert!(rt; next.begins);
-    let step = second(&rt, &mut either, truth(true));
+    let step = second(&mut either, truth(true));
     assert!(rt; is_truth(&step, true));
 }
 

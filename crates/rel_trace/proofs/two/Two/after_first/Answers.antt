@@ -6,6 +6,3 @@ returns-in-Sequence-clause-goes c = λ l l' t t' b f s h. rw c.in-Sequence.is (c
 
 pub returns-in-Handing-clause-goes : goal.returns-in-Handing-clause-goes
 returns-in-Handing-clause-goes c = λ l l' t t' b f s h. rw c.in-Handing.is (c.after_first-in-Handing.ensures.goes l l' t t' b f s h)
-
-pub returns-in-Join-clause-goes : goal.returns-in-Join-clause-goes
-returns-in-Join-clause-goes c = λ l l' t t' b f s h. rw c.in-Join.is (c.after_first-in-Join.ensures.goes l l' t t' b f s h)

@@ -6,6 +6,3 @@ returns-in-Sequence-clause-goes c = λ l l' a b b' f s. rw c.in-Sequence.is (λ 
 
 pub returns-in-Handing-clause-goes : goal.returns-in-Handing-clause-goes
 returns-in-Handing-clause-goes c = λ l l' a b b' f s. rw c.in-Handing.is (λ h. c.after_second-in-Handing.ensures.goes l l' a b b' f s h)
-
-pub returns-in-Join-clause-goes : goal.returns-in-Join-clause-goes
-returns-in-Join-clause-goes c = λ l l' a b b' f s. rw c.in-Join.is (λ h. c.after_second-in-Join.ensures.goes l l' a b b' f s h)
