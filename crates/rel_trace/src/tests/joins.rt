@@ -1,7 +1,6 @@
 use super::*;
 use rel_lexer::BinarySign;
-use rel_value::{Cast, text};
-use std::alloc::AllocError;
+use rel_value::Cast;
 
 #[test]
 fn a_sign_joins_two_numbers(rt: HostRuntime) {
@@ -30,24 +29,20 @@ fn signs_before_one_operand(rt: HostRuntime) {
     assert!(rt; is_truth(&step, false));
 }
 
-/// `"x" as integer`
-fn no_integer(rt: &HostRuntime) -> Result<Step, AllocError> {
-    let x = Value::Text(Text::from_str(rt.alloc(), "x")?);
-    let mut cast = One::cast(Cast::Integer, HERE);
-    Ok(on(rt, &mut cast, Step::Given(Held::new(x))))
-}
-
 #[test]
-fn a_text_without_the_form_does_not_exist(rt: HostRuntime) -> Result<(), AllocError> {
-    let step = no_integer(&rt)?;
-    assert!(rt; is_error(&step, RelKind::Nonexistent));
-    Ok(())
+fn a_text_without_the_form_does_not_exist(rt: HostRuntime) {
+    let mut cast = One::cast(Cast::Integer, HERE);
+    let absent = match text(&rt, "x") {
+        Some(held) => is_error(&on(&rt, &mut cast, Step::Given(held)), RelKind::Nonexistent),
+        None => false,
+    };
+    assert!(rt; absent);
 }
 
 /// A tuple's text.
 fn is_tuple(rt: &HostRuntime, step: &Step, wanted: &str) -> bool {
     match step {
-        Step::Given(held) => match text(rt.alloc(), held.value(), 0) {
+        Step::Given(held) => match rel_value::text(rt.alloc(), held.value(), 0) {
             Ok(text) => text.as_str() == wanted,
             Err(_) => false,
         },
