@@ -1,6 +1,7 @@
 ghost use Rattle.std.specs.Prelude.{◌≡◌, ℕ, List, Bool, true, false};
 ghost use Rattle.bf_world.specs.declared.key.Key.{Key};
 ghost use Rattle.rel_trace.specs.Trace.{Trace};
+ghost use Rattle.rel_trace.specs.declared.step.Step.TheVariants.{Memory};
 ghost use Rattle.rel_trace.specs.Steps.{Goes, HasCause, AsRoom, Falls};
 ghost use Rattle.rel_trace.specs.Scopes.{Around, seen};
 ghost use Rattle.rel_trace.specs.Twos.{begun, begun_quiet, handed_down, handing_kind, handing_left, handing_on, handing_quiet, two_whole};
@@ -108,6 +109,8 @@ impl Handing {
         ensures goes { (l l' : List Key) (t t' : Trace) (b f : Around → Trace) (s : Around) → Goes l t step l' t' → Goes l (handing_left self.old t b f s) result.step l' (handing_left self.new t' (begun result.begins b f) f s) }
         ensures cause { (a b : ℕ) → HasCause a b step → HasCause a b result.step }
         ensures room { (r : Bool) → AsRoom r step → AsRoom r result.step }
+        ensures begins { result.begins ≡ handing_on self.new }
+        ensures memory { result.step ≡ Memory → step ≡ Memory }
         ensures falls { (q q' r c : ℕ) → Falls step q q' → Falls result.step (handing_quiet self.old q r c) (handing_quiet self.new q' (begun_quiet result.begins r c) c) }
     {
         match self {
@@ -157,6 +160,7 @@ impl Handing {
         ensures goes { (l l' : List Key) (a : Trace) (b b' f : Around → Trace) (s : Around) → Goes l (b (handed_down self.old s)) step l' (b' (handed_down self.old s)) → Goes l (handing_left self.old a b f s) result l' (handing_left self.new a b' f s) }
         ensures cause { (a b : ℕ) → HasCause a b step → HasCause a b result }
         ensures room { (r : Bool) → AsRoom r step → AsRoom r result }
+        ensures memory { result ≡ Memory → step ≡ Memory }
         ensures falls { (q r r' c : ℕ) → Falls step r r' → Falls result (handing_quiet self.old q r c) (handing_quiet self.new q r' c) }
     {
         match self {

@@ -1,7 +1,6 @@
 use super::*;
 use rel_lexer::BinarySign;
-use rel_value::{Cast, Values, text};
-use std::alloc::AllocError;
+use rel_value::Cast;
 
 /// A number.
 fn held(number: i64) -> Held {
@@ -51,24 +50,20 @@ fn signs_before_one_operand(rt: HostRuntime) {
     assert!(rt; is_truth(&step, false));
 }
 
-/// `"x" as integer`
-fn no_integer(rt: &HostRuntime) -> Result<Step, AllocError> {
-    let x = Value::Text(Text::from_str(rt.alloc(), "x")?);
-    let mut cast = One::cast(Cast::Integer, HERE);
-    Ok(on(rt, &mut cast, Step::Given(Held::new(x))))
-}
-
 #[test]
-fn a_text_without_the_form_does_not_exist(rt: HostRuntime) -> Result<(), AllocError> {
-    let step = no_integer(&rt)?;
-    assert!(rt; is_error(&step, RelKind::Nonexistent));
-    Ok(())
+fn a_text_without_the_form_does_not_exist(rt: HostRuntime) {
+    let mut cast = One::cast(Cast::Integer, HERE);
+    let absent = match text(&rt, "x") {
+        Some(held) => is_error(&on(&rt, &mut cast, Step::Given(held)), RelKind::Nonexistent),
+        None => false,
+    };
+    assert!(rt; absent);
 }
 
 /// A tuple's text.
 fn is_tuple(rt: &HostRuntime, step: &Step, wanted: &str) -> bool {
     match step {
-        Step::Given(held) => match text(rt.alloc(), held.value(), 0) {
+        Step::Given(held) => match rel_value::text(rt.alloc(), held.value(), 0) {
             Ok(text) => text.as_str() == wanted,
             Err(_) => false,
         },
@@ -84,18 +79,26 @@ fn two_values_make_a_tuple(rt: HostRuntime) {
 }
 
 /// `1, 2`
-fn one_and_two(rt: &HostRuntime) -> Result<Held, AllocError> {
-    let parts = Values::pair(rt.alloc(), Value::Integer(1), Value::Integer(2))?;
-    Ok(Held::new(Value::Tuple(parts)))
+fn one_and_two(rt: &HostRuntime) -> Option<Held> {
+    let mut pair = One::tuple(Joining::Pair, HERE);
+    match beside(rt, &mut pair, &held(1), number(2)) {
+        Step::Given(tuple) => Some(tuple),
+        _ => None,
+    }
+}
+
+/// Whether a number is put at the end of `1, 2`, giving a tuple with this text.
+fn is_pushed(rt: &HostRuntime, last: i64, wanted: &str) -> bool {
+    let Some(earlier) = one_and_two(rt) else {
+        return false;
+    };
+    let mut push = One::tuple(Joining::Push, HERE);
+    let step = beside(rt, &mut push, &earlier, number(last));
+    is_tuple(rt, &step, wanted)
 }
 
 #[test]
-fn a_further_part_is_put_at_the_end(rt: HostRuntime) -> Result<(), AllocError> {
-    let earlier = one_and_two(&rt)?;
-    let mut push = One::tuple(Joining::Push, HERE);
-    let step = beside(&rt, &mut push, &earlier, number(3));
-    assert!(rt; is_tuple(&rt, &step, "1, 2, 3"));
-    let step = beside(&rt, &mut push, &earlier, number(4));
-    assert!(rt; is_tuple(&rt, &step, "1, 2, 4"));
-    Ok(())
+fn a_further_part_is_put_at_the_end(rt: HostRuntime) {
+    assert!(rt; is_pushed(&rt, 3, "1, 2, 3"));
+    assert!(rt; is_pushed(&rt, 4, "1, 2, 4"));
 }

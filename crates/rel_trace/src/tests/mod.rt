@@ -28,6 +28,15 @@ fn truth(given: bool) -> Step {
     Step::Given(Held::new(Value::Boolean(given)))
 }
 
+/// A short text.
+fn text(rt: &HostRuntime, bytes: &str) -> Option<Held> {
+    if bytes.len() > 64 {
+        return None;
+    }
+    let text = Text::from_str(rt.alloc(), bytes).ok()?;
+    Some(Held::new(Value::Text(text)))
+}
+
 fn erred(kind: RelKind) -> Step {
     Step::Erred(kind, HERE)
 }
@@ -91,11 +100,15 @@ fn is_turn(step: &Step) -> bool {
 }
 
 /// After a step of the part, where it is not done yet.
-fn on(rt: &HostRuntime, one: &mut One, step: Step) -> Step {
+fn in_scope(rt: &HostRuntime, one: &mut One, step: Step, scope: Scope<'_>) -> Step {
     if one.is_done() {
         return Step::Over;
     }
-    one.after(rt.alloc(), step, ALONE, 0)
+    one.after(rt.alloc(), step, scope, 0)
+}
+
+fn on(rt: &HostRuntime, one: &mut One, step: Step) -> Step {
+    in_scope(rt, one, step, ALONE)
 }
 
 /// After a step of the first part, where it is that one's turn; and whether the second begins.
