@@ -1,0 +1,5 @@
+pub mod SoundRows
+pub mod Rows
+pub mod Follows
+pub mod Measures
+pub mod Folds

@@ -1,0 +1,12 @@
+pub mod Kinds
+pub mod Trace
+pub mod Draws
+pub mod Folds
+pub mod Joins
+pub mod Scopes
+pub mod Steps
+pub mod Works
+pub mod Ones
+pub mod Twos
+pub mod Choices
+pub mod Codes

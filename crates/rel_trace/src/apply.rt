@@ -1,0 +1,78 @@
+ghost use Rattle.std.specs.Prelude.{◌≡◌, ℕ, List, Bool};
+ghost use Rattle.bf_world.specs.declared.key.Key.{Key};
+ghost use Rattle.line_forms.specs.Numbers.{IsOffset};
+ghost use Rattle.rel_trace.specs.Trace.{Trace, each};
+ghost use Rattle.rel_trace.specs.Steps.{Goes, HasCause, AsRoom, Falls};
+ghost use Rattle.rel_trace.specs.Ones.{applied, apply_place, made};
+ghost use Rattle.rel_trace.specs.Scopes.{lent};
+ghost use Rattle.rel_trace.specs.Works.{Works};
+
+use crate::operation::{cast_of, inverse, operate_left, opposite};
+use crate::worked::Worked;
+use crate::{Held, Joining, Step};
+use rel_lexer::{BinarySign, Place};
+use rel_value::Cast;
+use std::alloc::Global;
+
+/// A form that makes a value of each value of its part, and of the one to the left in scope, without a state.
+#[derive(Clone, Copy)]
+pub enum Apply {
+    /// `-` at this place.
+    Negate { place: Place },
+    /// `not` at this place.
+    Not { place: Place },
+    /// A cast, whose words are at this place.
+    Cast { to: Cast, place: Place },
+    /// A sign between the left value and the part's, at this place.
+    Sign { sign: BinarySign, place: Place },
+    /// The left value and the part's as a tuple. The place is the span of the left one's part.
+    Tuple { joining: Joining, span: Place },
+}
+
+impl Apply {
+    /// After a step of the part. Times are written as a clock shows them that is `offset` minutes east of UTC.
+    pub(crate) fn after(
+        self,
+        alloc: Global,
+        step: Step,
+        left: Option<&Held>,
+        offset: i64,
+    ) -> Step
+        requires { IsOffset offset }
+        ensures goes { (l l' : List Key) (t t' : Trace) → Goes l t step l' t' → Goes l (each t (applied self offset (lent left.entry))) result l' (each t' (applied self offset (lent left.entry))) }
+        ensures cause { (a b : ℕ) → HasCause a b step → HasCause a b result }
+        ensures room { (r : Bool) → AsRoom r step → AsRoom r result }
+        ensures falls { (q q' : ℕ) → Falls step q q' → Falls result q q' }
+    {
+        match step {
+            Step::Given(value) => self.of(alloc, left, value, offset).at(self.place()),
+            other => other,
+        }
+    }
+
+    /// What it makes of a value.
+    fn of(self, alloc: Global, left: Option<&Held>, value: Held, offset: i64) -> Worked
+        requires { IsOffset offset }
+        ensures { Works (made self offset (lent left.entry) value) result }
+    {
+        match self {
+            Apply::Negate { .. } => opposite(&value),
+            Apply::Not { .. } => inverse(&value),
+            Apply::Cast { to, .. } => cast_of(alloc, to, &value, offset),
+            Apply::Sign { sign, .. } => operate_left(alloc, sign, left, &value),
+            Apply::Tuple { joining, .. } => joining.tie_left(alloc, left, value),
+        }
+    }
+
+    fn place(self) -> Place
+        ensures { result ≡ apply_place self }
+    {
+        match self {
+            Apply::Negate { place } => place,
+            Apply::Not { place } => place,
+            Apply::Cast { place, .. } => place,
+            Apply::Sign { place, .. } => place,
+            Apply::Tuple { span, .. } => span,
+        }
+    }
+}

@@ -1,0 +1,51 @@
+ghost use Rattle.std.specs.Prelude.{ℕ, ◌<◌, Bool, List, IfOk};
+ghost use Rattle.bf_world.specs.declared.key.Key.{Key};
+ghost use Rattle.rel_value.specs.Operands.{IsSound};
+ghost use Rattle.rel_value.specs.Outcomes.{Answers, Outcome};
+ghost use Rattle.rel_value.specs.Views.{shown};
+ghost use Rattle.rel_trace.specs.Steps.{AsRoom, Falls, Goes, HasCause};
+ghost use Rattle.rel_trace.specs.Trace.{Trace, follow, result_at};
+ghost use Rattle.rel_trace.specs.Works.{HasRow, Works};
+
+use crate::{Held, RelKind, Step};
+use rel_lexer::Place;
+use rel_value::{Value, ValueFault};
+
+/// What a call on values answers.
+#[derive(Drop)]
+pub(crate) enum Worked {
+    Given(Held),
+    Failed(RelKind),
+    /// There is no row for such values.
+    Without,
+    Memory,
+}
+
+impl Worked {
+    /// The answer of a call for which there is a row.
+    pub(crate) fn of(answer: Result<Value, ValueFault>) -> Worked
+        requires { IfOk answer (λ value. IsSound (shown value)) }
+        ensures { (o : Outcome) → HasRow o → Answers o answer → Works o result }
+    {
+        match answer {
+            Ok(value) => Worked::Given(Held::new(value)),
+            Err(ValueFault::Memory) => Worked::Memory,
+            Err(fault) => Worked::Failed(RelKind::of_fault(fault)),
+        }
+    }
+
+    /// The step that gives it, or fails at a place.
+    pub(crate) fn at(self, place: Place) -> Step
+        ensures goes { (o : Outcome) → Works o self → (l : List Key) (t : Trace) → Goes l (follow (result_at place o) t) result l t }
+        ensures cause { (a b : ℕ) → HasCause a b result }
+        ensures room { (r : Bool) → AsRoom r result }
+        ensures falls { (q q' : ℕ) → q' < q → Falls result q q' }
+    {
+        match self {
+            Worked::Given(value) => Step::Given(value),
+            Worked::Failed(kind) => Step::Erred(kind, place),
+            Worked::Without => Step::Quiet,
+            Worked::Memory => Step::Memory,
+        }
+    }
+}
