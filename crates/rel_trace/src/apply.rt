@@ -31,13 +31,7 @@ pub enum Apply {
 
 impl Apply {
     /// After a step of the part. Times are written as a clock shows them that is `offset` minutes east of UTC.
-    pub(crate) fn after(
-        self,
-        alloc: Global,
-        step: Step,
-        left: Option<&Held>,
-        offset: i64,
-    ) -> Step
+    pub(crate) fn after(self, alloc: Global, step: Step, left: Option<&Held>, offset: i64) -> Step
         requires { IsOffset offset }
         ensures goes { (l l' : List Key) (t t' : Trace) → Goes l t step l' t' → Goes l (each t (applied self offset (lent left.entry))) result l' (each t' (applied self offset (lent left.entry))) }
         ensures cause { (a b : ℕ) → HasCause a b step → HasCause a b result }
