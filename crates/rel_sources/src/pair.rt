@@ -1,4 +1,4 @@
-ghost use Rattle.std.specs.Prelude.{◌≡◌, [], ◌∷◌, ◌++◌, None, OnOk, OnErr, option_map};
+ghost use Rattle.std.specs.Prelude.{◌≡◌, [], ◌∷◌, ◌++◌, None, IfOk, OnOk, OnErr, option_map};
 ghost use Rattle.std.specs.Option.{option_copied};
 ghost use Rattle.rel_sources.specs.Scenes.{value_of};
 
@@ -17,6 +17,17 @@ pub struct Pair {
 #[derive(Debug, Drop)]
 pub struct Pairs {
     items: Vec<Pair>,
+}
+
+impl Pair {
+    fn copy(&self) -> Result<Pair, AllocError>
+        ensures { IfOk result (λ pair. pair ≡ self.now) }
+    {
+        Ok(Pair {
+            name: self.name.copy()?,
+            value: self.value.copy()?,
+        })
+    }
 }
 
 impl Model for Pairs {
@@ -46,6 +57,17 @@ impl Pairs {
     {
         self.items.push(Pair { name, value })?;
         Ok(())
+    }
+
+    /// The same parameters once more. The error is want of memory.
+    pub fn copy(&self) -> Result<Pairs, AllocError>
+        ensures { IfOk result (λ pairs. pairs ≡ self.now) }
+    {
+        let mut copies = Vec::new(*self.items.allocator());
+        for pair in self.items.as_slice() {
+            copies.push(pair.copy()?)?;
+        }
+        Ok(Pairs { items: copies })
     }
 
     pub fn as_slice(&self) -> &[Pair]

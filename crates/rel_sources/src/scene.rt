@@ -1,4 +1,7 @@
+ghost use Rattle.std.specs.Prelude.{◌≡◌, IfOk};
+
 use crate::Pairs;
+use std::alloc::AllocError;
 
 /// What a question knows beside the machine.
 #[derive(Debug, Drop)]
@@ -11,4 +14,19 @@ pub struct Scene {
     pub parameters: Pairs,
     /// The exit code of the last program that the action waited for.
     pub exit: Option<i64>,
+}
+
+impl Scene {
+    /// The same scene once more. The error is want of memory.
+    pub fn copy(&self) -> Result<Scene, AllocError>
+        ensures { IfOk result (λ scene. scene ≡ self.now) }
+    {
+        let parameters = self.parameters.copy()?;
+        Ok(Scene {
+            moment: self.moment,
+            offset: self.offset,
+            parameters,
+            exit: self.exit,
+        })
+    }
 }

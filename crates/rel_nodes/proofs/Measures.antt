@@ -1,0 +1,196 @@
+-- A node never has more quiet steps before it than its plan allows.
+use Rattle.std.proofs.Common.{ℕ, ◌≡◌, ◌+◌, ◌*◌, ◌<◌, ◌≤◌, arith, sym, ap, subst, ◌∙◌, Bool, true, false, Option, Some, None}
+use Rattle.rel_trace.specs.declared.choice.Choice.{Choice}
+use Rattle.rel_trace.specs.declared.choice.Choice.TheVariants as choice
+use Rattle.rel_trace.specs.declared.handing.Handing.{Handing}
+use Rattle.rel_trace.specs.declared.handing.Handing.TheVariants.{Each, Sift, Argument, Left, Turned}
+use Rattle.rel_trace.specs.declared.one.One.{One}
+use Rattle.rel_trace.specs.declared.one.One.TheVariants as one
+use Rattle.rel_trace.specs.declared.sequence.Sequence.{Sequence}
+use Rattle.rel_trace.specs.declared.sequence.Sequence.TheVariants.{Then, Bar, Logical}
+use Rattle.rel_trace.specs.declared.step.Step.{Step}
+use Rattle.rel_trace.specs.declared.step.Step.TheVariants as step
+use Rattle.rel_trace.specs.declared.two.Two.{Two}
+use Rattle.rel_trace.specs.declared.two.Two.TheVariants as two
+use Rattle.rel_trace.specs.Steps.{Falls}
+use Rattle.rel_trace.specs.Ones.{draw_done, one_quiet, zero_if}
+use Rattle.rel_trace.specs.Twos.{begun_quiet, half_quiet, handing_quiet, holds, sequence_quiet, then_quiet, two_kind, two_quiet}
+use Rattle.rel_trace.specs.Choices.{branch_quiet, choice_quiet}
+use Rattle.rel_nodes.specs.declared.walking.Walking.{Walking}
+use Rattle.rel_nodes.specs.declared.node.Node.{Node}
+use Rattle.rel_nodes.specs.declared.node.Node.TheVariants as node
+use Rattle.rel_nodes.specs.Nodes.{shape}
+use Rattle.rel_nodes.specs.Measure.{two_cap, cap, property_quiet, quiet}
+use Rattle.rel_nodes.proofs.Walked.{values_le}
+
+zero_if_le : (b : Bool) (n : ℕ) → zero_if b n ≤ n
+zero_if_le true n = omega arith
+zero_if_le false n = omega arith
+
+mul_mono : (a b c : ℕ) → a ≤ b → a * c ≤ b * c
+mul_mono a b c h = grind arith
+
+one_le : (s : One) (q : ℕ) → one_quiet s q ≤ q + 1
+one_le (one.Draw d) q = zero_if_le (draw_done d) (q + 1)
+one_le (one.Fold f) q = zero_if_le f.done (q + 1)
+one_le (one.Apply a) q = omega arith
+
+-- a larger second part leaves more
+then_mono : (on : Bool) (q r r' c : ℕ) → r ≤ r' → then_quiet on q r c ≤ then_quiet on q r' c
+then_mono true q r r' c h = h
+then_mono false q r r' c h = omega arith
+
+half_mono : (on : Bool) (q r r' : ℕ) → r ≤ r' → half_quiet on q r ≤ half_quiet on q r'
+half_mono true q r r' h = omega arith
+half_mono false q r r' h = omega arith
+
+sequence_mono : (s : Sequence) (q r r' c : ℕ) → r ≤ r' → sequence_quiet s q r c ≤ sequence_quiet s q r' c
+sequence_mono (Then on) q r r' c h = then_mono on q r r' c h
+sequence_mono (Bar on) q r r' c h = then_mono on q r r' c h
+sequence_mono (Logical l on) q r r' c h = half_mono on (q * (c + 2)) r r' h
+
+handing_mono : (s : Handing) (q r r' c : ℕ) → r ≤ r' → handing_quiet s q r c ≤ handing_quiet s q r' c
+handing_mono (Each p held) q r r' c h = half_mono (holds held) q r r' h
+handing_mono (Sift p held seen) q r r' c h = half_mono (holds held) q r r' h
+handing_mono (Argument held) q r r' c h = half_mono (holds held) (q * (c + 2)) r r' h
+handing_mono (Left held) q r r' c h = half_mono (holds held) (q * (c + 2)) r r' h
+handing_mono (Turned p held) q r r' c h = half_mono (holds held) q r r' h
+
+two_mono : (s : Two) (q r r' c : ℕ) → r ≤ r' → two_quiet s q r c ≤ two_quiet s q r' c
+two_mono (two.Sequence s) q r r' c h = sequence_mono s q r r' c h
+two_mono (two.Handing s) q r r' c h = handing_mono s q r r' c h
+
+-- at most as much as the parts' caps allow
+then_le : (on : Bool) (q r a c : ℕ) → q ≤ a → r ≤ c → then_quiet on q r c ≤ a + (c + 1)
+then_le true q r a c h k = omega arith
+then_le false q r a c h k = omega arith
+
+half_le : (on : Bool) (q r a c : ℕ) → q ≤ a → r ≤ c → half_quiet on q r ≤ a + (c + 1)
+half_le true q r a c h k = omega arith
+half_le false q r a c h k = omega arith
+
+two_le : (s : Two) (q r a c : ℕ) → q ≤ a → r ≤ c → two_quiet s q r c ≤ two_cap (two_kind s) a c
+two_le (two.Sequence (Then on)) q r a c h k = then_le on q r a c h k
+two_le (two.Sequence (Bar on)) q r a c h k = then_le on q r a c h k
+two_le (two.Sequence (Logical l on)) q r a c h k = half_le on (q * (c + 2)) r (a * (c + 2)) c (mul_mono q a (c + 2) h) k
+two_le (two.Handing (Each p held)) q r a c h k = half_le (holds held) q r a c h k
+two_le (two.Handing (Sift p held seen)) q r a c h k = half_le (holds held) q r a c h k
+two_le (two.Handing (Argument held)) q r a c h k = half_le (holds held) (q * (c + 2)) r (a * (c + 2)) c (mul_mono q a (c + 2) h) k
+two_le (two.Handing (Left held)) q r a c h k = half_le (holds held) (q * (c + 2)) r (a * (c + 2)) c (mul_mono q a (c + 2) h) k
+two_le (two.Handing (Turned p held)) q r a c h k = half_le (holds held) q r a c h k
+
+choice_mono : (s : Choice) (q r r' w w' c d : ℕ) → r ≤ r' → w ≤ w' → choice_quiet s q r w c d ≤ choice_quiet s q r' w' c d
+choice_mono choice.Test q r r' w w' c d h k = omega arith
+choice_mono choice.Yes q r r' w w' c d h k = omega arith
+choice_mono choice.No q r r' w w' c d h k = omega arith
+
+choice_le : (s : Choice) (q r w a c d : ℕ) → q ≤ a → r ≤ c → w ≤ d → choice_quiet s q r w c d ≤ a * (c + d + 2) + (c + d + 1)
+choice_le choice.Test q r w a c d h i j = omega (arith, mul_mono q a (c + d + 2) h)
+choice_le choice.Yes q r w a c d h i j = omega (arith, mul_mono q a (c + d + 2) h)
+choice_le choice.No q r w a c d h i j = omega (arith, mul_mono q a (c + d + 2) h)
+
+property_le : (walk : Option Walking) → property_quiet walk ≤ 2
+property_le None = omega arith
+property_le (Some g) = omega (arith, values_le g.walk)
+
+pub quiet_le_cap : (n : Node) → quiet n ≤ cap (shape n)
+quiet_le_cap node.Nothing = omega arith
+quiet_le_cap (node.Constant v is_given) = zero_if_le is_given 1
+quiet_le_cap (node.It is_given) = zero_if_le is_given 1
+quiet_le_cap (node.Left is_given) = zero_if_le is_given 1
+quiet_le_cap (node.Property r) = property_le r.walk
+quiet_le_cap (node.WithOne' p part state) = omega (arith, quiet_le_cap part, one_le state (quiet part))
+quiet_le_cap (node.WithTwo' p a q b state) = two_le state (quiet a) (quiet b) (cap (shape a)) (cap (shape b)) (quiet_le_cap a) (quiet_le_cap b)
+quiet_le_cap (node.WithChoice' p t q y r n state) = choice_le state (quiet t) (quiet y) (quiet n) (cap (shape t)) (cap (shape y)) (cap (shape n)) (quiet_le_cap t) (quiet_le_cap y) (quiet_le_cap n)
+
+falls_below : (x : Step) (a b b' : ℕ) → Falls x a b → b' ≤ b → Falls x a b'
+falls_below step.Quiet a b b' h k = omega arith
+falls_below (step.Given v) a b b' h k = omega arith
+falls_below _ a b b' h k = tt
+
+-- the second part may begin anew
+pub begins_falls : (state state' : Two) (first d first' second k second' : Node) (x r : Step) (begins : Bool) →
+    ((q q' r2 c : ℕ) → Falls x q q' → Falls r (two_quiet state q r2 c) (two_quiet state' q' (begun_quiet begins r2 c) c)) →
+    d ≡ first → Falls x (quiet d) (quiet first') → begins ≡ true → k ≡ second → shape second' ≡ shape k →
+    Falls r (two_quiet state (quiet first) (quiet second) (cap (shape second))) (two_quiet state' (quiet first') (quiet second') (cap (shape second')))
+begins_falls state state' first d first' second k second' x r begins after q h e j z =
+    let y : shape second' ≡ shape second = z ∙ ap shape j in
+    subst (λ c. Falls r (two_quiet state (quiet first) (quiet second) (cap (shape second))) (two_quiet state' (quiet first') (quiet second') (cap c))) (sym y)
+    (falls_below r (two_quiet state (quiet first) (quiet second) (cap (shape second))) (two_quiet state' (quiet first') (cap (shape second)) (cap (shape second))) (two_quiet state' (quiet first') (quiet second') (cap (shape second)))
+    (subst (λ (b : Bool). Falls r (two_quiet state (quiet first) (quiet second) (cap (shape second))) (two_quiet state' (quiet first') (begun_quiet b (quiet second) (cap (shape second))) (cap (shape second)))) e
+    (after (quiet first) (quiet first') (quiet second) (cap (shape second)) (subst (λ (n : Node). Falls x (quiet n) (quiet first')) q h)))
+    (two_mono state' (quiet first') (quiet second') (cap (shape second)) (cap (shape second)) (subst (λ c. quiet second' ≤ cap c) y (quiet_le_cap second'))))
+
+-- or it does not
+pub first_falls : (state state' : Two) (first d first' second : Node) (x r : Step) (begins : Bool) →
+    ((q q' r2 c : ℕ) → Falls x q q' → Falls r (two_quiet state q r2 c) (two_quiet state' q' (begun_quiet begins r2 c) c)) →
+    d ≡ first → Falls x (quiet d) (quiet first') → begins ≡ false →
+    Falls r (two_quiet state (quiet first) (quiet second) (cap (shape second))) (two_quiet state' (quiet first') (quiet second) (cap (shape second)))
+first_falls state state' first d first' second x r begins after q h e =
+    subst (λ (b : Bool). Falls r (two_quiet state (quiet first) (quiet second) (cap (shape second))) (two_quiet state' (quiet first') (begun_quiet b (quiet second) (cap (shape second))) (cap (shape second)))) e
+    (after (quiet first) (quiet first') (quiet second) (cap (shape second)) (subst (λ (n : Node). Falls x (quiet n) (quiet first')) q h))
+
+-- the second part goes on
+pub second_falls : (state state' : Two) (first second d second' : Node) (x r : Step) →
+    ((q r2 r3 c : ℕ) → Falls x r2 r3 → Falls r (two_quiet state q r2 c) (two_quiet state' q r3 c)) →
+    d ≡ second → shape second' ≡ shape d → Falls x (quiet d) (quiet second') →
+    Falls r (two_quiet state (quiet first) (quiet second) (cap (shape second))) (two_quiet state' (quiet first) (quiet second') (cap (shape second')))
+second_falls state state' first second d second' x r after q z h =
+    subst (λ c. Falls r (two_quiet state (quiet first) (quiet second) (cap (shape second))) (two_quiet state' (quiet first) (quiet second') (cap c))) (sym (z ∙ ap shape q))
+    (after (quiet first) (quiet second) (quiet second') (cap (shape second)) (subst (λ (n : Node). Falls x (quiet n) (quiet second')) q h))
+
+-- a test that is decided begins its branches anew
+pub decided_falls : (state state' : Choice) (test d test' chosen chosen' other other' : Node) (x r : Step) (begins : Bool) →
+    ((q q' r2 w2 c e : ℕ) → Falls x q q' → Falls r (choice_quiet state q r2 w2 c e) (choice_quiet state' q' (begun_quiet begins r2 c) (begun_quiet begins w2 e) c e)) →
+    d ≡ test → Falls x (quiet d) (quiet test') → begins ≡ true → shape chosen' ≡ shape chosen → shape other' ≡ shape other →
+    Falls r (choice_quiet state (quiet test) (quiet chosen) (quiet other) (cap (shape chosen)) (cap (shape other))) (choice_quiet state' (quiet test') (quiet chosen') (quiet other') (cap (shape chosen')) (cap (shape other')))
+decided_falls state state' test d test' chosen chosen' other other' x r begins after q h e y n =
+    let old = choice_quiet state (quiet test) (quiet chosen) (quiet other) (cap (shape chosen)) (cap (shape other)) in
+    let c = cap (shape chosen) in
+    let f = cap (shape other) in
+    subst (λ k. Falls r old (choice_quiet state' (quiet test') (quiet chosen') (quiet other') (cap k) (cap (shape other')))) (sym y)
+    (subst (λ k. Falls r old (choice_quiet state' (quiet test') (quiet chosen') (quiet other') c (cap k))) (sym n)
+    (falls_below r old (choice_quiet state' (quiet test') c f c f) (choice_quiet state' (quiet test') (quiet chosen') (quiet other') c f)
+    (subst (λ (b : Bool). Falls r old (choice_quiet state' (quiet test') (begun_quiet b (quiet chosen) c) (begun_quiet b (quiet other) f) c f)) e
+    (after (quiet test) (quiet test') (quiet chosen) (quiet other) c f (subst (λ (m : Node). Falls x (quiet m) (quiet test')) q h)))
+    (choice_mono state' (quiet test') (quiet chosen') c (quiet other') f c f (subst (λ k. quiet chosen' ≤ cap k) y (quiet_le_cap chosen')) (subst (λ k. quiet other' ≤ cap k) n (quiet_le_cap other')))))
+
+-- a test that goes on
+pub test_falls : (state state' : Choice) (test d test' chosen other : Node) (x r : Step) (begins : Bool) →
+    ((q q' r2 w2 c e : ℕ) → Falls x q q' → Falls r (choice_quiet state q r2 w2 c e) (choice_quiet state' q' (begun_quiet begins r2 c) (begun_quiet begins w2 e) c e)) →
+    d ≡ test → Falls x (quiet d) (quiet test') → begins ≡ false →
+    Falls r (choice_quiet state (quiet test) (quiet chosen) (quiet other) (cap (shape chosen)) (cap (shape other))) (choice_quiet state' (quiet test') (quiet chosen) (quiet other) (cap (shape chosen)) (cap (shape other)))
+test_falls state state' test d test' chosen other x r begins after q h e =
+    subst (λ (b : Bool). Falls r (choice_quiet state (quiet test) (quiet chosen) (quiet other) (cap (shape chosen)) (cap (shape other))) (choice_quiet state' (quiet test') (begun_quiet b (quiet chosen) (cap (shape chosen))) (begun_quiet b (quiet other) (cap (shape other))) (cap (shape chosen)) (cap (shape other)))) e
+    (after (quiet test) (quiet test') (quiet chosen) (quiet other) (cap (shape chosen)) (cap (shape other)) (subst (λ (m : Node). Falls x (quiet m) (quiet test')) q h))
+
+-- the one part goes on
+pub part_falls : (state state' : One) (part d part' : Node) (x r : Step) →
+    ((q q' : ℕ) → Falls x q q' → Falls r (one_quiet state q) (one_quiet state' q')) →
+    d ≡ part → Falls x (quiet d) (quiet part') →
+    Falls r (one_quiet state (quiet part)) (one_quiet state' (quiet part'))
+part_falls state state' part d part' x r after q h =
+    after (quiet part) (quiet part') (subst (λ (n : Node). Falls x (quiet n) (quiet part')) q h)
+
+-- a branch that goes on
+pub yes_falls : (state state' : Choice) (test chosen d chosen' other : Node) (x r : Step) →
+    ((q r2 w2 r3 w3 c e : ℕ) → Falls x (branch_quiet state r2 w2) (branch_quiet state r3 w3) → Falls r (choice_quiet state q r2 w2 c e) (choice_quiet state' q r3 w3 c e)) →
+    state ≡ choice.Yes → d ≡ chosen → shape chosen' ≡ shape d → Falls x (quiet d) (quiet chosen') →
+    Falls r (choice_quiet state (quiet test) (quiet chosen) (quiet other) (cap (shape chosen)) (cap (shape other))) (choice_quiet state' (quiet test) (quiet chosen') (quiet other) (cap (shape chosen')) (cap (shape other)))
+yes_falls state state' test chosen d chosen' other x r after i q z h =
+    let old = choice_quiet state (quiet test) (quiet chosen) (quiet other) (cap (shape chosen)) (cap (shape other)) in
+    subst (λ k. Falls r old (choice_quiet state' (quiet test) (quiet chosen') (quiet other) (cap k) (cap (shape other)))) (sym (z ∙ ap shape q))
+    (after (quiet test) (quiet chosen) (quiet other) (quiet chosen') (quiet other) (cap (shape chosen)) (cap (shape other))
+    (subst (λ (y : Choice). Falls x (branch_quiet y (quiet chosen) (quiet other)) (branch_quiet y (quiet chosen') (quiet other))) (sym i)
+    (subst (λ (n : Node). Falls x (quiet n) (quiet chosen')) q h)))
+
+pub no_falls : (state state' : Choice) (test chosen other d other' : Node) (x r : Step) →
+    ((q r2 w2 r3 w3 c e : ℕ) → Falls x (branch_quiet state r2 w2) (branch_quiet state r3 w3) → Falls r (choice_quiet state q r2 w2 c e) (choice_quiet state' q r3 w3 c e)) →
+    state ≡ choice.No → d ≡ other → shape other' ≡ shape d → Falls x (quiet d) (quiet other') →
+    Falls r (choice_quiet state (quiet test) (quiet chosen) (quiet other) (cap (shape chosen)) (cap (shape other))) (choice_quiet state' (quiet test) (quiet chosen) (quiet other') (cap (shape chosen)) (cap (shape other')))
+no_falls state state' test chosen other d other' x r after i q z h =
+    let old = choice_quiet state (quiet test) (quiet chosen) (quiet other) (cap (shape chosen)) (cap (shape other)) in
+    subst (λ k. Falls r old (choice_quiet state' (quiet test) (quiet chosen) (quiet other') (cap (shape chosen)) (cap k))) (sym (z ∙ ap shape q))
+    (after (quiet test) (quiet chosen) (quiet other) (quiet chosen) (quiet other') (cap (shape chosen)) (cap (shape other))
+    (subst (λ (y : Choice). Falls x (branch_quiet y (quiet chosen) (quiet other)) (branch_quiet y (quiet chosen) (quiet other'))) (sym i)
+    (subst (λ (n : Node). Falls x (quiet n) (quiet other')) q h)))

@@ -1,0 +1,9 @@
+pub mod Spans
+pub mod Meaning
+pub mod Core
+pub mod Steps
+pub mod SoundWalks
+pub mod Nodes
+pub mod HeldParts
+pub mod Runs
+pub mod Measure
