@@ -1,3 +1,3 @@
-pub mod LineLemmas
-pub mod Saying
+pub mod Splitting
+pub mod Ends
 pub mod OneSaid

@@ -1,23 +1,111 @@
--- One thing is said of an input.
-use Rattle.std.proofs.Common.{◌≡◌, ℕ, Bool, true, false, List, [], ◌∷◌, ◌++◌, sym, ap, ◌∙◌}
-use Rattle.rel_eval.proofs.OneTrace.{trace_is_one}
+-- A command says one thing of an input, where no look fails.
+use Rattle.std.proofs.Common.{◌≡◌, ℕ, zero, suc, ◌+◌, ◌-◌, ◌^◌, ◌<◌, ◌≤◌, ℤ, pos, Bool, true, false, cond, List, [], ◌∷◌, ◌++◌, length, All, None, Some, refl, sym, ap, ap₂, ◌∙◌, subst, arith, length-append}
+use Rattle.std.specs.Prelude.{codes}
+use Rattle.std.proofs.lemmas.List.{append_cancel_left}
+use Rattle.std.proofs.lemmas.List.Elements.{All-head, All-tail}
+use Rattle.line_forms.specs.LineStates as states
+use Rattle.bf_world.specs.declared.key.Key.{Key}
+use Rattle.bf_world.specs.Worlds.{WorldState}
+use Rattle.world_text.specs.Texts.{Describes}
+use Rattle.rel_session.specs.declared.line.Line.{Line}
+use Rattle.rel_session.specs.declared.line.Line.TheVariants.{Question, Page, More, NoCommand}
+use Rattle.rel_session.specs.Devices.{DidAll, RoseBy}
+use Rattle.rel_session.specs.Lines.{lines_of}
+use Rattle.rel_session.specs.Sessions.{Answers, Asks, Run, Runs, RunsLine, Session, begins_with_colon, fresh}
+use Rattle.rel_session.proofs.OneRun.{runs_once}
 use Rattle.desk_top.specs.declared.command.Command.{Command}
-use Rattle.desk_top.specs.declared.command.Command.TheVariants.{Qna, Help}
-use Rattle.desk_top.specs.Lines.{lines_of}
-use Rattle.desk_top.specs.Said.{begins_with_colon, said_question, said_trace, SaysAnswers, SaysLine, SaysLines, Says}
+use Rattle.desk_top.specs.declared.command.Command.TheVariants.{Qna, QnaWorld, Help}
+use Rattle.desk_top.specs.Said.{Did, DidDescribed}
+use Rattle.desk_top.specs.Tellings.{telling}
+use Rattle.desk_top.specs.WorldInputs.{IsWorldInput}
+use Rattle.desk_top.proofs.Splitting.{one_split}
 
-answers_are_one : (colon : Bool) (line a b : List ℕ) → SaysAnswers colon line a → SaysAnswers colon line b → a ≡ b
-answers_are_one true line a b p q = p ∙ sym q
-answers_are_one false line a b p q = p.2 ∙ ap said_trace (trace_is_one line p.0 q.0 p.1 q.1) ∙ sym q.2
+-- how many of the lines are questions: each of these uses a moment
+abbrev asked : List ℕ → ℕ
+asked line = cond (begins_with_colon line) 0 1
 
-line_is_one : (line a b : List ℕ) → SaysLine line a → SaysLine line b → a ≡ b
-line_is_one line a b p q = p.2 ∙ ap (λ l. said_question line ++ l) (answers_are_one (begins_with_colon line) line p.0 q.0 p.1 q.1) ∙ sym q.2
+abbrev questions : List (List ℕ) → ℕ
+questions [] = 0
+questions (line ∷ lines) = asked line + questions lines
 
-lines_are_one : (lines : List (List ℕ)) (a b : List ℕ) → SaysLines lines a → SaysLines lines b → a ≡ b
-lines_are_one [] a b p q = p ∙ sym q
-lines_are_one (line ∷ lines) a b p q =
-    p.4 ∙ ap (λ l. l ++ p.1) (line_is_one line p.0 q.0 p.2 q.2) ∙ ap (λ l. q.0 ++ l) (lines_are_one lines p.1 q.1 p.3 q.3) ∙ sym q.4
+asked_so : (line : List ℕ) (now : List ℤ) (colon : Bool) → begins_with_colon line ≡ colon → length now ≡ cond colon 0 1 → length now ≡ asked line
+asked_so line now colon is many = many ∙ sym (ap (λ b. cond b 0 1) is)
 
-pub said_is_one : (command : Command) (input a b : List ℕ) → Says command input a → Says command input b → a ≡ b
-said_is_one Qna input a b p q = lines_are_one (lines_of input) a b p q
-said_is_one Help input a b p q = p ∙ sym q
+count_answer : (w : WorldState) (offset : ℤ) (s : Session) (line : List ℕ) (what : Line) (now : List ℤ) (answer : Run) (s' : Session)
+    → Asks line what → Answers w offset s line what now answer s' → length now ≡ asked line
+count_answer w offset s line Question now answer s' asks (moment, is, answers) = asked_so line now false asks (ap (length {A = ℤ}) is)
+count_answer w offset s line (Page size) now answer s' asks answers = asked_so line now true (ap begins_with_colon asks.1) (ap (length {A = ℤ}) answers.0)
+count_answer w offset s line More now answer s' asks answers = asked_so line now true (ap begins_with_colon asks) (ap (length {A = ℤ}) answers.0)
+count_answer w offset s line NoCommand now answer s' asks answers = asked_so line now true asks.0 (ap (length {A = ℤ}) answers.0)
+
+count_runs : (w : WorldState) (offset : ℤ) (s : Session) (lines : List (List ℕ)) (moments : List ℤ) (run : Run) → Runs w offset s lines moments run → length moments ≡ questions lines
+count_runs w offset s [] moments run (none, is) = ap (length {A = ℤ}) none
+count_runs w offset s (line ∷ lines) moments run (now, later, all, (first, s', (what, asks, (answer, answers, said)), (rest, runs, is))) =
+    ap (length {A = ℤ}) all ∙ length-append now later
+    ∙ ap₂ ◌+◌ (count_answer w offset s line what now answer s' asks answers) (count_runs w offset s' lines later rest runs)
+
+-- lists of one number, of the same length
+all_same : (m : ℤ) (xs ys : List ℤ) → All (λ x. x ≡ m) xs → All (λ x. x ≡ m) ys → length xs ≡ length ys → xs ≡ ys
+all_same m [] [] p q many = refl
+all_same m [] (y ∷ ys) p q many = absurd (omega arith)
+all_same m (x ∷ xs) [] p q many = absurd (omega arith)
+all_same m (x ∷ xs) (y ∷ ys) p q many =
+    let P : ℤ → Type 0 = λ z. z ≡ m in
+    ap₂ ◌∷◌ (All-head P x xs p ∙ sym (All-head P y ys q)) (all_same m xs ys (All-tail P x xs p) (All-tail P y ys q) (omega arith))
+
+no_faults : (n faults : ℕ) → faults < 2 ^ 64 - 1 → RoseBy n faults faults → n ≡ 0
+no_faults zero faults below rose = refl
+no_faults (suc n) faults below rose = absurd (omega arith)
+
+-- what questions to a machine whose world is told write and look up
+qna_once : (w : WorldState) (input held a b : List ℕ) (looked keys others : List Key) (faults : ℕ) (given after : List ℤ) → faults < 2 ^ 64 - 1
+    → DidAll w (pos 0) fresh (lines_of input) None (telling held looked faults given) (telling a keys faults after)
+    → DidAll w (pos 0) fresh (lines_of input) None (telling held looked faults given) (telling b others faults after) → (a ≡ b) × (keys ≡ others)
+qna_once w input held a b looked keys others faults given after below (moments, run, runs, did) (moments', run', runs', did') =
+    let Ran : List ℤ → Type 0 = λ m. Runs w (pos 0) fresh (lines_of input) m run in
+    let same : moments ≡ moments' = append_cancel_left given moments moments' (sym did.dated ∙ did'.dated) in
+    let one : run ≡ run' = runs_once w (pos 0) fresh (lines_of input) moments' run run' (subst Ran same runs) runs' (no_faults run.faults faults below did.faults) (no_faults run'.faults faults below did'.faults) in
+    (did.written ∙ ap (λ r. held ++ r.bytes) one ∙ sym did'.written, did.looked ∙ ap (λ r. looked ++ r.looks) one ∙ sym did'.looked)
+
+-- what questions to a described world write
+described_once : (w : WorldState) (rest held a b : List ℕ) (looked keys others : List Key) (faults : ℕ) (given after : List ℤ)
+    → DidDescribed w rest (telling held looked faults given) (telling a keys faults after)
+    → DidDescribed w rest (telling held looked faults given) (telling b others faults after) → a ≡ b
+described_once w rest held a b looked keys others faults given after (moments, run, runs, all, none, is) (moments', run', runs', all', none', is') =
+    let Ran : List ℤ → Type 0 = λ m. Runs w w.offset fresh (lines_of rest) m run in
+    let same : moments ≡ moments' = all_same w.moment moments moments' all all' (count_runs w w.offset fresh (lines_of rest) moments run runs ∙ sym (count_runs w w.offset fresh (lines_of rest) moments' run' runs')) in
+    let one : run ≡ run' = runs_once w w.offset fresh (lines_of rest) moments' run run' (subst Ran same runs) runs' none none' in
+    is ∙ ap (λ r. held ++ r.bytes) one ∙ sym is'
+
+-- an input has one world's text and one rest
+one_rest : (input : List ℕ) (w w' : WorldState) (rest rest' : List ℕ) → IsWorldInput input w rest → IsWorldInput input w' rest' → (w' ≡ w) × (rest' ≡ rest)
+one_rest input w w' rest rest' (text, splits, reads) (text', splits', reads') =
+    let same : text' ≡ text = one_split input text' rest' text rest splits' splits in
+    let P : List ℕ → Type 0 = λ t. Describes (states.lines_of t) w' in (
+      reads.2 w' (subst P same reads'.1),
+      append_cancel_left text rest' rest (ap (λ t. t ++ rest') (sym same) ∙ sym splits'.0 ∙ splits.0),
+    )
+
+world_once : (input held a b : List ℕ) (looked keys others : List Key) (faults : ℕ) (given after : List ℤ)
+    → (w : WorldState) (rest : List ℕ) → IsWorldInput input w rest → DidDescribed w rest (telling held looked faults given) (telling a keys faults after)
+    → (w' : WorldState) (rest' : List ℕ) → IsWorldInput input w' rest' → DidDescribed w' rest' (telling held looked faults given) (telling b others faults after) → a ≡ b
+world_once input held a b looked keys others faults given after w rest is did w' rest' is' did' =
+    let same = one_rest input w w' rest rest' is is' in
+    let InWorld : WorldState → Type 0 = λ v. DidDescribed v rest' (telling held looked faults given) (telling b others faults after) in
+    let OfRest : List ℕ → Type 0 = λ l. DidDescribed w l (telling held looked faults given) (telling b others faults after) in
+    described_once w rest held a b looked keys others faults given after did (subst OfRest same.1 (subst InWorld same.0 did'))
+
+pub bytes_once : (command : Command) (w : WorldState) (input held a b : List ℕ) (looked keys others : List Key) (faults : ℕ) (given after : List ℤ) → faults < 2 ^ 64 - 1
+    → Did command (Some w) input (telling held looked faults given) (telling a keys faults after)
+    → Did command (Some w) input (telling held looked faults given) (telling b others faults after) → a ≡ b
+bytes_once Qna w input held a b looked keys others faults given after below did did' =
+    (qna_once w input held a b looked keys others faults given after below (did w refl) (did' w refl)).0
+bytes_once QnaWorld w input held a b looked keys others faults given after below (v, rest, is, did) (v', rest', is', did') =
+    world_once input held a b looked keys others faults given after v rest is did v' rest' is' did'
+bytes_once Help w input held a b looked keys others faults given after below did did' = did ∙ sym did'
+
+pub looks_once : (w : WorldState) (input held a b : List ℕ) (looked keys others : List Key) (faults : ℕ) (given after : List ℤ) → faults < 2 ^ 64 - 1
+    → Did Qna (Some w) input (telling held looked faults given) (telling a keys faults after)
+    → Did Qna (Some w) input (telling held looked faults given) (telling b others faults after) → keys ≡ others
+looks_once w input held a b looked keys others faults given after below did did' =
+    (qna_once w input held a b looked keys others faults given after below (did w refl) (did' w refl)).1

@@ -1,15 +1,16 @@
 -- The table of commands.
 use Rattle.std.specs.Prelude.{◌≡◌, ⊤, ℕ, List, [], ◌∷◌, ◌++◌, codes, flat_map}
 use Rattle.desk_top.specs.declared.command.Command.{Command}
-use Rattle.desk_top.specs.declared.command.Command.TheVariants.{Qna, Help}
+use Rattle.desk_top.specs.declared.command.Command.TheVariants.{Qna, QnaWorld, Help}
 
 -- every command, in the order of the help
 abbrev pub commands : List Command
-commands = Qna ∷ Help ∷ []
+commands = Qna ∷ QnaWorld ∷ Help ∷ []
 
 -- the words of a command
 abbrev pub words_of : Command → List (List ℕ)
 words_of Qna = codes "qna" ∷ []
+words_of QnaWorld = codes "qna" ∷ codes "--world" ∷ []
 words_of Help = codes "--help" ∷ []
 
 -- the words ask for the command
@@ -31,6 +32,7 @@ IsNoCommand words = (command : Command) → ¬ Asks words command
 -- the command reads the source
 abbrev pub ReadsSource : Command → Type 0
 ReadsSource Qna = ⊤
+ReadsSource QnaWorld = ⊤
 ReadsSource Help = ⊥
 
 -- what is written where the words are those of no command

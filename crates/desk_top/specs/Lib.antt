@@ -1,6 +1,7 @@
-pub mod Lines
 pub mod Commands
-pub mod Errors
+pub mod WorldInputs
 pub mod Said
 pub mod Statuses
 pub mod Runs
+pub mod Asked
+pub mod Tellings

@@ -2,8 +2,8 @@
 use Rattle.std.specs.Prelude.{ℕ, ⊤}
 use Rattle.desk_top.specs.declared.status.Status.{Status}
 use Rattle.desk_top.specs.declared.status.Status.TheVariants.{Done, Usage, Refused, Source, Sink, Clock, Pocket, Keeper, Door, Memory, InputTooLong}
-use Rattle.desk_top.specs.declared.halt.Halt.{Halt}
-use Rattle.desk_top.specs.declared.halt.Halt.TheVariants as halt
+use Rattle.rel_session.specs.declared.halt.Halt.{Halt}
+use Rattle.rel_session.specs.declared.halt.Halt.TheVariants as halt
 
 -- the number with which the program exits
 abbrev pub status_number : Status → ℕ
@@ -22,12 +22,11 @@ status_number InputTooLong = 10
 -- the status of a run that ended early
 abbrev pub status_of : Halt → Status
 status_of halt.Sink = Sink
+status_of halt.Clock = Clock
 status_of halt.Memory = Memory
 
 -- a status with which the commands that there are so far can end
 abbrev pub IsStatusSoFar : Status → Type 0
-IsStatusSoFar Refused = ⊥
-IsStatusSoFar Clock = ⊥
 IsStatusSoFar Pocket = ⊥
 IsStatusSoFar Keeper = ⊥
 IsStatusSoFar Door = ⊥

@@ -9,14 +9,16 @@ use std::alloc::{AllocError, Global};
 /// What the words can ask for.
 #[derive(Clone, Copy, Debug, PartialEq, Eq)]
 pub enum Command {
-    /// Questions, each line of the source one.
+    /// Questions to this machine: each line of the source is one, or a command that begins with `:`.
     Qna,
+    /// The same of a described world, whose text the source begins with.
+    QnaWorld,
     /// The words of each command.
     Help,
 }
 
 /// Every command, in the order of the help.
-const COMMANDS: [Command; 2] = [Command::Qna, Command::Help];
+const COMMANDS: [Command; 3] = [Command::Qna, Command::QnaWorld, Command::Help];
 
 impl Command {
     fn words(self) -> &'static [&'static str]
@@ -24,6 +26,7 @@ impl Command {
     {
         match self {
             Command::Qna => &["qna"],
+            Command::QnaWorld => &["qna", "--world"],
             Command::Help => &["--help"],
         }
     }

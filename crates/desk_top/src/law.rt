@@ -1,9 +1,21 @@
-// What holds of every run.
-ghost use Rattle.std.specs.Prelude.{◌≡◌, List, ℕ};
+// What holds of every run of a command.
+ghost use Rattle.std.specs.Prelude.{◌≡◌, ◌-◌, ◌^◌, ◌<◌, ℕ, ℤ, List, Some};
+ghost use Rattle.bf_world.specs.declared.key.Key.{Key};
+ghost use Rattle.bf_world.specs.Worlds.{WorldState};
 ghost use Rattle.desk_top.specs.declared.command.Command.{Command};
-ghost use Rattle.desk_top.specs.Said.{Says};
+ghost use Rattle.desk_top.specs.declared.command.Command.TheVariants.{Qna};
+ghost use Rattle.desk_top.specs.Said.{Did};
+ghost use Rattle.desk_top.specs.Tellings.{telling};
 
-/// A command says one thing of an input: what is written is fixed by the words and the bytes of the source.
+/// A command says one thing: where no look fails, what is written is fixed by the input, the machine's world and the moments that the
+/// clock gives. So are the keys that `qna` looks up.
 pub fn one_said()
-    ensures { (command : Command) (input a b : List ℕ) → Says command input a → Says command input b → a ≡ b }
+    ensures bytes { (command : Command) (w : WorldState) (input held a b : List ℕ) (looked keys others : List Key) (faults : ℕ)
+        (given after : List ℤ) → faults < 2 ^ 64 - 1
+        → Did command (Some w) input (telling held looked faults given) (telling a keys faults after)
+        → Did command (Some w) input (telling held looked faults given) (telling b others faults after) → a ≡ b }
+    ensures looks { (w : WorldState) (input held a b : List ℕ) (looked keys others : List Key) (faults : ℕ)
+        (given after : List ℤ) → faults < 2 ^ 64 - 1
+        → Did Qna (Some w) input (telling held looked faults given) (telling a keys faults after)
+        → Did Qna (Some w) input (telling held looked faults given) (telling b others faults after) → keys ≡ others }
 {}

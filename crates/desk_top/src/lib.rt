@@ -1,15 +1,13 @@
 //! The program, from words and bytes to bytes and a status.
 #![tactic(auto)]
 
-mod answers;
 mod command;
-mod errors;
-mod halt;
+mod described;
 mod law;
-mod line;
-mod qna;
+mod questions;
 mod status;
 mod top;
+mod world_input;
 
 pub use command::Command;
 pub use law::one_said;

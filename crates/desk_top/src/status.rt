@@ -1,5 +1,7 @@
 ghost use Rattle.std.specs.Prelude.{◌≡◌};
-ghost use Rattle.desk_top.specs.Statuses.{status_number};
+ghost use Rattle.desk_top.specs.Statuses.{status_number, status_of};
+
+use rel_session::Halt;
 
 /// How a run ended. The program exits with its number, 0 to 10 in this order.
 #[derive(Clone, Copy, Debug, PartialEq, Eq)]
@@ -29,6 +31,17 @@ pub enum Status {
 }
 
 impl Status {
+    /// The status of a run that ended early.
+    pub(crate) fn of_halt(halt: Halt) -> Status
+        ensures { result ≡ status_of halt }
+    {
+        match halt {
+            Halt::Sink => Status::Sink,
+            Halt::Clock => Status::Clock,
+            Halt::Memory => Status::Memory,
+        }
+    }
+
     /// The number with which the program exits.
     pub fn number(self) -> u8
         ensures { result ≡ status_number self }

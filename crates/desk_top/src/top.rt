@@ -2,34 +2,40 @@ ghost use Rattle.std.specs.Prelude.{◌≡◌, ◌≢◌, ◌+◌, ◌≤◌, �
 ghost use Rattle.std.specs.Io.KnownBytes.{Appends};
 ghost use Rattle.desk_base.specs.Counts.{Rose, CountsAtMost};
 ghost use Rattle.desk_base.specs.Flow.{AppendsFront, AppendsSome, IsFront};
-ghost use Rattle.desk_top.specs.Commands.{Asks, AsksSome, IsCommand, IsNoCommand, ReadsSource, usage_line, help_text};
-ghost use Rattle.desk_top.specs.Runs.{input_limit, TookInput, TookPart, TookTooMuch};
-ghost use Rattle.desk_top.specs.Said.{Says, SaysFront};
+ghost use Rattle.desk_top.specs.Commands.{Asks, AsksSome, IsNoCommand, ReadsSource, usage_line, help_text};
+ghost use Rattle.desk_top.specs.Runs.{input_limit, ReadsInput, TookInput, TookPart, TookTooMuch};
+ghost use Rattle.desk_top.specs.Said.{AsksDevices, Began, Did, IsGoodInput, IsSomeNumber};
 ghost use Rattle.desk_top.specs.Statuses.{IsStatusSoFar};
+ghost use Rattle.desk_top.specs.WorldInputs.{IsBadInput, bad_line};
+ghost use Rattle.rel_session.specs.Devices.{devices_of};
 
 use crate::command::{Command, command_of, help};
-use crate::halt::{Halt, halted, put};
-use crate::qna::answer_lines;
+use crate::questions::{ask_machine, ask_world};
 use crate::status::Status;
-use desk_base::{Put, Sink, Source, Whole, read_all};
+use bf_machine::Machine;
+use desk_base::{Bytes, Clock, Put, Sink, Source, Whole, read_all};
 use rel_lexer::Text;
+use rel_session::{Halt, put};
 use std::alloc::Global;
 
 /// The most bytes that a source may give.
 const INPUT_LIMIT: usize = 8_388_608;
 
-/// Runs the words, without the program's name, over a source and a sink, and answers how that ended: Done, Usage, Source, Sink,
-/// Memory or InputTooLong. A command that reads the source reads it whole, up to 8,388,608 bytes, before anything is written.
-pub fn desk<S: Source, W: Sink>(
+/// Runs the words, without the program's name, and answers how that ended: Done, Usage, Refused, Source, Sink, Clock, Memory or
+/// InputTooLong. A command that reads the source reads it whole, up to 8,388,608 bytes, before anything is written.
+pub fn desk<S: Source, W: Sink, M: Machine, C: Clock>(
     alloc: Global,
     words: &[Text],
     source: &mut S,
     sink: &mut W,
+    machine: &mut M,
+    clock: &mut C,
 ) -> Status
-    // The command's whole input was taken, and exactly what is said of it was written.
+    // The command's whole input was taken, and exactly what it does with it was done.
     ensures done { result ≡ Status.Done → AsksSome words.now (λ command.
-        TookInput command (S.left source.old) (S.left source.new) (λ input.
-        AppendsSome (W.held sink.old) (W.held sink.new) (Says command input))) }
+        TookInput command (S.left source.old) (S.left source.new) (λ input. Did command (M.world machine.old) input
+        (devices_of (W.held sink.old) (M.looked machine.old) (M.faults machine.old) (C.given clock.old))
+        (devices_of (W.held sink.new) (M.looked machine.new) (M.faults machine.new) (C.given clock.new)))) }
 
     // Words that are none of the table's are answered by the usage line, unless its writing fails.
     ensures usage { result ≡ Status.Usage → IsNoCommand words.now
@@ -37,22 +43,34 @@ pub fn desk<S: Source, W: Sink>(
     ensures usage_comes { IsNoCommand words.now → (result ≡ Status.Usage)
         ⊎ ((result ≡ Status.Sink) × AppendsFront (W.held sink.old) (W.held sink.new) usage_line) }
 
+    // The world text of `qna --world` is outside its grammar, and its first bad line was written alone.
+    ensures refused { result ≡ Status.Refused → Asks words.now Command.QnaWorld
+        × TookInput Command.QnaWorld (S.left source.old) (S.left source.new) (λ input.
+        IsSomeNumber (λ number. IsBadInput input number × Appends (W.held sink.old) (W.held sink.new) (bad_line number))) }
+
     // The source failed while it was read, and nothing was written.
     ensures source { result ≡ Status.Source → AsksSome words.now ReadsSource
         × Rose (S.faults source.old) (S.faults source.new)
         × TookPart (S.left source.old) (S.left source.new) × (sink.new ≡ sink.old) }
 
-    // The sink failed, and a front of what is said was written.
+    // The sink or the clock failed, and a front of what is said was written.
     ensures sink { result ≡ Status.Sink → Rose (W.faults sink.old) (W.faults sink.new) }
     ensures sink_front { result ≡ Status.Sink → (command : Command) → Asks words.now command →
-        TookInput command (S.left source.old) (S.left source.new) (λ input.
-        AppendsSome (W.held sink.old) (W.held sink.new) (SaysFront command input)) }
+        TookInput command (S.left source.old) (S.left source.new) (λ input. Began command (M.world machine.old) input
+        (devices_of (W.held sink.old) (M.looked machine.old) (M.faults machine.old) (C.given clock.old))
+        (devices_of (W.held sink.new) (M.looked machine.new) (M.faults machine.new) (C.given clock.new))) }
+    ensures clock { result ≡ Status.Clock → Asks words.now Command.Qna
+        × Rose (C.faults clock.old) (C.faults clock.new)
+        × TookInput Command.Qna (S.left source.old) (S.left source.new) (λ input. Began Command.Qna (M.world machine.old) input
+        (devices_of (W.held sink.old) (M.looked machine.old) (M.faults machine.old) (C.given clock.old))
+        (devices_of (W.held sink.new) (M.looked machine.new) (M.faults machine.new) (C.given clock.new))) }
 
     // Memory ran out before anything was written, or after a front of what is said was.
     ensures memory { result ≡ Status.Memory → AsksSome words.now (λ command.
         (TookPart (S.left source.old) (S.left source.new) × (sink.new ≡ sink.old))
-        ⊎ TookInput command (S.left source.old) (S.left source.new) (λ input.
-        AppendsSome (W.held sink.old) (W.held sink.new) (SaysFront command input))) }
+        ⊎ TookInput command (S.left source.old) (S.left source.new) (λ input. Began command (M.world machine.old) input
+        (devices_of (W.held sink.old) (M.looked machine.old) (M.faults machine.old) (C.given clock.old))
+        (devices_of (W.held sink.new) (M.looked machine.new) (M.faults machine.new) (C.given clock.new)))) }
 
     // The source gave more than it may, and nothing was written.
     ensures too_long { result ≡ Status.InputTooLong → AsksSome words.now ReadsSource
@@ -62,18 +80,32 @@ pub fn desk<S: Source, W: Sink>(
         → ¬ Rose (S.faults source.old) (S.faults source.new)
         → (result ≡ Status.InputTooLong) ⊎ (result ≡ Status.Memory) }
 
-    // Where the words are of the table, the source tells no more bytes than it may, and nothing failed, it is done,
-    // unless memory ran out.
-    ensures complete { IsCommand words.now
-        → IsSomeAnd (S.left source.old) (λ input. length input ≤ input_limit)
+    // Where the words are of the table, the source tells no more bytes than it may, and nothing failed, it is done, unless memory
+    // ran out; or refused, where the input is outside the grammar that the command asks for.
+    ensures complete { (command : Command) → Asks words.now command
+        → IsSomeAnd (S.left source.old) (λ input. (length input ≤ input_limit) × IsGoodInput command input)
         → ¬ Rose (S.faults source.old) (S.faults source.new) → ¬ Rose (W.faults sink.old) (W.faults sink.new)
+        → ¬ Rose (C.faults clock.old) (C.faults clock.new)
         → (result ≡ Status.Done) ⊎ (result ≡ Status.Memory) }
+    ensures refused_comes { Asks words.now Command.QnaWorld
+        → IsSomeAnd (S.left source.old) (λ input. (length input ≤ input_limit) × ¬ IsGoodInput Command.QnaWorld input)
+        → ¬ Rose (S.faults source.old) (S.faults source.new) → ¬ Rose (W.faults sink.old) (W.faults sink.new)
+        → (result ≡ Status.Refused) ⊎ (result ≡ Status.Memory) }
 
-    // No count falls, and none rises but for the fault that ended the run.
+    // No count falls, and none rises but for the fault that ended the run, and for the machine's.
     ensures source_later { S.faults source.old ≤ S.faults source.new }
     ensures source_steady { result ≢ Status.Source → S.faults source.new ≡ S.faults source.old }
     ensures sink_later { W.faults sink.old ≤ W.faults sink.new }
     ensures sink_steady { result ≢ Status.Sink → W.faults sink.new ≡ W.faults sink.old }
+    ensures clock_later { C.faults clock.old ≤ C.faults clock.new }
+    ensures clock_steady { result ≢ Status.Clock → C.faults clock.new ≡ C.faults clock.old }
+    ensures machine_later { M.faults machine.old ≤ M.faults machine.new }
+
+    // Questions leave the machine's world, and only `qna` asks the machine and the clock.
+    ensures world { M.world machine.new ≡ M.world machine.old }
+    ensures acted { M.acted machine.new ≡ M.acted machine.old }
+    ensures started { M.started machine.new ≡ M.started machine.old }
+    ensures unasked { ¬ AsksSome words.now AsksDevices → (machine.new ≡ machine.old) × (clock.new ≡ clock.old) }
 
     // The source is read at most so often, and is as it was where it isn't read. There is no other status.
     ensures reads { CountsAtMost (S.reads source.old) (S.reads source.new) (input_limit + 1) }
@@ -89,17 +121,32 @@ pub fn desk<S: Source, W: Sink>(
     match command {
         Command::Help => match write_help(alloc, sink) {
             Ok(()) => Status::Done,
-            Err(halt) => halted(halt),
+            Err(halt) => Status::of_halt(halt),
         },
-        Command::Qna => match read_all(alloc, source, INPUT_LIMIT) {
-            Whole::Read(input) => match answer_lines(alloc, input.as_slice(), sink) {
-                Ok(()) => Status::Done,
-                Err(halt) => halted(halt),
-            },
-            Whole::TooLong => Status::InputTooLong,
-            Whole::Failed => Status::Source,
-            Whole::Memory => Status::Memory,
+        Command::Qna => match read_input(alloc, source) {
+            Ok(input) => ask_machine(alloc, input.as_slice(), sink, machine, clock),
+            Err(status) => status,
         },
+        Command::QnaWorld => match read_input(alloc, source) {
+            Ok(input) => ask_world(alloc, input.as_slice(), sink),
+            Err(status) => status,
+        },
+    }
+}
+
+/// Reads the whole source, or answers why it can't be read.
+fn read_input<S: Source>(alloc: Global, source: &mut S) -> Result<Bytes, Status>
+    ensures reads { ReadsInput (S.left source.old) (S.left source.new) result }
+    ensures failed { IsErrOf result Status.Source → Rose (S.faults source.old) (S.faults source.new) }
+    ensures later { S.faults source.old ≤ S.faults source.new }
+    ensures steady { ¬ IsErrOf result Status.Source → S.faults source.new ≡ S.faults source.old }
+    ensures calls { CountsAtMost (S.reads source.old) (S.reads source.new) (input_limit + 1) }
+{
+    match read_all(alloc, source, INPUT_LIMIT) {
+        Whole::Read(input) => Ok(input),
+        Whole::TooLong => Err(Status::InputTooLong),
+        Whole::Failed => Err(Status::Source),
+        Whole::Memory => Err(Status::Memory),
     }
 }
 
@@ -110,6 +157,7 @@ fn write_help<W: Sink>(alloc: Global, sink: &mut W) -> Result<(), Halt>
     ensures later { W.faults sink.old ≤ W.faults sink.new }
     ensures failed { IsErrOf result Halt.Sink → Rose (W.faults sink.old) (W.faults sink.new) }
     ensures steady { ¬ IsErrOf result Halt.Sink → W.faults sink.new ≡ W.faults sink.old }
+    ensures never { ¬ IsErrOf result Halt.Clock }
 {
     let text = help(alloc)?;
     put(sink, text.as_slice())

@@ -1,3 +1,8 @@
-pub mod SumLemmas
-pub mod OneTrace
+pub mod OnePlan
 pub mod Untyped
+pub mod Skips
+pub mod Moves
+pub mod Nearer
+pub mod Uses
+pub mod Singles
+pub mod Opened

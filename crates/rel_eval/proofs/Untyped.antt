@@ -9,7 +9,7 @@ use Rattle.rel_types.specs.Outcomes.{Fails}
 use Rattle.rel_types.specs.Typing.{typed}
 use Rattle.rel_eval.specs.declared.refusal.Refusal.{Refusal}
 use Rattle.rel_eval.specs.declared.refusal.Refusal.TheVariants.{At, NotDefined, Memory}
-use Rattle.rel_eval.specs.declared.refusal.RelKind.{RelKind}
+use Rattle.rel_trace.specs.declared.kind.RelKind.{RelKind}
 use Rattle.rel_eval.specs.Answers.{Prepares}
 use Rattle.rel_eval.specs.Refusals.{IsRefusalOfChecker, IsTypeRefusal}
 
@@ -25,7 +25,7 @@ defined_is_no_want p words e = cc
 
 pub untyped : (text : List ℕ) (tree : Plain) (e : TypeError) (refusal : Refusal) → IsTreeOf text tree → Fails (typed None tree) e → IsRefusalOfChecker e refusal → Prepares text (Err refusal)
 unfolding Fails
-untyped text tree e (At k p) tree_of faults is = inr (inr (inl (tree, tree_of, (e, faults (no_want e k p is), is))))
+untyped text tree e (At k p) tree_of faults is = inr (inr (tree, tree_of, (e, faults (no_want e k p is), is)))
 untyped text tree e (NotDefined p words) tree_of faults is =
     let Faults : TypeError → Type 0 = λ x. x ≢ typing.Memory → typed None tree ≡ Err x in
     let fault : typed None tree ≡ Err (undefined_error p words) = subst Faults is faults (defined_is_no_want p words) in

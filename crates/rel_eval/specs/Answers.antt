@@ -1,20 +1,78 @@
--- What preparing a question and drawing from it answer.
-use Rattle.std.specs.Prelude.{◌≡◌, ⊤, ℕ, List, [], Result, Ok, Err}
+-- What preparing a question answers, and what an answer hands over and looks up.
+use Rattle.std.specs.Prelude.{◌≡◌, ◌⊎◌, ⊤, ℕ, List, [], ◌∷◌, Result, Ok, Err}
+use Rattle.std.specs.declared.option.Option.{Option}
+use Rattle.desk_base.specs.Counts.{Rose}
+use Rattle.bf_machine.specs.Told.{Grows}
+use Rattle.bf_world.specs.declared.key.Key.{Key}
+use Rattle.rel_value.specs.Plain.{Plain}
+use Rattle.rel_trace.specs.Steps.{LooksAt}
+use Rattle.rel_trace.specs.Trace.{Stop, Error, Event, Give, Trace, Ends, After}
+use Rattle.rel_eval.specs.declared.question.Question.{Question}
 use Rattle.rel_eval.specs.declared.refusal.Refusal.{Refusal}
 use Rattle.rel_eval.specs.declared.refusal.Refusal.TheVariants.{At, NotDefined, Memory}
-use Rattle.rel_eval.specs.declared.cursor.Pulled.{Pulled}
-use Rattle.rel_eval.specs.declared.cursor.Pulled.TheVariants as pulled
-use Rattle.rel_eval.specs.Traces.{Trace, Stop, Error, give, IsQuestionOf, IsRefusedAs, IsUndefined}
+use Rattle.rel_eval.specs.declared.taker.Ended.{Ended}
+use Rattle.rel_eval.specs.declared.taker.Ended.TheVariants as ended
+use Rattle.rel_eval.specs.declared.taker.Take.{Take}
+use Rattle.rel_eval.specs.declared.taker.Take.TheVariants as take
+use Rattle.rel_eval.specs.Questions.{IsPlanOf, IsRefusedAs, IsUndefined, plan_of}
+use Rattle.rel_eval.specs.Pulls.{prepend, keys, gives}
 
--- A question, seen as what it gives, comes exactly where the text is one, and a refusal exactly as the text is refused.
-abbrev pub Prepares : List ℕ → Result Trace Refusal → Type 0
-Prepares text (Ok question) = IsQuestionOf text question
+-- A question comes exactly where the text is one, with its plan, and a refusal exactly as the text is refused.
+abbrev pub Prepares : List ℕ → Result Question Refusal → Type 0
+Prepares text (Ok question) = IsPlanOf text (plan_of question)
 Prepares text (Err (At kind place)) = IsRefusedAs text kind place
 Prepares text (Err (NotDefined place words)) = IsUndefined text place words
 Prepares text (Err Memory) = ⊤
 
--- The next value of what is left was given, or nothing is left but the ending, which stays.
-abbrev pub Pulls : Trace → Trace → Pulled → Type 0
-Pulls old new (pulled.Value value) = old ≡ give value new
-Pulls old new pulled.End = (old ≡ record { values = []; ending = Stop }) × (new ≡ old)
-Pulls old new (pulled.Error kind place) = (old ≡ record { values = []; ending = Error kind place }) × (new ≡ old)
+-- what a taker does with a value: it was this, is handed the value, answers so and is that
+abbrev pub Takes : Type 0 → Type 1
+Takes T = T → Plain → Take → T → Type 0
+
+-- It was handed these values one after another, and asked for more after each.
+abbrev pub Took : {T : Type 0} → Takes T → T → List Plain → T → Type 0
+Took takes old [] new = new ≡ old
+Took {T} takes old (v ∷ vs) new = (next : T) × takes old v take.More next × Took takes next vs new
+
+-- It was handed these values, asked for more after each, and then a last one, after which it answered so.
+abbrev pub TookLast : {T : Type 0} → Takes T → T → List Plain → Plain → Take → T → Type 0
+TookLast {T} takes old vs last answer new = (before : T) × Took takes old vs before × takes before last answer new
+
+-- A trace was used from one place to a later one: its values were handed over and its looks made, and no more.
+pub record Uses {T : Type 0} (takes : Takes T) (t : Trace) (old : T) (looks : List Key) (later : Trace) (new : T) : Type 0 where
+  pub events : List Event
+  pub whole : t ≡ prepend events later
+  pub looked : looks ≡ keys events
+  pub handed : Took takes old (gives events) new
+
+-- It was used up to a value, after which the taker answered so, and no event past that value was made.
+pub record UsesToLast {T : Type 0} (takes : Takes T) (t : Trace) (old : T) (answer : Take) (looks : List Key) (new : T) : Type 0 where
+  pub events : List Event
+  pub last : Plain
+  pub later : Trace
+  pub whole : t ≡ prepend events (After (Give last) later)
+  pub looked : looks ≡ keys events
+  pub handed : TookLast takes old (gives events) last answer new
+
+-- How an answer ends: with the trace, at a value where the taker has enough, before a look that failed, or for want of memory, which
+-- may come after any stretch.
+abbrev pub Ending : {T : Type 0} → Takes T → Trace → T → Ended → List Key → T → Type 0
+Ending takes t old ended.Stop looks new = Uses takes t old looks (Ends Stop) new
+Ending takes t old ended.Enough looks new = UsesToLast takes t old take.Enough looks new
+Ending takes t old (ended.Error kind place) looks new = Uses takes t old looks (Ends (Error kind place)) new
+Ending takes t old (ended.Failed place) looks new = (u : Trace) × Uses takes t old looks u new × LooksAt place u
+Ending takes t old ended.Memory looks new = ((u : Trace) × Uses takes t old looks u new) ⊎ UsesToLast takes t old take.Memory looks new
+
+-- The keys that a machine tells grow by those of the looks that were made.
+abbrev pub Answers : {T : Type 0} → Takes T → Option (List Key) → Trace → T → Ended → Option (List Key) → T → Type 0
+Answers takes before t old result now new = (looks : List Key) × Grows before now looks × Ending takes t old result looks new
+
+-- Enough comes exactly where the taker answered so, whatever the machine tells.
+abbrev pub Handed : {T : Type 0} → Takes T → T → Ended → T → Type 0
+Handed takes old ended.Enough new = (vs : List Plain) × (last : Plain) × TookLast takes old vs last take.Enough new
+Handed takes old ended.Memory new = ((vs : List Plain) × Took takes old vs new) ⊎ ((vs : List Plain) × (last : Plain) × TookLast takes old vs last take.Memory new)
+Handed takes old _ new = (vs : List Plain) × Took takes old vs new
+
+-- a look fails only where the machine's count of faults rose
+abbrev pub EndHasCause : ℕ → ℕ → Ended → Type 0
+EndHasCause old new (ended.Failed place) = Rose old new
+EndHasCause old new _ = Unit {0}

@@ -1,5 +1,9 @@
-pub mod Kinds
-pub mod BuiltSums
 pub mod Refusals
-pub mod Traces
+pub mod Questions
+pub mod Cuts
+pub mod Pulls
+pub mod Cursors
+pub mod Moves
 pub mod Answers
+pub mod Ones
+pub mod Singles

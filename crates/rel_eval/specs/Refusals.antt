@@ -1,9 +1,9 @@
--- Refusals, and what an answer is that may be one.
-use Rattle.std.specs.Prelude.{◌≡◌, ⊤, Result, Ok, Err}
+-- The refusals of the layers below, as refusals of a question.
+use Rattle.std.specs.Prelude.{◌≡◌}
 use Rattle.rel_eval.specs.declared.refusal.Refusal.{Refusal}
 use Rattle.rel_eval.specs.declared.refusal.Refusal.TheVariants.{At, NotDefined, Memory}
-use Rattle.rel_eval.specs.declared.refusal.RelKind.{RelKind}
-use Rattle.rel_eval.specs.declared.refusal.RelKind.TheVariants.{BadByte, BadEscape, UnclosedString, UnclosedComment, TooLong, NoParse, TooDeep, NotSingular, Incompatible, BadNumber, NotBuilt}
+use Rattle.rel_trace.specs.declared.kind.RelKind.{RelKind}
+use Rattle.rel_trace.specs.declared.kind.RelKind.TheVariants.{BadByte, BadEscape, UnclosedString, UnclosedComment, TooLong, NoParse, TooDeep, NotSingular, Incompatible, BadNumber}
 use Rattle.rel_lexer.specs.declared.place.Place.{Place}
 use Rattle.rel_lexer.specs.declared.error.LexError.{LexError}
 use Rattle.rel_lexer.specs.declared.error.LexError.TheVariants as lex
@@ -56,10 +56,3 @@ abbrev pub IsRefusalOfChecker : TypeError → Refusal → Type 0
 IsRefusalOfChecker error (At kind place) = IsTypeRefusal error kind place
 IsRefusalOfChecker error (NotDefined place words) = error ≡ typing.NotDefined place words
 IsRefusalOfChecker error Memory = error ≡ typing.Memory
-
--- Temporary: an answer is right, or it is the refusal NotBuilt where there is none, or it is want of memory.
-abbrev pub Answers : {T : Type 0} → Result T Refusal → (T → Type 0) → Type 0 → Type 0
-Answers (Ok x) IsRight IsNone = IsRight x
-Answers (Err (At kind place)) IsRight IsNone = (kind ≡ NotBuilt) × (place ≡ nowhere) × IsNone
-Answers (Err (NotDefined place words)) IsRight IsNone = ⊥
-Answers (Err Memory) IsRight IsNone = ⊤

@@ -1,14 +1,33 @@
-ghost use Rattle.std.specs.Prelude.{◌≡◌};
-ghost use Rattle.rel_eval.specs.Answers.{Pulls};
+ghost use Rattle.std.specs.Prelude.{◌≡◌, ◌≢◌, ◌≤◌, ◌+◌, ◌*◌, ℕ, List, [], Some};
+ghost use Rattle.bf_world.specs.declared.key.Key.{Key};
+ghost use Rattle.bf_world.specs.Worlds.{WorldState};
+ghost use Rattle.rel_eval.specs.Cursors.{AsState, GivesSound, HasCause, Nearer, after_pull, cursor_rest, weight};
+ghost use Rattle.rel_trace.specs.Steps as steps;
+ghost use Rattle.rel_trace.specs.Trace.{Trace};
+ghost use Rattle.rel_eval.specs.Cuts.{cut, limit};
+ghost use Rattle.rel_eval.specs.Moves.{IsNotClosed, Moves, MovesNearer, OnOut, Went, has_room, open_rest};
+ghost use Rattle.rel_eval.specs.Pulls.{Draws};
 
-use crate::built_sums::Sum;
-use crate::refusal::RelKind;
-use crate::value::Value;
+use crate::sound_scene::SoundScene;
+use bf_machine::Machine;
 use rel_lexer::Place;
-use std::marker::Model;
+use rel_nodes::Node;
+use rel_trace::{RelKind, Scope, Step};
+use rel_value::Value;
+use std::alloc::Global;
+
+/// The most looks and turns of one evaluation.
+const LIMIT: u64 = 1_000_000;
+
+/// Nothing is handed down to a question.
+const ALONE: Scope<'static> = Scope {
+    it: None,
+    argument: None,
+    left: None,
+};
 
 /// What a pull answers.
-#[derive(Clone, Copy, Debug, PartialEq, Eq)]
+#[derive(Debug, Drop)]
 pub enum Pulled {
     /// The next value.
     Value(Value),
@@ -16,46 +35,165 @@ pub enum Pulled {
     End,
     /// There are no more values because of this error. It is answered again from then on.
     Error(RelKind, Place),
+    /// The look at this place failed. The next pull makes it again.
+    Failed(Place),
+    /// Memory ran out.
+    Memory,
+    /// Memory ran out in an earlier pull.
+    Closed,
+}
+
+/// Whether a cursor can go on.
+#[derive(Clone, Copy, Debug)]
+pub enum State {
+    Open,
+    /// It was drawn to its end.
+    Over,
+    /// It was drawn to this error.
+    Erred(RelKind, Place),
+    /// Memory ran out.
+    Shut,
 }
 
 /// Draws a question's values one at a time. Contracts see what it has still to give.
-#[derive(Debug, Drop)]
+#[derive(Drop)]
 pub struct Cursor {
-    sums: Vec<Sum>,
-    next: usize,
+    node: Node,
+    scene: SoundScene,
+    /// How many looks and turns it may still make.
+    left: u64,
+    state: State,
+    alloc: Global,
 }
 
-impl Model for Cursor {
-    ghost use Rattle.std.specs.Prelude.{◌≤◌, length, drop};
-    ghost use Rattle.rel_eval.specs.Traces.{Trace, trace_of_sums};
-
-    ghost Value = { Trace };
-
-    ghost view = { λ c. trace_of_sums (drop c.next c.sums.items) };
-
-    ghost invariant = { λ c. c.next ≤ length c.sums.items };
+/// One step of a pull: on, or out of it.
+#[derive(Drop)]
+enum Moved {
+    On,
+    Out(Pulled),
 }
 
 impl Cursor {
-    ghost use Rattle.rel_eval.specs.Traces.{trace_of_sums};
-
-    pub(crate) fn new(sums: Vec<Sum>) -> Cursor
-        ensures { result ≡ trace_of_sums sums.items }
+    /// A cursor over a node that is at its beginning.
+    pub(crate) fn new(alloc: Global, node: Node, scene: SoundScene) -> Cursor
+        ensures node { result.node ≡ node }
+        ensures scene { result.scene ≡ scene }
+        ensures left { result.left ≡ limit }
+        ensures state { result.state ≡ State.Open }
     {
-        Cursor { sums, next: 0 }
+        Cursor {
+            node,
+            scene,
+            left: LIMIT,
+            state: State::Open,
+            alloc,
+        }
     }
 
     /// Draws the next value.
-    pub fn pull(&mut self) -> Pulled
-        ensures { Pulls self.old self.new result }
+    pub fn pull<M: Machine>(&mut self, machine: &mut M) -> Pulled
+        ensures goes { (w : WorldState) → M.world machine.old ≡ Some w
+            → Draws (M.looked machine.old) (cursor_rest w self.old) result (M.looked machine.new) (cursor_rest w self.new) }
+        ensures state { self.new.state ≡ after_pull result }
+        ensures again { AsState self.old.state result }
+        ensures still { self.old.state ≢ State.Open → machine.new ≡ machine.old }
+        ensures sound { GivesSound result }
+        ensures nearer { Nearer result (weight self.old) (weight self.new) }
+        ensures cause { HasCause (M.faults machine.old) (M.faults machine.new) result }
+        ensures later { M.faults machine.old ≤ M.faults machine.new }
+        ensures world { M.world machine.new ≡ M.world machine.old }
+        ensures acted { M.acted machine.new ≡ M.acted machine.old }
+        ensures started { M.started machine.new ≡ M.started machine.old }
     {
-        match self.sums.get(self.next) {
-            None => Pulled::End,
-            Some(Sum::OutOfRange(plus)) => Pulled::Error(RelKind::OutOfRange, *plus),
-            Some(Sum::Value(number)) => {
-                self.next += 1;
-                Pulled::Value(Value::Integer(*number))
+        match self.state {
+            State::Open => {}
+            State::Over => return Pulled::End,
+            State::Erred(kind, place) => return Pulled::Error(kind, place),
+            State::Shut => return Pulled::Closed,
+        }
+        loop {
+            match self.advance(machine) {
+                Moved::On => {}
+                Moved::Out(pulled) => {
+                    self.state = pulled.state();
+                    return pulled;
+                }
             }
+        }
+    }
+
+    /// One step of an open cursor.
+    fn advance<M: Machine>(&mut self, machine: &mut M) -> Moved
+        requires { self.old.state ≡ State.Open }
+        ensures goes { (w : WorldState) → M.world machine.old ≡ Some w
+            → Went (M.looked machine.old) (open_rest w self.old) result (M.looked machine.new) (open_rest w self.new) }
+        ensures state { self.new.state ≡ State.Open }
+        ensures out { OnOut result IsNotClosed }
+        ensures sound { OnOut result GivesSound }
+        ensures nearer { MovesNearer result (weight self.old) (weight self.new) }
+        ensures cause { OnOut result (HasCause (M.faults machine.old) (M.faults machine.new)) }
+        ensures later { M.faults machine.old ≤ M.faults machine.new }
+        ensures world { M.world machine.new ≡ M.world machine.old }
+        ensures acted { M.acted machine.new ≡ M.acted machine.old }
+        ensures started { M.started machine.new ≡ M.started machine.old }
+    {
+        let room = self.left > 0;
+        let kept = &self.scene;
+        let step = self
+            .node
+            .step(self.alloc, ALONE, &kept.scene, machine, room);
+        within_limit(step, &mut self.left)
+    }
+}
+
+/// What a step of the node is to a pull that may still make so many looks and turns.
+fn within_limit(step: Step, left: &mut u64) -> Moved
+    requires { steps.AsRoom (has_room left.old) step }
+    ensures goes { (t u : Trace) (looks : List Key) → steps.Goes [] t step looks u
+        → Moves (cut left.old t) result looks (cut left.new u) }
+    ensures out { OnOut result IsNotClosed }
+    ensures sound { OnOut result GivesSound }
+    ensures nearer { (most q r : ℕ) → steps.Falls step q r → r ≤ most
+        → MovesNearer result (left.old * (most + 1) + q) (left.new * (most + 1) + r) }
+    ensures cause { (before now : ℕ) → steps.HasCause before now step → OnOut result (HasCause before now) }
+{
+    match step {
+        Step::Quiet => Moved::On,
+        Step::Looked(place) => counted(left, place),
+        Step::Turned(place) => counted(left, place),
+        Step::Given(value) => Moved::Out(Pulled::Value(value.into_value())),
+        Step::Over => Moved::Out(Pulled::End),
+        Step::Erred(kind, place) => Moved::Out(Pulled::Error(kind, place)),
+        Step::Full(place) => Moved::Out(Pulled::Error(RelKind::Steps, place)),
+        Step::Failed(place) => Moved::Out(Pulled::Failed(place)),
+        Step::Memory => Moved::Out(Pulled::Memory),
+    }
+}
+
+/// A look or a turn at this place is counted. One too many ends the question.
+fn counted(left: &mut u64, place: Place) -> Moved
+    ensures full { left.old ≡ 0 → result ≡ Moved.Out (Pulled.Error RelKind.Steps place) }
+    ensures room { left.old ≢ 0 → (result ≡ Moved.On) × (left.new + 1 ≡ left.old) }
+{
+    if *left == 0 {
+        return Moved::Out(Pulled::Error(RelKind::Steps, place));
+    }
+    *left -= 1;
+    Moved::On
+}
+
+impl Pulled {
+    /// The state that it leaves.
+    fn state(&self) -> State
+        ensures { result ≡ after_pull self.now }
+    {
+        match self {
+            Pulled::Value(_) => State::Open,
+            Pulled::End => State::Over,
+            Pulled::Error(kind, place) => State::Erred(*kind, *place),
+            Pulled::Failed(_) => State::Open,
+            Pulled::Memory => State::Shut,
+            Pulled::Closed => State::Shut,
         }
     }
 }

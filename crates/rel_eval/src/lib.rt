@@ -1,18 +1,27 @@
-//! Questions: prepared from a text, and their values drawn one at a time.
+//! Questions: prepared from a text, and their values drawn one at a time from a machine in a scene.
 #![tactic(auto)]
 
-mod built_sums;
+mod answers;
 mod cursor;
-mod law;
+mod laws;
+mod one_texts;
+mod one_value;
 mod question;
 mod refusal;
-mod value;
+mod sound_scene;
+mod taker;
+mod told;
+mod truths;
 
 pub use cursor::{Cursor, Pulled};
-pub use law::one_trace;
+pub use laws::one_plan;
+pub use one_texts::one_text;
 pub use question::{Question, prepare};
-pub use refusal::{Refusal, RelKind};
-pub use value::Value;
+pub use refusal::Refusal;
+pub use rel_trace::RelKind;
+pub use taker::{Ended, Take, Taker};
+pub use told::{OneText, Truth};
+pub use truths::truth;
 
 #[cfg(test)]
 mod tests;

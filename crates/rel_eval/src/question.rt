@@ -1,59 +1,78 @@
-ghost use Rattle.std.specs.Prelude.{◌≡◌, IfOk};
+ghost use Rattle.std.specs.Prelude.{◌≡◌, IfOk, None};
+ghost use Rattle.desk_base.specs.Moments.{IsMoment};
+ghost use Rattle.line_forms.specs.Numbers.{IsOffset};
+ghost use Rattle.bf_world.specs.Worlds.{WorldState};
+ghost use Rattle.rel_sources.specs.declared.scene.Scene.{Scene};
+ghost use Rattle.rel_nodes.specs.Meaning.{mean};
+ghost use Rattle.rel_nodes.specs.Nodes.{rest};
+ghost use Rattle.rel_types.specs.Views.{shown_node};
+ghost use Rattle.rel_eval.specs.declared.cursor.State.{State};
 ghost use Rattle.rel_eval.specs.Answers.{Prepares};
+ghost use Rattle.rel_eval.specs.Cursors.{alone, cursor_rest};
+ghost use Rattle.rel_eval.specs.Cuts.{meaning};
+ghost use Rattle.rel_eval.specs.Questions.{plan_of};
 
-use crate::built_sums::{Sum, sums_of};
 use crate::cursor::Cursor;
 use crate::refusal::Refusal;
+use crate::sound_scene::SoundScene;
 use rel_grammar::parse;
+use rel_inspect::Scene;
 use rel_lexer::tokens;
-use rel_types::check;
+use rel_nodes::{Node, begin};
+use rel_types::{Plan, check};
 use std::alloc::{AllocError, Global};
-use std::marker::Model;
 
-/// A question that was prepared. Contracts see what it gives. For now there are only numbers in a question, so what it gives is
-/// worked out when it is prepared.
+/// A question that was prepared.
 #[derive(Debug, Drop)]
 pub struct Question {
-    sums: Vec<Sum>,
-}
-
-impl Model for Question {
-    ghost use Rattle.rel_eval.specs.Traces.{Trace, trace_of_sums};
-
-    ghost Value = { Trace };
-
-    ghost view = { λ q. trace_of_sums q.sums.items };
+    plan: Plan,
 }
 
 /// Prepares a question from its text. A text that the lexer refuses is refused with its first fault, one whose tokens the parser
-/// refuses with the first that is wrong, and one that isn't well typed with the first fault in the order of checking. For now a
-/// question is refused as NotBuilt at (0..0) that is well typed and has anything but numbers, `+`, brackets without filter and
-/// object, and semicolons outside all brackets.
+/// refuses with the first that is wrong, and one that isn't well typed with the first fault in the order of checking.
 pub fn prepare(alloc: Global, text: &[u8]) -> Result<Question, Refusal>
     ensures { Prepares text.now result }
 {
     let tokens = tokens(alloc, text)?;
     let tree = parse(alloc, &tokens)?;
-    check(alloc, &tree)?;
-    Ok(Question {
-        sums: sums_of(alloc, &tree)?,
-    })
+    let plan = check(alloc, &tree)?;
+    Ok(Question { plan })
 }
 
 impl Question {
-    /// A cursor at the start of what the question gives.
-    pub fn open(&self, alloc: Global) -> Result<Cursor, AllocError>
-        ensures { IfOk result (λ cursor. cursor ≡ self.now) }
+    /// Its plan.
+    pub fn plan(&self) -> &Plan
+        ensures { result.now ≡ self.now.plan }
     {
-        Ok(Cursor::new(Vec::from_slice(alloc, self.sums.as_slice())?))
+        &self.plan
     }
 
     /// The same question once more.
     pub fn copy(&self) -> Result<Question, AllocError>
-        ensures { IfOk result (λ question. question ≡ self.now) }
+        ensures { IfOk result (λ question. plan_of question ≡ plan_of self.now) }
     {
-        Ok(Question {
-            sums: Vec::from_slice(*self.sums.allocator(), self.sums.as_slice())?,
-        })
+        let plan = self.plan.copy()?;
+        Ok(Question { plan })
     }
+
+    /// A cursor at the start of what the question gives in a scene. It keeps a copy of the scene.
+    pub fn open(&self, alloc: Global, scene: &Scene) -> Result<Cursor, AllocError>
+        requires moment { IsMoment scene.now.moment }
+        requires offset { IsOffset scene.now.offset }
+        ensures rest { IfOk result (λ cursor. (w : WorldState) → cursor_rest w cursor ≡ meaning w scene.now (plan_of self.now)) }
+        ensures open { IfOk result (λ cursor. cursor.state ≡ State.Open) }
+    {
+        let kept = SoundScene::copy_of(scene)?;
+        let node = begun(alloc, self.plan.root())?;
+        Ok(Cursor::new(alloc, node, kept))
+    }
+}
+
+/// The node of a plan, at its beginning.
+fn begun(alloc: Global, plan: &rel_types::Node) -> Result<Node, AllocError>
+    ensures { IfOk result (λ node. (w : WorldState) (s : Scene) → rest w s node alone ≡ mean w s (shown_node plan.now) None) }
+{
+    let mut node = begin(alloc, plan)?;
+    node.reset();
+    Ok(node)
 }

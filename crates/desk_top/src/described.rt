@@ -1,0 +1,62 @@
+// What a described world is asked through. Nothing fails there.
+ghost use Rattle.std.specs.Prelude.{[], None, Some, length};
+ghost use Rattle.bf_machine.specs.Plain.{counted, unasked};
+
+use bf_machine::{Looked, Machine};
+use bf_world::{Acted, Command, Key, Polled, ProcessNo, World};
+use desk_base::{Clock, Told};
+use rel_lexer::Text;
+use std::alloc::AllocError;
+
+/// The machine over a described world. No look, act or poll fails on it, and it keeps none.
+#[derive(Drop)]
+pub(crate) struct DescribedMachine {
+    pub(crate) world: World,
+}
+
+impl Machine for DescribedMachine {
+    ghost world = { λ m. Some m.world };
+
+    ghost looked = { λ _. None };
+
+    ghost acted = { λ _. None };
+
+    ghost started = { λ m. length m.world.started };
+
+    ghost faults = { λ _. 0 };
+
+    fn open(&mut self, _work: &Text) -> Result<(), AllocError> {
+        Ok(())
+    }
+
+    fn look(&mut self, key: &Key) -> Looked {
+        match self.world.look(key) {
+            Ok(answer) => Looked::Answer(answer),
+            Err(_) => Looked::Memory,
+        }
+    }
+
+    fn act(&mut self, command: &Command, moment: i64) -> Acted {
+        self.world.act(command, moment)
+    }
+
+    fn poll(&mut self, process: ProcessNo) -> Polled {
+        self.world.poll(process.0)
+    }
+
+    ghost counted = { λ m w is. counted (unasked m.world [] [] []) w is };
+}
+
+/// A clock for questions whose moment is known, which is asked for none. It stands at 1970-01-01 00:00:00 UTC.
+#[derive(Drop)]
+pub(crate) struct NoClock;
+
+impl Clock for NoClock {
+    ghost given = { λ _. None };
+
+    ghost faults = { λ _. 0 };
+
+    fn now(&mut self) -> Told {
+        Told::Moment(0)
+    }
+}

@@ -1,0 +1,14 @@
+use Rattle.std.proofs.Common.{ap, ◌∙◌}
+use Rattle.rel_nodes.specs.Spans.{span_of_node}
+use Rattle.rel_types.specs.Shown.{shown_plan}
+use Rattle.rel_eval.specs.Singles.{judged}
+use Rattle.rel_eval.proofs.Singles.{judges_at}
+use Rattle.rel_eval.proofs.truths.truth.Goals as goal
+
+pub returns-clause-judges : goal.returns-clause-judges
+returns-clause-judges g c = λ p k w h.
+    let at = c.span-span.ensures ∙ ap span_of_node (c.root.ensures.node ∙ ap shown_plan c.plan.ensures) in
+    judges_at _ _ _ _ _ _ _ (ap judged at) (c.one_value.ensures.goes w h) c.told.ensures.tells
+
+pub returns-clause-cause : goal.returns-clause-cause
+returns-clause-cause g c = c.told.ensures.cause _ _ c.one_value.ensures.cause

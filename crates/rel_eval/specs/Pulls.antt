@@ -1,0 +1,52 @@
+-- What is used up of a trace, by positions: the events from one place to another.
+use Rattle.std.specs.Prelude.{◌≡◌, List, [], ◌∷◌}
+use Rattle.std.specs.declared.option.Option.{Option}
+use Rattle.bf_machine.specs.Told.{Grows}
+use Rattle.bf_world.specs.declared.key.Key.{Key}
+use Rattle.rel_value.specs.Plain.{Plain}
+use Rattle.rel_value.specs.Views.{shown}
+use Rattle.rel_trace.specs.Steps.{LooksAt}
+use Rattle.rel_trace.specs.Trace.{Stop, Error, Event, Look, Turn, Give, Trace, Ends, After}
+use Rattle.rel_eval.specs.declared.cursor.Pulled.{Pulled}
+use Rattle.rel_eval.specs.declared.cursor.Pulled.TheVariants as pulled
+
+-- events, and then a trace
+abbrev pub prepend : List Event → Trace → Trace
+prepend [] t = t
+prepend (e ∷ es) t = After e (prepend es t)
+
+-- the keys of the looks among events
+abbrev pub keys : List Event → List Key
+keys [] = []
+keys (Look p k ∷ es) = k ∷ keys es
+keys (Turn p ∷ es) = keys es
+keys (Give v ∷ es) = keys es
+
+-- the values among events
+abbrev pub gives : List Event → List Plain
+gives [] = []
+gives (Look p k ∷ es) = gives es
+gives (Turn p ∷ es) = gives es
+gives (Give v ∷ es) = v ∷ gives es
+
+-- from one place of a trace to a later one, with no value between them, and these are the keys of the looks between them
+pub record Skips (t : Trace) (looks : List Key) (later : Trace) : Type 0 where
+  pub events : List Event
+  pub quiet : gives events ≡ []
+  pub whole : t ≡ prepend events later
+  pub looked : looks ≡ keys events
+
+-- What a pull did: the trace that was left, the keys of the looks that were made, and the trace that is left now. A value is the next
+-- one; an end or error is that of the trace, and stays; a failed look is the next event. Where memory ran out, what was looked up is
+-- that of some stretch before the next value.
+abbrev pub Pulls : Trace → Pulled → List Key → Trace → Type 0
+Pulls t (pulled.Value v) looks left = Skips t looks (After (Give (shown v)) left)
+Pulls t pulled.End looks left = Skips t looks (Ends Stop) × (left ≡ Ends Stop)
+Pulls t (pulled.Error kind place) looks left = Skips t looks (Ends (Error kind place)) × (left ≡ Ends (Error kind place))
+Pulls t (pulled.Failed place) looks left = Skips t looks left × LooksAt place left
+Pulls t pulled.Memory looks left = (u : Trace) × Skips t looks u
+Pulls t pulled.Closed looks left = looks ≡ []
+
+-- The keys that a machine tells grow by those of the looks that were made.
+abbrev pub Draws : Option (List Key) → Trace → Pulled → Option (List Key) → Trace → Type 0
+Draws old t result new left = (looks : List Key) × Grows old new looks × Pulls t result looks left

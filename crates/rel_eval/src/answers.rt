@@ -1,0 +1,56 @@
+ghost use Rattle.std.specs.Prelude.{◌≡◌, ◌≤◌, Some};
+ghost use Rattle.desk_base.specs.Moments.{IsMoment};
+ghost use Rattle.line_forms.specs.Numbers.{IsOffset};
+ghost use Rattle.bf_world.specs.Worlds.{WorldState};
+ghost use Rattle.rel_eval.specs.Answers.{Answers, EndHasCause, Handed};
+ghost use Rattle.rel_eval.specs.Cuts.{meaning};
+ghost use Rattle.rel_eval.specs.Questions.{plan_of};
+
+use crate::cursor::Pulled;
+use crate::question::Question;
+use crate::taker::{Ended, Take, Taker};
+use bf_machine::Machine;
+use rel_inspect::Scene;
+use std::alloc::Global;
+
+impl Question {
+    /// Hands the values of the question to the taker, one after another, until it has enough.
+    pub fn answer<M: Machine, T: Taker>(
+        &self,
+        alloc: Global,
+        machine: &mut M,
+        scene: &Scene,
+        taker: &mut T,
+    ) -> Ended
+        requires moment { IsMoment scene.now.moment }
+        requires offset { IsOffset scene.now.offset }
+        ensures answers { (w : WorldState) → M.world machine.old ≡ Some w
+            → Answers T.takes (M.looked machine.old) (meaning w scene.now (plan_of self.now)) taker.old result
+            (M.looked machine.new) taker.new }
+        ensures handed { Handed T.takes taker.old result taker.new }
+        ensures cause { EndHasCause (M.faults machine.old) (M.faults machine.new) result }
+        ensures later { M.faults machine.old ≤ M.faults machine.new }
+        ensures world { M.world machine.new ≡ M.world machine.old }
+        ensures acted { M.acted machine.new ≡ M.acted machine.old }
+        ensures started { M.started machine.new ≡ M.started machine.old }
+    {
+        let mut cursor = match self.open(alloc, scene) {
+            Ok(cursor) => cursor,
+            Err(_) => return Ended::Memory,
+        };
+        loop {
+            match cursor.pull(machine) {
+                Pulled::Value(value) => match taker.take(&value) {
+                    Take::More => {}
+                    Take::Enough => return Ended::Enough,
+                    Take::Memory => return Ended::Memory,
+                },
+                Pulled::End => return Ended::Stop,
+                Pulled::Error(kind, place) => return Ended::Error(kind, place),
+                Pulled::Failed(place) => return Ended::Failed(place),
+                Pulled::Memory => return Ended::Memory,
+                Pulled::Closed => return Ended::Memory,
+            }
+        }
+    }
+}

@@ -1,0 +1,88 @@
+ghost use Rattle.std.specs.Prelude.{◌≡◌, ◌≤◌, ℕ, true, false, List, [], Some};
+ghost use Rattle.desk_base.specs.Moments.{IsMoment};
+ghost use Rattle.line_forms.specs.Numbers.{IsOffset};
+ghost use Rattle.bf_world.specs.declared.key.Key.{Key};
+ghost use Rattle.bf_world.specs.Worlds.{WorldState};
+ghost use Rattle.rel_value.specs.Operands.{IsSound};
+ghost use Rattle.rel_value.specs.Views.{shown};
+ghost use Rattle.rel_trace.specs.Trace.{Trace, each};
+ghost use Rattle.rel_types.specs.Plans.{is_plural};
+ghost use Rattle.rel_nodes.specs.Spans.{span_of_node};
+ghost use Rattle.rel_eval.specs.Cuts.{meaning};
+ghost use Rattle.rel_eval.specs.Questions.{plan_of};
+ghost use Rattle.rel_eval.specs.Ones.{OneHasCause, OneIsSound, TellsOne};
+ghost use Rattle.rel_eval.specs.Singles.{TellsText, TextHasCause, Words, one_text_of, worded};
+
+use crate::one_value::{OneValue, one_value};
+use crate::question::Question;
+use crate::told::OneText;
+use bf_machine::Machine;
+use rel_inspect::Scene;
+use rel_lexer::Place;
+use rel_nodes::span;
+use rel_trace::RelKind;
+use rel_value::{Value, ValueFault, text};
+use std::alloc::Global;
+
+/// Asks a question for the text of its value: draws one that is singular to its end. Of a plural one it makes no look. Times are written
+/// as a clock at the scene's offset shows them.
+pub fn one_text<M: Machine>(
+    alloc: Global,
+    question: &Question,
+    machine: &mut M,
+    scene: &Scene,
+) -> OneText
+    requires moment { IsMoment scene.now.moment }
+    requires offset { IsOffset scene.now.offset }
+    ensures plural { is_plural (plan_of question.now) ≡ true
+        → (result ≡ OneText.Error RelKind.NotSingular (span_of_node (plan_of question.now))) × (machine.new ≡ machine.old) }
+    ensures words { is_plural (plan_of question.now) ≡ false → (w : WorldState) → M.world machine.old ≡ Some w
+        → Words (M.looked machine.old)
+        (one_text_of (span_of_node (plan_of question.now)) scene.now.offset (meaning w scene.now (plan_of question.now))) result
+        (M.looked machine.new) }
+    ensures cause { TextHasCause (M.faults machine.old) (M.faults machine.new) result }
+    ensures later { M.faults machine.old ≤ M.faults machine.new }
+    ensures world { M.world machine.new ≡ M.world machine.old }
+    ensures acted { M.acted machine.new ≡ M.acted machine.old }
+    ensures started { M.started machine.new ≡ M.started machine.old }
+{
+    let span = span(question.plan().root());
+    if question.plan().is_plural() {
+        return OneText::Error(RelKind::NotSingular, span);
+    }
+    told(
+        alloc,
+        one_value(alloc, question, machine, scene),
+        scene.offset,
+        span,
+    )
+}
+
+/// The text of what was drawn.
+fn told(alloc: Global, drawn: OneValue, offset: i64, span: Place) -> OneText
+    requires offset { IsOffset offset }
+    requires sound { OneIsSound drawn }
+    ensures tells { (t : Trace) (looks : List Key) → TellsOne t drawn looks → TellsText (each t (worded span offset)) result looks }
+    ensures cause { (before now : ℕ) → OneHasCause before now drawn → TextHasCause before now result }
+{
+    match drawn {
+        OneValue::Value(value) => worded(alloc, &value, offset, span),
+        OneValue::Error(kind, place) => OneText::Error(kind, place),
+        OneValue::Failed(place) => OneText::Failed(place),
+        OneValue::Memory => OneText::Memory,
+    }
+}
+
+/// The text of a value. One that is too long is an error at the question's span.
+fn worded(alloc: Global, value: &Value, offset: i64, span: Place) -> OneText
+    requires offset { IsOffset offset }
+    requires sound { IsSound (shown value.now) }
+    ensures tells { TellsText (worded span offset (shown value.now)) result [] }
+    ensures cause { (before now : ℕ) → TextHasCause before now result }
+{
+    match text(alloc, value, offset) {
+        Ok(text) => OneText::Text(text),
+        Err(ValueFault::TextTooLong) => OneText::Error(RelKind::TextTooLong, span),
+        Err(_) => OneText::Memory,
+    }
+}

@@ -1,0 +1,73 @@
+//! Questions over a described machine, worked out by hand.
+ghost use Rattle.desk_base.specs.Moments.{IsMoment};
+ghost use Rattle.line_forms.specs.Numbers.{IsOffset};
+ghost use Rattle.rel_value.specs.Operands.{IsSound};
+ghost use Rattle.rel_value.specs.Views.{shown};
+
+use super::*;
+use bf_machine::{Key, PlainMachine, read_world};
+use rel_inspect::{Pairs, Scene};
+use rel_lexer::Place;
+use rel_value::{Value, text as text_of};
+use std::alloc::Global;
+use std::test::Fail;
+
+mod asking;
+mod drawing;
+mod preparing;
+
+const WORLD: &[u8] = b"world
+name pc1
+system 12.4 Debian
+offset -480
+moment 1173053048
+folder /a
+file 100 /a/empty
+file 200 /a/one
+| x=1
+end
+";
+
+/// A machine with the folder `/a`, and in it the files `empty` and `one`. The looks with these numbers fail.
+fn machine(alloc: Global, fails: &[u32]) -> Result<PlainMachine, Fail> {
+    let world = read_world(alloc, WORLD)?;
+    Ok(PlainMachine::new(
+        alloc,
+        world,
+        Vec::from_slice(alloc, fails)?,
+        Vec::new(alloc),
+        Vec::new(alloc),
+    ))
+}
+
+fn scene(alloc: Global) -> Scene
+    ensures moment { IsMoment result.moment }
+    ensures offset { IsOffset result.offset }
+{
+    Scene {
+        moment: 1_173_053_048,
+        offset: -480,
+        parameters: Pairs::new(alloc),
+        exit: None,
+    }
+}
+
+/// Appends a look as its key.
+fn push_key(text: &mut String, key: &Key) -> Result<(), Fail> {
+    match key {
+        Key::Stat(path) => write!(text, "stat {};", path.as_str())?,
+        Key::List(path) => write!(text, "list {};", path.as_str())?,
+        Key::Read(path) => write!(text, "read {};", path.as_str())?,
+        _ => text.push_str("other;")?,
+    }
+    Ok(())
+}
+
+/// The looks that were made.
+fn looks(alloc: Global, machine: &PlainMachine) -> Result<String, Fail> {
+    let mut text = String::new(alloc);
+    for key in machine.looked() {
+        push_key(&mut text, key)?;
+    }
+    Ok(text)
+}

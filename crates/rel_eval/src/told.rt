@@ -1,0 +1,26 @@
+use rel_lexer::{Place, Text};
+use rel_trace::RelKind;
+
+/// What a question is that is asked for a truth.
+#[derive(Clone, Copy, Debug, PartialEq, Eq)]
+pub enum Truth {
+    True,
+    False,
+    /// The question's error; NotSingular where it is plural, and else Incompatible where it isn't Boolean, at its span.
+    Error(RelKind, Place),
+    /// The look at this place failed.
+    Failed(Place),
+    Memory,
+}
+
+/// What a question is that is asked for a text.
+#[derive(Debug, Drop)]
+pub enum OneText {
+    /// At most 1,048,576 bytes.
+    Text(Text),
+    /// The question's error; NotSingular where it is plural, and TextTooLong where its text is longer, at its span.
+    Error(RelKind, Place),
+    /// The look at this place failed.
+    Failed(Place),
+    Memory,
+}

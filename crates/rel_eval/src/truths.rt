@@ -1,0 +1,84 @@
+ghost use Rattle.std.specs.Prelude.{◌≡◌, ◌≤◌, ℕ, true, false, List, [], Some};
+ghost use Rattle.desk_base.specs.Moments.{IsMoment};
+ghost use Rattle.line_forms.specs.Numbers.{IsOffset};
+ghost use Rattle.bf_world.specs.declared.key.Key.{Key};
+ghost use Rattle.bf_world.specs.Worlds.{WorldState};
+ghost use Rattle.rel_types.specs.Alike.{same_kind};
+ghost use Rattle.rel_types.specs.Plans.{is_plural, kind_of};
+ghost use Rattle.rel_value.specs.Plain.{booleans};
+ghost use Rattle.rel_value.specs.Views.{shown};
+ghost use Rattle.rel_trace.specs.Trace.{Trace, each};
+ghost use Rattle.rel_nodes.specs.Spans.{span_of_node};
+ghost use Rattle.rel_eval.specs.Cuts.{meaning};
+ghost use Rattle.rel_eval.specs.Questions.{plan_of};
+ghost use Rattle.rel_eval.specs.Ones.{OneHasCause, TellsOne};
+ghost use Rattle.rel_eval.specs.Singles.{Judges, TellsTruth, TruthHasCause, judged, truth_of};
+
+use crate::one_value::{OneValue, one_value};
+use crate::question::Question;
+use crate::told::Truth;
+use bf_machine::Machine;
+use rel_inspect::Scene;
+use rel_lexer::Place;
+use rel_nodes::span;
+use rel_trace::RelKind;
+use rel_value::{Kind, Value};
+use std::alloc::Global;
+
+/// Asks a question for a truth: draws one that is singular and Boolean to its end. Of another one it makes no look.
+pub fn truth<M: Machine>(
+    alloc: Global,
+    question: &Question,
+    machine: &mut M,
+    scene: &Scene,
+) -> Truth
+    requires moment { IsMoment scene.now.moment }
+    requires offset { IsOffset scene.now.offset }
+    ensures plural { is_plural (plan_of question.now) ≡ true
+        → (result ≡ Truth.Error RelKind.NotSingular (span_of_node (plan_of question.now))) × (machine.new ≡ machine.old) }
+    ensures other { is_plural (plan_of question.now) ≡ false → same_kind (kind_of (plan_of question.now)) booleans ≡ false
+        → (result ≡ Truth.Error RelKind.Incompatible (span_of_node (plan_of question.now))) × (machine.new ≡ machine.old) }
+    ensures judges { is_plural (plan_of question.now) ≡ false → same_kind (kind_of (plan_of question.now)) booleans ≡ true
+        → (w : WorldState) → M.world machine.old ≡ Some w
+        → Judges (M.looked machine.old) (truth_of (span_of_node (plan_of question.now)) (meaning w scene.now (plan_of question.now))) result
+        (M.looked machine.new) }
+    ensures cause { TruthHasCause (M.faults machine.old) (M.faults machine.new) result }
+    ensures later { M.faults machine.old ≤ M.faults machine.new }
+    ensures world { M.world machine.new ≡ M.world machine.old }
+    ensures acted { M.acted machine.new ≡ M.acted machine.old }
+    ensures started { M.started machine.new ≡ M.started machine.old }
+{
+    let span = span(question.plan().root());
+    if question.plan().is_plural() {
+        return Truth::Error(RelKind::NotSingular, span);
+    }
+    if !question.plan().kind().is(&Kind::Boolean) {
+        return Truth::Error(RelKind::Incompatible, span);
+    }
+    told(one_value(alloc, question, machine, scene), span)
+}
+
+/// The truth of what was drawn.
+fn told(drawn: OneValue, span: Place) -> Truth
+    ensures tells { (t : Trace) (looks : List Key) → TellsOne t drawn looks → TellsTruth (each t (judged span)) result looks }
+    ensures cause { (before now : ℕ) → OneHasCause before now drawn → TruthHasCause before now result }
+{
+    match drawn {
+        OneValue::Value(value) => judged(&value, span),
+        OneValue::Error(kind, place) => Truth::Error(kind, place),
+        OneValue::Failed(place) => Truth::Failed(place),
+        OneValue::Memory => Truth::Memory,
+    }
+}
+
+/// The truth of a value. One that is none is Incompatible at the question's span.
+fn judged(value: &Value, span: Place) -> Truth
+    ensures tells { TellsTruth (judged span (shown value.now)) result [] }
+    ensures cause { (before now : ℕ) → TruthHasCause before now result }
+{
+    match value {
+        Value::Boolean(true) => Truth::True,
+        Value::Boolean(false) => Truth::False,
+        _ => Truth::Error(RelKind::Incompatible, span),
+    }
+}

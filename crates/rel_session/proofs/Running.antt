@@ -1,0 +1,126 @@
+-- Lines that are run one after another, and what the devices did of them.
+use Rattle.std.proofs.Common.{◌≡◌, ℕ, ◌+◌, ℤ, List, [], ◌∷◌, ◌++◌, None, Some, All, inl, inr, refl, sym, ap, ◌∙◌, append_assoc, append-nil, subst, arith}
+use Rattle.std.proofs.lemmas.List.Elements.{All-append, All-nil}
+use Rattle.std.specs.declared.option.Option.{Option}
+use Rattle.std.specs.Io.KnownBytes.{Appends}
+use Rattle.std.proofs.KnownBytes.{Appends-nil, Appends-trans}
+use Rattle.desk_base.specs.Moments.{AppendsMoments}
+use Rattle.bf_world.specs.Worlds.{WorldState}
+use Rattle.rel_session.specs.Devices.{Devices, RoseBy, Dates, Did, Began, DidAll, DidFront}
+use Rattle.rel_session.specs.Sessions.{Session, Run, nothing, after, RunsLine, Runs, IsFrontOfLine, IsFrontOfRun}
+use Rattle.rel_session.proofs.Lasting.{Grows-nil, Grows-trans, RoseBy-more, RoseBy-none}
+
+AppendsMoments-nil : (a : Option (List ℤ)) → AppendsMoments a a []
+AppendsMoments-nil None = tt
+AppendsMoments-nil (Some xs) = sym (append-nil xs)
+
+AppendsMoments-trans : (a b c : Option (List ℤ)) (xs ys : List ℤ) → AppendsMoments a b xs → AppendsMoments b c ys → AppendsMoments a c (xs ++ ys)
+AppendsMoments-trans None b c xs ys p q = tt
+AppendsMoments-trans (Some a) None c xs ys p q = absurd p
+AppendsMoments-trans (Some a) (Some b) None xs ys p q = absurd q
+AppendsMoments-trans (Some a) (Some b) (Some c) xs ys p q = q ∙ ap (λ l. l ++ ys) p ∙ append_assoc a xs ys
+
+pub Dates-nil : (fixed : Option ℤ) (a : Option (List ℤ)) → Dates fixed a a []
+Dates-nil None a = AppendsMoments-nil a
+Dates-nil (Some moment) a = (All-nil (λ x. x ≡ moment), refl)
+
+pub Dates-trans : (fixed : Option ℤ) (a b c : Option (List ℤ)) (xs ys : List ℤ) → Dates fixed a b xs → Dates fixed b c ys → Dates fixed a c (xs ++ ys)
+Dates-trans None a b c xs ys p q = AppendsMoments-trans a b c xs ys p q
+Dates-trans (Some moment) a b c xs ys p q = (All-append (λ x. x ≡ moment) xs ys p.0 q.0, q.1 ∙ p.1)
+
+Did-nil : (fixed : Option ℤ) (a : Devices) → Did fixed a a [] nothing
+Did-nil fixed a = record {
+  written = Appends-nil a.held;
+  looked = Grows-nil a.looked;
+  faults = RoseBy-none a.faults a.faults (omega arith);
+  dated = Dates-nil fixed a.given;
+}
+
+Did-trans : (fixed : Option ℤ) (a b c : Devices) (xs ys : List ℤ) (r s : Run) → Did fixed a b xs r → Did fixed b c ys s → Did fixed a c (xs ++ ys) (after r s)
+Did-trans fixed a b c xs ys r s p q = record {
+  written = Appends-trans a.held b.held c.held r.bytes s.bytes p.written q.written;
+  looked = Grows-trans a.looked b.looked c.looked r.looks s.looks p.looked q.looked;
+  faults = RoseBy-more r.faults s.faults a.faults b.faults c.faults p.faults q.faults;
+  dated = Dates-trans fixed a.given b.given c.given xs ys p.dated q.dated;
+}
+
+Began-behind : (fixed : Option ℤ) (a b c : Devices) (xs ys : List ℤ) (r : Run) (faults : ℕ) (front : List ℕ) → Did fixed a b xs r → Began fixed b c ys faults front → Began fixed a c (xs ++ ys) (r.faults + faults) (r.bytes ++ front)
+Began-behind fixed a b c xs ys r faults front p q = record {
+  written = Appends-trans a.held b.held c.held r.bytes front p.written q.written;
+  failed = RoseBy-more r.faults faults a.faults b.faults c.faults p.faults q.failed;
+  dated = Dates-trans fixed a.given b.given c.given xs ys p.dated q.dated;
+}
+
+after_nothing : (r : Run) → after r nothing ≡ r
+after_nothing r =
+    let With : List ℕ → List _ → ℕ → Run = λ x y n. record { bytes = x; looks = y; faults = n } in
+    ap (λ x. With x (r.looks ++ []) (r.faults + 0)) (append-nil r.bytes) ∙ ap (λ y. With r.bytes y (r.faults + 0)) (append-nil r.looks) ∙ ap (λ n. With r.bytes r.looks n) (omega arith)
+
+nothing_after : (r : Run) → r ≡ after nothing r
+nothing_after r = ap (λ n. record r { faults = n }) (omega arith)
+
+after_after : (a b c : Run) → after (after a b) c ≡ after a (after b c)
+after_after a b c =
+    let With : List ℕ → List _ → ℕ → Run = λ x y n. record { bytes = x; looks = y; faults = n } in
+    ap (λ x. With x ((a.looks ++ b.looks) ++ c.looks) ((a.faults + b.faults) + c.faults)) (append_assoc a.bytes b.bytes c.bytes)
+    ∙ ap (λ y. With (a.bytes ++ (b.bytes ++ c.bytes)) y ((a.faults + b.faults) + c.faults)) (append_assoc a.looks b.looks c.looks)
+    ∙ ap (λ n. With (a.bytes ++ (b.bytes ++ c.bytes)) (a.looks ++ (b.looks ++ c.looks)) n) (omega arith)
+
+-- Some first lines are run; what is run of the rest, or a front of it, goes on from there.
+pub record RanSoFar (w : WorldState) (offset : ℤ) (fixed : Option ℤ) (first : Session) (lines : List (List ℕ)) (old : Devices) (s : Session) (rest : List (List ℕ)) (now : Devices) : Type 0 where
+  pub moments : List ℤ
+  pub run : Run
+  pub did : Did fixed old now moments run
+  pub whole : (later : List ℤ) (r : Run) → Runs w offset s rest later r → Runs w offset first lines (moments ++ later) (after run r)
+  pub front : (later : List ℤ) (faults : ℕ) (bytes : List ℕ) → IsFrontOfRun w offset s rest later faults bytes → IsFrontOfRun w offset first lines (moments ++ later) (run.faults + faults) (run.bytes ++ bytes)
+
+pub RanSoFar-start : (w : WorldState) (offset : ℤ) (fixed : Option ℤ) (s : Session) (lines : List (List ℕ)) (a : Devices) → RanSoFar w offset fixed s lines a s lines a
+RanSoFar-start w offset fixed s lines a = record {
+  moments = [];
+  run = nothing;
+  did = Did-nil fixed a;
+  whole = λ later r runs. let Ran : Run → Type 0 = λ z. Runs w offset s lines later z in subst Ran (nothing_after r) runs;
+  front = λ later faults bytes is. let Failed : ℕ → Type 0 = λ n. IsFrontOfRun w offset s lines later n bytes in let same : faults ≡ 0 + faults = omega arith in subst Failed same is;
+}
+
+-- the next line is run
+pub RanSoFar-step : (w : WorldState) (offset : ℤ) (fixed : Option ℤ) (first : Session) (lines : List (List ℕ)) (old : Devices) (s s' : Session) (rest more : List (List ℕ)) (line : List ℕ) (now new : Devices) (moments : List ℤ) (run : Run)
+    → RanSoFar w offset fixed first lines old s rest now → rest ≡ line ∷ more → RunsLine w offset s line moments run s' → Did fixed now new moments run
+    → RanSoFar w offset fixed first lines old s' more new
+RanSoFar-step w offset fixed first lines old s s' rest more line now new moments run before is runs did =
+    let Before : List (List ℕ) → Type 0 = λ l. RanSoFar w offset fixed first lines old s l now in
+    let b : RanSoFar w offset fixed first lines old s (line ∷ more) now = subst Before is before in
+    let Moments : Run → List ℤ → Type 0 = λ r l. Runs w offset first lines l r in
+    let Faults : List ℤ → List ℕ → ℕ → Type 0 = λ l x n. IsFrontOfRun w offset first lines l n x in
+    record {
+      moments = b.moments ++ moments;
+      run = after b.run run;
+      did = Did-trans fixed old now new b.moments moments b.run run b.did did;
+      whole = λ later r goes.
+          subst (λ z. Moments z ((b.moments ++ moments) ++ later)) (sym (after_after b.run run r))
+          (subst (Moments (after b.run (after run r))) (sym (append_assoc b.moments moments later)) (b.whole (moments ++ later) (after run r) (moments, later, refl, (run, s', runs, (r, goes, refl)))));
+      front = λ later faults bytes goes.
+          subst (Faults ((b.moments ++ moments) ++ later) ((b.run.bytes ++ run.bytes) ++ bytes)) (omega arith)
+          (subst (λ x. Faults ((b.moments ++ moments) ++ later) x (b.run.faults + (run.faults + faults))) (sym (append_assoc b.run.bytes run.bytes bytes))
+          (subst (λ l. Faults l (b.run.bytes ++ (run.bytes ++ bytes)) (b.run.faults + (run.faults + faults))) (sym (append_assoc b.moments moments later))
+          (b.front (moments ++ later) (run.faults + faults) (run.bytes ++ bytes) (inr (moments, later, refl, (run, s', runs, (bytes, faults, goes, refl, refl)))))));
+    }
+
+-- a front of the next line is run
+pub RanSoFar-stop : (w : WorldState) (offset : ℤ) (fixed : Option ℤ) (first : Session) (lines : List (List ℕ)) (old : Devices) (s : Session) (rest more : List (List ℕ)) (line : List ℕ) (now new : Devices) (moments : List ℤ) (faults : ℕ) (bytes : List ℕ)
+    → RanSoFar w offset fixed first lines old s rest now → rest ≡ line ∷ more → IsFrontOfLine w offset s line moments faults bytes → Began fixed now new moments faults bytes
+    → DidFront w offset first lines fixed old new
+RanSoFar-stop w offset fixed first lines old s rest more line now new moments faults bytes before is front began =
+    let Before : List (List ℕ) → Type 0 = λ l. RanSoFar w offset fixed first lines old s l now in
+    let b : RanSoFar w offset fixed first lines old s (line ∷ more) now = subst Before is before in
+    (b.moments ++ moments, b.run.faults + faults, b.run.bytes ++ bytes, b.front moments faults bytes (inl front), Began-behind fixed old now new b.moments moments b.run faults bytes b.did began)
+
+-- all lines are run
+pub RanSoFar-end : (w : WorldState) (offset : ℤ) (fixed : Option ℤ) (first : Session) (lines : List (List ℕ)) (old : Devices) (s : Session) (rest : List (List ℕ)) (now : Devices) → RanSoFar w offset fixed first lines old s rest now → rest ≡ []
+    → DidAll w offset first lines fixed old now
+RanSoFar-end w offset fixed first lines old s rest now before is =
+    let Before : List (List ℕ) → Type 0 = λ l. RanSoFar w offset fixed first lines old s l now in
+    let b : RanSoFar w offset fixed first lines old s [] now = subst Before is before in
+    let Moments : List ℤ → Type 0 = λ l. Did fixed old now l (after b.run nothing) in
+    let Done : Run → Type 0 = λ r. Did fixed old now b.moments r in
+    (b.moments ++ [], after b.run nothing, b.whole [] nothing (refl, refl), subst Moments (sym (append-nil b.moments)) (subst Done (sym (after_nothing b.run)) b.did))

@@ -1,0 +1,6 @@
+use Rattle.rel_session.specs.Waiting.{IsRead}
+use Rattle.rel_session.proofs.opening.read_question.Goals as goal
+
+pub returns : goal.returns
+unfolding IsRead
+returns c = c.prepare.ensures
