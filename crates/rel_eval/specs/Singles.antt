@@ -17,7 +17,7 @@ use Rattle.rel_eval.specs.declared.told.OneText.{OneText}
 use Rattle.rel_eval.specs.declared.told.OneText.TheVariants as one_text
 use Rattle.rel_eval.specs.Pulls.{Skips}
 
--- a truth as it is; anything else is Incompatible at the question's span, which no Boolean question gives
+-- a truth as it is; anything else is Incompatible at the question's span
 abbrev pub judged : Place → Plain → Trace
 judged span (boolean b) = one (boolean b)
 judged span _ = Ends (Error Incompatible span)
@@ -26,8 +26,7 @@ judged span _ = Ends (Error Incompatible span)
 abbrev pub worded : Place → ℤ → Plain → Trace
 worded span offset v = if nat_le (length (text_of offset v)) 1048576 then one (words (text_of offset v)) else Ends (Error TextTooLong span)
 
--- The one truth of a question's trace. No value is Nonexistent and a second one NonUnique, at the question's span, which no singular
--- question gives.
+-- the one truth of a question's trace: no value is Nonexistent and a second one NonUnique, at the question's span
 abbrev pub truth_of : Place → Trace → Trace
 truth_of span t = each (single span t) (judged span)
 
