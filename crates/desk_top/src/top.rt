@@ -48,10 +48,11 @@ pub fn desk<S: Source, W: Sink, M: Machine, C: Clock>(
         × TookInput Command.QnaWorld (S.left source.old) (S.left source.new) (λ input.
         IsSomeNumber (λ number. IsBadInput input number × Appends (W.held sink.old) (W.held sink.new) (bad_line number))) }
 
-    // The source failed while it was read, and nothing was written.
+    // The source failed while it was read, and nothing was written or asked.
     ensures source { result ≡ Status.Source → AsksSome words.now ReadsSource
         × Rose (S.faults source.old) (S.faults source.new)
-        × TookPart (S.left source.old) (S.left source.new) × (sink.new ≡ sink.old) }
+        × TookPart (S.left source.old) (S.left source.new)
+        × (sink.new ≡ sink.old) × (machine.new ≡ machine.old) × (clock.new ≡ clock.old) }
 
     // The sink or the clock failed, and a front of what is said was written.
     ensures sink { result ≡ Status.Sink → Rose (W.faults sink.old) (W.faults sink.new) }
@@ -65,16 +66,18 @@ pub fn desk<S: Source, W: Sink, M: Machine, C: Clock>(
         (devices_of (W.held sink.old) (M.looked machine.old) (M.faults machine.old) (C.given clock.old))
         (devices_of (W.held sink.new) (M.looked machine.new) (M.faults machine.new) (C.given clock.new))) }
 
-    // Memory ran out before anything was written, or after a front of what is said was.
+    // Memory ran out before anything was written or asked, or after a front of what is said was.
     ensures memory { result ≡ Status.Memory → AsksSome words.now (λ command.
-        (TookPart (S.left source.old) (S.left source.new) × (sink.new ≡ sink.old))
+        (TookPart (S.left source.old) (S.left source.new)
+        × (sink.new ≡ sink.old) × (machine.new ≡ machine.old) × (clock.new ≡ clock.old))
         ⊎ TookInput command (S.left source.old) (S.left source.new) (λ input. Began command (M.world machine.old) input
         (devices_of (W.held sink.old) (M.looked machine.old) (M.faults machine.old) (C.given clock.old))
         (devices_of (W.held sink.new) (M.looked machine.new) (M.faults machine.new) (C.given clock.new)))) }
 
-    // The source gave more than it may, and nothing was written.
+    // The source gave more than it may, and nothing was written or asked.
     ensures too_long { result ≡ Status.InputTooLong → AsksSome words.now ReadsSource
-        × TookTooMuch (S.left source.old) (S.left source.new) × (sink.new ≡ sink.old) }
+        × TookTooMuch (S.left source.old) (S.left source.new)
+        × (sink.new ≡ sink.old) × (machine.new ≡ machine.old) × (clock.new ≡ clock.old) }
     ensures too_long_comes { AsksSome words.now ReadsSource
         → IsSomeAnd (S.left source.old) (λ input. input_limit < length input)
         → ¬ Rose (S.faults source.old) (S.faults source.new)

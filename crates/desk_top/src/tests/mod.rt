@@ -25,7 +25,7 @@ struct Setting<'a> {
     clock_fails: &'a [u32],
 }
 
-/// `desk qna` with nothing on the machine, and twenty moments.
+/// `desk qna` over the first world, with forty moments.
 const QNA: Setting<'static> = Setting {
     words: &["qna"],
     input: b"",

@@ -45,6 +45,19 @@ fn page_0_gives_all_the_rest(rt: HostRuntime) -> Result<(), Fail> {
     Ok(())
 }
 
+#[test]
+fn a_question_that_pauses_again_is_the_latest(rt: HostRuntime) -> Result<(), Fail> {
+    let outcome = written(
+        rt.alloc(),
+        WORLD_B,
+        b":page 1\n1; 2; 3\n4; 5; 6\n:more\n:more\n",
+    )?;
+    let wanted: &[u8] =
+        b"Q: :page 1\nQ: 1; 2; 3\nA: 1\nM: more\nQ: 4; 5; 6\nA: 4\nM: more\nQ: :more\nA: 5\nM: more\nQ: :more\nA: 6\nM: more\n";
+    assert_eq!(rt; outcome.written.as_slice(), wanted);
+    Ok(())
+}
+
 /// Lines, the same one so many times.
 fn times(alloc: Global, line: &[u8], count: usize, out: &mut Bytes) -> Result<(), Fail> {
     let _ = alloc;

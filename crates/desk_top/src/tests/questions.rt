@@ -2,7 +2,7 @@ use super::*;
 
 #[test]
 fn values_errors_and_places(rt: HostRuntime) -> Result<(), Fail> {
-    let rows: [Row<'_>; 24] = [
+    let rows: [Row<'_>; 26] = [
         ("1 + 2", "A: 3\n"),
         (
             "9223372036854775807 + 1",
@@ -62,6 +62,14 @@ fn values_errors_and_places(rt: HostRuntime) -> Result<(), Fail> {
         (
             "sum of (9223372036854775807; 1; 1/0)",
             "E: A number is out of range. (0..3)\n",
+        ),
+        (
+            "(1; 2) whose (it = integer in (1, 2))",
+            "E: Singular expression refers to non-unique object. (19..36)\n",
+        ),
+        (
+            "concatenation (first \",\" of \"a,b\") of (\"x\"; \"y\")",
+            "A: x,y\n",
         ),
     ];
     assert_eq!(rt; first_wrong(rt.alloc(), WORLD_A, &rows)?, None);

@@ -192,3 +192,19 @@ fn statuses_have_their_numbers(rt: HostRuntime) {
         assert_eq!(rt; status.number(), number);
     }
 }
+
+#[test]
+fn a_refused_question_uses_a_moment(rt: HostRuntime) -> Result<(), Fail> {
+    let setting = Setting {
+        input: b"1 +\n2\n",
+        moments: &[0],
+        ..QNA
+    };
+    let outcome = run(rt.alloc(), setting)?;
+    assert_eq!(rt; outcome.status, Status::Clock);
+    assert_eq!(rt;
+        outcome.written.as_slice(),
+        b"Q: 1 +\nE: This expression could not be parsed. (3..3)\n".as_slice()
+    );
+    Ok(())
+}
