@@ -100,11 +100,11 @@ world_front words command old new world taken input d d' asked asks is all began
     let P : Command → Type 0 = λ k. TookInput k old new (λ i. Began k world i d d') in
     subst P (one_command words QnaWorld command asked asks) (took old new world taken input d d' is all began)
 
-pub world_memory : (Same Kept : Type 0) (old new : Option (List ℕ)) (world : Option WorldState) (taken input : List ℕ) (d d' : Devices)
-    → input ≡ taken → TakesAll old new taken → (Same → Kept) → Same ⊎ Began QnaWorld world input d d'
-    → (TookPart old new × Kept) ⊎ TookInput QnaWorld old new (λ i. Began QnaWorld world i d d')
-world_memory Same Kept old new world taken input d d' is all keeps (inl same) = inl ((taken, all.takes, all.short), keeps same)
-world_memory Same Kept old new world taken input d d' is all keeps (inr began) = inr (took old new world taken input d d' is all began)
+pub world_memory : (Unwritten Unasked Undated : Type 0) (old new : Option (List ℕ)) (world : Option WorldState) (taken input : List ℕ) (d d' : Devices)
+    → input ≡ taken → TakesAll old new taken → Unasked → Undated → Unwritten ⊎ Began QnaWorld world input d d'
+    → (TookPart old new × Unwritten × Unasked × Undated) ⊎ TookInput QnaWorld old new (λ i. Began QnaWorld world i d d')
+world_memory Unwritten Unasked Undated old new world taken input d d' is all unasked undated (inl unwritten) = inl ((taken, all.takes, all.short), unwritten, unasked, undated)
+world_memory Unwritten Unasked Undated old new world taken input d d' is all unasked undated (inr began) = inr (took old new world taken input d d' is all began)
 
 pub world_complete : (words : List (List ℕ)) (command : Command) (old new : Option (List ℕ)) (taken input : List ℕ) (status : Status) (Written : ℕ → Type 0)
     → Asks words QnaWorld → Asks words command → input ≡ taken → TakesAll old new taken → IsWorldStatus status

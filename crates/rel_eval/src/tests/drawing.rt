@@ -1,3 +1,6 @@
+ghost use Rattle.rel_value.specs.Operands.{IsSound};
+ghost use Rattle.rel_value.specs.Views.{shown};
+
 use super::*;
 
 /// Appends a value as its text in brackets.

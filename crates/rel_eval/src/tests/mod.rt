@@ -1,8 +1,6 @@
 //! Questions over a described machine, worked out by hand.
 ghost use Rattle.desk_base.specs.Moments.{IsMoment};
 ghost use Rattle.line_forms.specs.Numbers.{IsOffset};
-ghost use Rattle.rel_value.specs.Operands.{IsSound};
-ghost use Rattle.rel_value.specs.Views.{shown};
 
 use super::*;
 use bf_machine::{Key, PlainMachine, read_world};

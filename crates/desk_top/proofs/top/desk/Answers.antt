@@ -1,4 +1,4 @@
-use Rattle.std.proofs.Common.{None, refl}
+use Rattle.std.proofs.Common.{◌≡◌, None, refl}
 use Rattle.rel_session.specs.Devices.{devices_of}
 use Rattle.desk_top.specs.declared.command.Command.TheVariants.{QnaWorld}
 use Rattle.desk_top.specs.Asked.{holding}
@@ -21,11 +21,14 @@ returns-in-Ok-read_input-2-clause-sink_front g c is command asks =
 pub returns-in-Ok-read_input-2-clause-memory : goal.returns-in-Ok-read_input-2-clause-memory
 returns-in-Ok-read_input-2-clause-memory g c is =
     let asked = rw c.in-QnaWorld.is at c.in-Some.ensures in
-    let read = c.in-Ok-read_input-2.ensures.reads in (
+    let read = c.in-Ok-read_input-2.ensures.reads in
+    let Unwritten : Type 0 = c.ask_world.new.sink ≡ c.args.sink.now in
+    let Unasked : Type 0 = c.args.machine.now ≡ c.args.machine.now in
+    let Undated : Type 0 = c.args.clock.now ≡ c.args.clock.now in (
       QnaWorld,
       asked,
-      world_memory _ _ _ _ None _ _ (holding (g.W.Sink.held c.args.sink.now)) (holding (g.W.Sink.held c.ask_world.new.sink)) c.as_slice-in-Ok-read_input-2.ensures
-          (record { takes = read.0; ends = read.1; short = read.2 }) (λ same. (same, refl, refl)) (c.ask_world.ensures.memory is),
+      world_memory Unwritten Unasked Undated _ _ None _ _ (holding (g.W.Sink.held c.args.sink.now)) (holding (g.W.Sink.held c.ask_world.new.sink)) c.as_slice-in-Ok-read_input-2.ensures
+          (record { takes = read.0; ends = read.1; short = read.2 }) refl refl (c.ask_world.ensures.memory is),
     )
 
 pub returns-in-Ok-read_input-2-clause-complete : goal.returns-in-Ok-read_input-2-clause-complete

@@ -1,4 +1,4 @@
-use Rattle.std.proofs.Common.{◌≡◌, ◌≢◌, ℕ, zero, ◌+◌, ◌-◌, ◌≤◌, Bool, true, false, Decides, List, [], ◌++◌, length, take, drop, inl, inr, refl, sym, ◌∙◌, arith, add-one, eq-eqb, append-nil, length-drop}
+use Rattle.std.proofs.Common.{◌≡◌, ◌≢◌, ℕ, ◌+◌, ◌-◌, List, length, take, drop, inl, inr, refl, sym, ◌∙◌, arith, eq-eqb, append-nil, length-drop}
 use Rattle.std.specs.Prelude.{codes}
 use Rattle.std.proofs.lemmas.Grind.{common_steps}
 use Rattle.std.proofs.lemmas.Bool.{eqb-true, false≢true}
