@@ -7,7 +7,7 @@ use Rattle.desk_base.specs.Flow.{AppendsSome, IsFront}
 use Rattle.rel_lexer.specs.declared.place.Place.{Place}
 use Rattle.bf_world.specs.declared.key.Key.{Key}
 use Rattle.bf_machine.specs.Told.{Told, Grows}
-use Rattle.core.specs.declared.alloc.AllocError.{AllocError}
+use Rattle.std.specs.declared.alloc.AllocError.{AllocError}
 use Rattle.rel_value.specs.Plain.{Plain}
 use Rattle.rel_trace.specs.Trace.{Give, Trace, After}
 use Rattle.rel_eval.specs.Pulls.{Skips}

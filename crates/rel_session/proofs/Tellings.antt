@@ -1,6 +1,6 @@
 -- What can be told of a trace, and what is told over a stretch of it.
 use Rattle.std.proofs.Common.{◌≡◌, ◌⊎◌, ℕ, zero, suc, ◌<◌, ◌≤◌, ℤ, List, [], ◌∷◌, ◌++◌, length, Err, None, Some, inl, inr, refl, sym, ap, ◌∙◌, append_assoc, append-nil, subst, arith}
-use Rattle.core.proofs.str.Laws.{order}
+use Rattle.std.proofs.lemmas.Bool.{cases_order}
 use Rattle.std.specs.declared.option.Option.{Option}
 use Rattle.rel_lexer.specs.declared.place.Place.{Place}
 use Rattle.bf_world.specs.declared.key.Key.{Key}
@@ -31,6 +31,12 @@ goes_on_somehow offset span None t rest = rest None
 goes_on_somehow offset span (Some zero) t rest = (paused t, refl, refl)
 goes_on_somehow offset span (Some (suc n)) t rest = rest (Some n)
 
+-- a text is too long, or it isn't
+by_order : (n : ℕ) → (1048576 ≡ n) ⊎ ((1048576 < n) ⊎ (n < 1048576)) → (1048576 < n) ⊎ (n ≤ 1048576)
+by_order n (inl same) = inr (omega (arith, same))
+by_order n (inr (inl long)) = inl long
+by_order n (inr (inr short)) = inr (omega (arith, short))
+
 value_somehow : (offset : ℤ) (span : Place) (room : Option ℕ) (v : Plain) (t : Trace) → (1048576 < length (text_of offset v)) ⊎ (length (text_of offset v) ≤ 1048576)
     → ((left : Option ℕ) → CanBeTold offset span left t) → CanBeTold offset span room (After (Give v) t)
 unfolding Tells
@@ -45,7 +51,7 @@ can_be_told offset span room (Ends Stop) = (ended [], refl, refl)
 can_be_told offset span room (Ends (Error kind place)) = (ended (said_error kind place), refl, refl)
 can_be_told offset span room (After (Look place key) t) = let u = can_be_told offset span room t in (onto [] (key ∷ []) u.0, inr (u.0, u.1, refl), u.2)
 can_be_told offset span room (After (Turn place) t) = can_be_told offset span room t
-can_be_told offset span room (After (Give v) t) = value_somehow offset span room v t (order _ _) (λ left. can_be_told offset span left t)
+can_be_told offset span room (After (Give v) t) = value_somehow offset span room v t (by_order (length (text_of offset v)) (cases_order 1048576 (length (text_of offset v)))) (λ left. can_be_told offset span left t)
 
 -- over a stretch without a value
 pub told_over : (offset : ℤ) (span : Place) (room : Option ℕ) (events : List Event) (t : Trace) (u : Telling) → gives events ≡ [] → Tells offset span room t u → Tells offset span room (prepend events t) (onto [] (keys events) u)
