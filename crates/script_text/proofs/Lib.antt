@@ -9,3 +9,7 @@ pub mod Shown
 pub mod KindLemmas
 pub mod Steps
 pub mod Whole
+pub mod OneItem
+pub mod OneForm
+pub mod KindWords
+pub mod OneLine

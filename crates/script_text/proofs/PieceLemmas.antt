@@ -30,7 +30,7 @@ rest_fails text refusal.Memory l h = tt
 in_quotes_one : (text a b : List ℕ) → IsInQuotes text a → IsInQuotes text b → a ≡ b
 in_quotes_one text a b x y = append_cancel_right a b (34 ∷ []) (let f = x in let g = y in cc)
 
-path_one : (text a b : List ℕ) → IsPathText text a → IsPathText text b → a ≡ b
+pub path_one : (text a b : List ℕ) → IsPathText text a → IsPathText text b → a ≡ b
 path_one text a b x y = elim x [
   | inl p ↦ elim y [ inl q ↦ in_quotes_one text a b p q | inr q ↦ absurd (q.0 a p) ]
   | inr p ↦ elim y [ inl q ↦ absurd (p.0 b q) | inr q ↦ p.1 ∙ sym q.1 ]

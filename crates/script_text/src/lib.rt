@@ -7,6 +7,7 @@ mod expression;
 mod fields;
 mod forms;
 mod kind;
+mod law;
 mod line;
 mod piece;
 mod prefetch;
@@ -18,6 +19,7 @@ mod template;
 mod tree;
 
 pub use error::ScriptError;
+pub use law::one_verdict;
 pub use line::Line;
 pub use prefetch::{Prefetch, PrefetchList};
 pub use read::read_script;
