@@ -13,3 +13,6 @@ pub mod OneItem
 pub mod OneForm
 pub mod KindWords
 pub mod OneLine
+pub mod NextParts
+pub mod OnePart
+pub mod OneVerdict

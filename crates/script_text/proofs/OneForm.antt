@@ -1,5 +1,5 @@
 -- Each form reads a text in one way at most.
-use Rattle.std.proofs.Common.{◌≡◌, ℕ, List, refl, sym, subst, ◌∙◌}
+use Rattle.std.proofs.Common.{◌≡◌, ℕ, List, sym, subst, ◌∙◌}
 use Rattle.std.specs.Prelude.{codes}
 use Rattle.script_text.specs.declared.kind.Kind.{Kind}
 use Rattle.script_text.specs.declared.kind.Kind.TheVariants as kind
@@ -7,7 +7,7 @@ use Rattle.script_text.specs.declared.command.Command.{Command}
 use Rattle.script_text.specs.declared.command.Command.TheVariants as command
 use Rattle.script_text.specs.declared.command.Source.{Source}
 use Rattle.script_text.specs.declared.template.Template.{Template}
-use Rattle.script_text.specs.Items.{Item, Taken, took, brace_open, absent, IsTaken, field, word, name_field, size_field, digest_field, gap, equals, loose_equals, quoted_name, braced, quoted, rest_of_line, path_of_line}
+use Rattle.script_text.specs.Items.{Item, Taken, took, brace_open, absent, field, word, name_field, size_field, digest_field, gap, equals, loose_equals, quoted_name, braced, quoted, rest_of_line, path_of_line}
 use Rattle.script_text.specs.Forms.{Outcome, Form, Goes, then, done, ended, pair_form, parameter_form, date_form, setting_form, setting_delete_form, prefetch_form, Words, one, two, words, form, after_words, kind_form}
 use Rattle.script_text.proofs.OneItem.{IsSingle, field_single, word_single, name_single, size_single, digest_single, gap_single, equals_single, loose_equals_single, quoted_name_single, braced_single, quoted_single, rest_single, path_single, end_single}
 

@@ -1,15 +1,14 @@
 -- Each item is taken from a text in one way at most.
-use Rattle.std.proofs.Common.{◌≡◌, ℕ, ◌-◌, ◌<◌, ◌^◌, List, [], ◌∷◌, ◌++◌, refl, sym, ap, subst, ◌∙◌, arith, map, codes, Ok}
+use Rattle.std.proofs.Common.{◌≡◌, ℕ, ◌-◌, ◌^◌, List, ◌∷◌, ◌++◌, refl, sym, ap, subst, ◌∙◌, arith, codes, Ok}
 use Rattle.std.proofs.lemmas.Fmt.{decimal_injective}
 use Rattle.std.proofs.lemmas.List.{append_cancel_left}
 use Rattle.hex.specs.Hex.{decode_sized}
 use Rattle.line_forms.specs.Numbers.{IsNumber}
 use Rattle.script_text.specs.declared.piece.Ending.TheVariants as ending
-use Rattle.script_text.specs.declared.template.Template.{Template}
 use Rattle.script_text.specs.Bytes.{is_blank, is_in_field}
 use Rattle.script_text.specs.Runs.{is_in_name}
-use Rattle.script_text.specs.Templates.{IsTemplate, HasOpenBrace, EndsExpression, HasNoEnd}
-use Rattle.script_text.specs.Items.{Item, Taken, took, brace_open, absent, IsTaken, IsField, field_of, field, word, name_field, size_field, digest_field, gap, equals, loose_equals, quoted_name, braced, quoted, rest_of_line, path_of_line, line_end}
+use Rattle.script_text.specs.Templates.{IsTemplate, EndsExpression}
+use Rattle.script_text.specs.Items.{Item, Taken, took, brace_open, absent, IsTaken, field_of, field, word, name_field, size_field, digest_field, gap, equals, loose_equals, quoted_name, braced, quoted, rest_of_line, path_of_line, line_end}
 use Rattle.script_text.proofs.Cutting.{run_one}
 use Rattle.script_text.proofs.OneTemplate.{opened_one, expression_one, ends_or_open, template_one, template_or_open}
 use Rattle.script_text.proofs.PieceLemmas.{path_one}

@@ -6,7 +6,6 @@ use Rattle.std.proofs.lemmas.Bool.{false≢true}
 use Rattle.std.proofs.lemmas.List.{reverse-append, reverse-reverse}
 use Rattle.script_text.specs.declared.kind.Kind.{Kind}
 use Rattle.script_text.specs.declared.kind.Kind.TheVariants as kind
-use Rattle.script_text.specs.declared.command.Command.{Command}
 use Rattle.script_text.specs.declared.command.Command.TheVariants as command
 use Rattle.script_text.specs.declared.template.Template.{Template}
 use Rattle.script_text.specs.Bytes.{Each, is_blank, is_in_field, StopsAt, SplitsRun}
@@ -16,7 +15,7 @@ use Rattle.script_text.specs.Lines.{IsTrimmed, IsNothing, CommandReads, LineRead
 use Rattle.script_text.specs.Readings.{first_word}
 use Rattle.script_text.proofs.Cutting.{run_one}
 use Rattle.script_text.proofs.KindWords.{key, first_key, is_second, kind_from, known}
-use Rattle.script_text.proofs.OneForm.{ReadsOne, kind_one}
+use Rattle.script_text.proofs.OneForm.{kind_one}
 
 -- what is no command begins with the first item
 word_goes : (lower : List ℕ) (next : Form) (text : List ℕ) (o : Outcome) → then (word lower) (λ _. next) text o → o ≢ no_command → (rest : List ℕ) × (word lower).Takes text tt rest × next rest o
