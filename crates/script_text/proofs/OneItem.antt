@@ -10,7 +10,7 @@ use Rattle.script_text.specs.Runs.{is_in_name}
 use Rattle.script_text.specs.Templates.{IsTemplate, EndsExpression}
 use Rattle.script_text.specs.Items.{Item, Taken, took, brace_open, absent, IsTaken, field_of, field, word, name_field, size_field, digest_field, gap, equals, loose_equals, quoted_name, braced, quoted, rest_of_line, path_of_line, line_end}
 use Rattle.script_text.proofs.Cutting.{run_one}
-use Rattle.script_text.proofs.OneTemplate.{opened_one, expression_one, ends_or_open, template_one, template_or_open}
+use Rattle.script_text.proofs.OneTemplate.{cons_same, opened_one, expression_one, ends_or_open, template_one, template_or_open}
 use Rattle.script_text.proofs.PieceLemmas.{path_one}
 
 -- how a text is read as this item is one thing
@@ -37,9 +37,6 @@ single item one or text brace_open absent x y = absurd (y.1 x)
 single item one or text absent (took w s) x y = absurd (x.0 w s y)
 single item one or text absent brace_open x y = absurd (x.1 y)
 single item one or text absent absent x y = refl
-
-tail_same : (x y : ℕ) (xs ys : List ℕ) → x ∷ xs ≡ y ∷ ys → xs ≡ ys
-tail_same x y xs ys e = let f = e in cc
 
 field_of_single : {V : Type 0} (Spells : List ℕ → V → Type 0) → ((text : List ℕ) (v w : V) → Spells text v → Spells text w → v ≡ w) → IsSingle (field_of Spells)
 field_of_single Spells one = single (field_of Spells)
@@ -73,13 +70,13 @@ pub gap_single : IsSingle gap
 gap_single = single gap (λ text v w r s x y. (refl, (run_one is_blank text x.0 y.0 r s x.2 y.2).1)) (λ text v r x b. b)
 
 pub equals_single : IsSingle equals
-equals_single = single equals (λ text v w r s x y. (refl, tail_same 61 61 r s (sym x ∙ y))) (λ text v r x b. b)
+equals_single = single equals (λ text v w r s x y. (refl, (cons_same 61 61 r s (sym x ∙ y)).1)) (λ text v r x b. b)
 
 pub loose_equals_single : IsSingle loose_equals
 loose_equals_single = single loose_equals
     (λ text v w r s x y.
     let sign = run_one is_blank text x.0 y.0 (61 ∷ x.1) (61 ∷ y.1) x.3 y.3 in
-    let left = tail_same 61 61 x.1 y.1 sign.1 in
+    let left = (cons_same 61 61 x.1 y.1 sign.1).1 in
     (refl, (run_one is_blank y.1 x.2 y.2 r s (rw left at x.4) y.4).1))
     (λ text v r x b. b)
 
@@ -88,8 +85,8 @@ quoted_name_single = single quoted_name
     (λ text v w r s x y.
     let same = run_one is_in_name (v ++ 34 ∷ r) v w (34 ∷ r) (34 ∷ s)
     (record { splits = refl; passing = x.0; stops = refl })
-    (record { splits = tail_same 34 34 (v ++ 34 ∷ r) (w ++ 34 ∷ s) (sym x.1 ∙ y.1); passing = y.0; stops = refl }) in
-    (same.0, tail_same 34 34 r s same.1))
+    (record { splits = (cons_same 34 34 (v ++ 34 ∷ r) (w ++ 34 ∷ s) (sym x.1 ∙ y.1)).1; passing = y.0; stops = refl }) in
+    (same.0, (cons_same 34 34 r s same.1).1))
     (λ text v r x b. b)
 
 pub braced_single : IsSingle braced
@@ -104,11 +101,11 @@ braced_single = single braced
 pub quoted_single : IsSingle quoted
 quoted_single = single quoted
     (λ text v w r s x y.
-    let inner = tail_same 34 34 x.0 y.0 (sym x.1 ∙ y.1) in
+    let inner = (cons_same 34 34 x.0 y.0 (sym x.1 ∙ y.1)).1 in
     let same = template_one ending.Quote y.0 v w (34 ∷ r) (34 ∷ s) (subst (λ i. IsTemplate ending.Quote i v (34 ∷ r)) inner x.2) y.2 in
-    (same.0, tail_same 34 34 r s same.1))
+    (same.0, (cons_same 34 34 r s same.1).1))
     (λ text v r x b.
-    let inner = tail_same 34 34 x.0 b.0 (sym x.1 ∙ b.1) in
+    let inner = (cons_same 34 34 x.0 b.0 (sym x.1 ∙ b.1)).1 in
     template_or_open ending.Quote b.0 v (34 ∷ r) (subst (λ i. IsTemplate ending.Quote i v (34 ∷ r)) inner x.2) b.2)
 
 pub rest_single : IsSingle rest_of_line

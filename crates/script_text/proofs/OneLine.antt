@@ -154,15 +154,15 @@ ends_same a b c d e bc bd sa sb =
     sym (reverse-reverse a) ∙ ap reverse same.1 ∙ reverse-reverse b
 
 -- blanks hold nothing else
-only_blanks : (line before behind front back rest : List ℕ) (b : ℕ) → line ≡ before ++ behind → Each is_blank before → Each is_blank behind → line ≡ front ++ b ∷ rest → is_blank b ≡ false → ⊥
-only_blanks line before behind front back rest b e f g h n =
+only_blanks : (line before behind front rest : List ℕ) (b : ℕ) → line ≡ before ++ behind → Each is_blank before → Each is_blank behind → line ≡ front ++ b ∷ rest → is_blank b ≡ false → ⊥
+only_blanks line before behind front rest b e f g h n =
     let all = subst (Each is_blank) (sym e ∙ h) (each_append is_blank before behind f g) in
     false≢true (sym n ∙ (each_behind is_blank front (b ∷ rest) all).0)
 
 trimmed_one : (line a b : List ℕ) → IsTrimmed line a → IsTrimmed line b → a ≡ b
 trimmed_one line [] [] x y = refl
-trimmed_one line [] (b ∷ bs) x y = absurd (only_blanks line x.before x.behind y.before [] (bs ++ y.behind) b x.splits x.blank_before x.blank_behind y.splits y.begins)
-trimmed_one line (a ∷ as') [] x y = absurd (only_blanks line y.before y.behind x.before [] (as' ++ x.behind) a y.splits y.blank_before y.blank_behind x.splits x.begins)
+trimmed_one line [] (b ∷ bs) x y = absurd (only_blanks line x.before x.behind y.before (bs ++ y.behind) b x.splits x.blank_before x.blank_behind y.splits y.begins)
+trimmed_one line (a ∷ as') [] x y = absurd (only_blanks line y.before y.behind x.before (as' ++ x.behind) a y.splits y.blank_before y.blank_behind x.splits x.begins)
 trimmed_one line (a ∷ as') (b ∷ bs) x y =
     let same = run_one is_blank line x.before y.before ((a ∷ as') ++ x.behind) ((b ∷ bs) ++ y.behind)
     (record { splits = x.splits; passing = x.blank_before; stops = x.begins })

@@ -1,11 +1,12 @@
 -- Lines are read so far in one way.
-use Rattle.std.proofs.Common.{◌≡◌, ℕ, ◌+◌, ◌-◌, ◌≤◌, List, [], ◌∷◌, ◌++◌, length, refl, sym, ap, subst, inl, inr, arith}
+use Rattle.std.proofs.Common.{◌≡◌, ℕ, ◌+◌, ◌≤◌, List, [], ◌∷◌, ◌++◌, length, refl, sym, ap, subst, inl, inr, arith}
 use Rattle.script_text.specs.declared.command.Command.{Command}
 use Rattle.script_text.specs.declared.command.Command.TheVariants as command
 use Rattle.script_text.specs.Blocks.{Block, no_lines, skipped, fetched, acted, created, chosen, chosen_else, Tests, first_test, next_test, Created, begun, filled, Mark, is_command, is_content, is_closing, closing_word, Marked, at, block_marks, tests_marks, created_marks, IsShallow, AreShallow, AreShallowBefore}
 use Rattle.script_text.specs.Parts.{Around, top, in_arm, in_else, Inner, within, creating, Part, whole, around_marks, inner_marks, depth, room, IsShallowAround, IsShallowInner}
 use Rattle.script_text.specs.Scripts.{IsMark, AreLines, IsPartOf}
 use Rattle.script_text.specs.Held.{inside, in_file}
+use Rattle.script_text.proofs.Steps.{less_room}
 use Rattle.script_text.proofs.NextParts.{Places, Turns, Reaches, reaches_one, reaches_more}
 
 lines_cut : (n : ℕ) (ms others : List Marked) (lines : List (List ℕ)) → AreLines n (ms ++ others) lines → (front back : List (List ℕ)) × (lines ≡ front ++ back) × AreLines n ms front × AreLines (n + length front) others back
@@ -41,9 +42,6 @@ makes_command : (q : Part) (ms : List Marked) (a : Around) (b : Block) (p : Part
 makes_command q ms a b p n c x y =
     makes_more q (inside a b) p ms _ x (makes_one (inside a b) p n (is_command c) (λ line h. (c, h, y)))
 
-less_room : (a : ℕ) → 1 ≤ 64 - a → (64 - a) - 1 ≡ 64 - (a + 1)
-less_room a h = omega arith
-
 mutual
   block_made : (b : Block) (a : Around) → IsShallow (room a) b → Makes (inside a no_lines) (block_marks b) (inside a b)
   block_made no_lines a h = makes_nothing (inside a no_lines)
@@ -55,21 +53,21 @@ mutual
   block_made (chosen ts b n) a h =
       makes_command _ _ (in_arm a ts) b _ n command.EndIf
       (makes_more _ _ _ (tests_marks ts) (block_marks b) (tests_made ts a h.1 h.0)
-      (block_made b (in_arm a ts) (subst (λ m. IsShallow m b) (less_room (depth a) h.1) h.2))) refl
+      (block_made b (in_arm a ts) (subst (λ m. IsShallow m b) (less_room (depth a) (omega (arith, h.1))) h.2))) refl
   block_made (chosen_else ts b m o n) a h =
       makes_command _ _ (in_else a ts b m) o _ n command.EndIf
       (makes_more _ _ _ (tests_marks ts ++ (block_marks b ++ at m (is_command command.Else) ∷ [])) (block_marks o)
       (makes_more _ _ _ (tests_marks ts) (block_marks b ++ at m (is_command command.Else) ∷ []) (tests_made ts a h.1 h.0)
       (makes_command _ (block_marks b) (in_arm a ts) b _ m command.Else
-      (block_made b (in_arm a ts) (subst (λ m. IsShallow m b) (less_room (depth a) h.1) h.2)) refl))
-      (block_made o (in_else a ts b m) (subst (λ m. IsShallow m o) (less_room (depth a) h.1) h.3))) refl
+      (block_made b (in_arm a ts) (subst (λ m. IsShallow m b) (less_room (depth a) (omega (arith, h.1))) h.2)) refl))
+      (block_made o (in_else a ts b m) (subst (λ m. IsShallow m o) (less_room (depth a) (omega (arith, h.1))) h.3))) refl
 
   tests_made : (ts : Tests) (a : Around) → 1 ≤ room a → AreShallow (room a) ts → Makes (inside a no_lines) (tests_marks ts) (inside (in_arm a ts) no_lines)
   tests_made (first_test b n t) a r h = makes_command _ (block_marks b) a b _ n (command.If t) (block_made b a h) (omega arith, refl)
   tests_made (next_test ts b n t) a r h =
       makes_command _ _ (in_arm a ts) b _ n (command.ElseIf t)
       (makes_more _ _ _ (tests_marks ts) (block_marks b) (tests_made ts a r h.0)
-      (block_made b (in_arm a ts) (subst (λ m. IsShallow m b) (less_room (depth a) r) h.2))) refl
+      (block_made b (in_arm a ts) (subst (λ m. IsShallow m b) (less_room (depth a) (omega (arith, r))) h.2))) refl
 
   created_made : (c : Created) (a : Around) → AreShallowBefore (room a) c → Makes (inside a no_lines) (created_marks c) (in_file a c)
   created_made (begun b n w) a h = makes_command _ (block_marks b) a b _ n (command.Create w) (block_made b a h) refl
@@ -86,7 +84,7 @@ around_made (in_else a ts b n) h =
     makes_more _ _ _ (around_marks a) _ (around_made a h.0)
     (makes_more _ _ _ (tests_marks ts) (block_marks b ++ at n (is_command command.Else) ∷ []) (tests_made ts a r h.2)
     (makes_command _ (block_marks b) (in_arm a ts) b _ n command.Else
-    (block_made b (in_arm a ts) (subst (λ m. IsShallow m b) (less_room (depth a) r) h.3)) refl))
+    (block_made b (in_arm a ts) (subst (λ m. IsShallow m b) (less_room (depth a) (omega (arith, r))) h.3)) refl))
 
 inner_made : (i : Inner) (a : Around) → IsShallowInner (room a) i → Makes (inside a no_lines) (inner_marks i) (record { around = a; inner = i })
 inner_made (within b) a h = block_made b a h

@@ -12,7 +12,7 @@ use Rattle.script_text.specs.Templates.{turned, in_literal, NoneEnds, HasNoEnd, 
 use Rattle.script_text.specs.Readings.{EndsEarly}
 use Rattle.script_text.proofs.TemplateLemmas.{brace_plain, doubled_long}
 
-cons_same : (x y : ℕ) (xs ys : List ℕ) → x ∷ xs ≡ y ∷ ys → (x ≡ y) × (xs ≡ ys)
+pub cons_same : {A : Type 0} (x y : A) (xs ys : List A) → x ∷ xs ≡ y ∷ ys → (x ≡ y) × (xs ≡ ys)
 cons_same x y xs ys e = ((let f = e in cc), (let f = e in cc))
 
 -- a byte, doubled where it is a brace, before a text

@@ -5,6 +5,7 @@ use Rattle.script_text.specs.declared.error.ScriptError.{ScriptError}
 use Rattle.script_text.specs.Blocks.{Block, no_lines}
 use Rattle.script_text.specs.Parts.{Part, whole, within, not_closed}
 use Rattle.script_text.specs.Scripts.{IsPartOf, IsRefused, IsOpen, IsWrongAt, PlainScript, script_of, IsVerdict}
+use Rattle.script_text.proofs.OneTemplate.{cons_same}
 use Rattle.script_text.proofs.NextParts.{Turns, Reaches, reaches_one, reaches_cut, wrong_or_read, wrong_one}
 use Rattle.script_text.proofs.OnePart.{part_made, part_one}
 
@@ -28,15 +29,12 @@ refused_or_read lines p e x r =
 abbrev Apart : List (List ℕ) → List ℕ → List (List ℕ) → Type 0
 Apart front line other = (between : List (List ℕ)) × (other ≡ front ++ line ∷ between)
 
-head_same : (x y : List ℕ) (xs ys : List (List ℕ)) → x ∷ xs ≡ y ∷ ys → (x ≡ y) × (xs ≡ ys)
-head_same x y xs ys e = ((let f = e in cc), (let f = e in cc))
-
 two_places : (a b : List (List ℕ)) (x y : List ℕ) (c d : List (List ℕ)) → a ++ x ∷ c ≡ b ++ y ∷ d → ((a ≡ b) × (x ≡ y)) ⊎ (Apart a x b ⊎ Apart b y a)
-two_places [] [] x y c d e = inl (refl, (head_same x y c d e).0)
-two_places [] (w ∷ b) x y c d e = let h = (head_same x w c (b ++ y ∷ d) e).0 in inr (inl (b, (let f = h in let q : w ∷ b ≡ x ∷ b = cc in q)))
-two_places (v ∷ a) [] x y c d e = let h = (head_same v y (a ++ x ∷ c) d e).0 in inr (inr (a, (let f = h in let q : v ∷ a ≡ y ∷ a = cc in q)))
+two_places [] [] x y c d e = inl (refl, (cons_same x y c d e).0)
+two_places [] (w ∷ b) x y c d e = let h = (cons_same x w c (b ++ y ∷ d) e).0 in inr (inl (b, (let f = h in let q : w ∷ b ≡ x ∷ b = cc in q)))
+two_places (v ∷ a) [] x y c d e = let h = (cons_same v y (a ++ x ∷ c) d e).0 in inr (inr (a, (let f = h in let q : v ∷ a ≡ y ∷ a = cc in q)))
 two_places (v ∷ a) (w ∷ b) x y c d e =
-    let h = head_same v w (a ++ x ∷ c) (b ++ y ∷ d) e in
+    let h = cons_same v w (a ++ x ∷ c) (b ++ y ∷ d) e in
     more v w a b x y h.0 (two_places a b x y c d h.1)
   where
     more : (v w : List ℕ) (a b : List (List ℕ)) (x y : List ℕ) → v ≡ w → ((a ≡ b) × (x ≡ y)) ⊎ (Apart a x b ⊎ Apart b y a) → ((v ∷ a ≡ w ∷ b) × (x ≡ y)) ⊎ (Apart (v ∷ a) x (w ∷ b) ⊎ Apart (w ∷ b) y (v ∷ a))

@@ -118,7 +118,7 @@ outside_where_else (in_arm a ts) items rest o h e n =
     absurd (let p = popped items rest o (around_open a) (arm_open ts) e h in some_none _ (sym (ap (λ (x : PlainOpen). x.arm) p.1) ∙ n))
 outside_where_else (in_else a ts b n) items rest o h e m = tt
 
-less_room : (a : ℕ) → a < 64 → (64 - a) - 1 ≡ 64 - (a + 1)
+pub less_room : (a : ℕ) → a < 64 → (64 - a) - 1 ≡ 64 - (a + 1)
 less_room a h = omega arith
 
 -- an `endif`
