@@ -10,6 +10,7 @@ pub mod HeldParts
 pub mod Folding
 pub mod Means
 pub mod Going
+pub mod Levels
 pub mod Parts
 pub mod Walked
 pub mod Measures

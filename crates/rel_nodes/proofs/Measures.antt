@@ -109,42 +109,41 @@ falls_below (step.Given v) a b b' h k = omega arith
 falls_below _ a b b' h k = tt
 
 -- the second part may begin anew
-pub begins_falls : (state state' : Two) (first d first' second k second' : Node) (x r : Step) (begins : Bool) →
+pub begins_falls : (state state' : Two) (first first' second second' : Node) (x r : Step) (begins : Bool) →
     ((q q' r2 c : ℕ) → Falls x q q' → Falls r (two_quiet state q r2 c) (two_quiet state' q' (begun_quiet begins r2 c) c)) →
-    d ≡ first → Falls x (quiet d) (quiet first') → begins ≡ true → k ≡ second → shape second' ≡ shape k →
+    Falls x (quiet first) (quiet first') → begins ≡ true → shape second' ≡ shape second →
     Falls r (two_quiet state (quiet first) (quiet second) (cap (shape second))) (two_quiet state' (quiet first') (quiet second') (cap (shape second')))
-begins_falls state state' first d first' second k second' x r begins after q h e j z =
-    let y : shape second' ≡ shape second = z ∙ ap shape j in
+begins_falls state state' first first' second second' x r begins after h e y =
     subst (λ c. Falls r (two_quiet state (quiet first) (quiet second) (cap (shape second))) (two_quiet state' (quiet first') (quiet second') (cap c))) (sym y)
     (falls_below r (two_quiet state (quiet first) (quiet second) (cap (shape second))) (two_quiet state' (quiet first') (cap (shape second)) (cap (shape second))) (two_quiet state' (quiet first') (quiet second') (cap (shape second)))
     (subst (λ (b : Bool). Falls r (two_quiet state (quiet first) (quiet second) (cap (shape second))) (two_quiet state' (quiet first') (begun_quiet b (quiet second) (cap (shape second))) (cap (shape second)))) e
-    (after (quiet first) (quiet first') (quiet second) (cap (shape second)) (subst (λ (n : Node). Falls x (quiet n) (quiet first')) q h)))
+    (after (quiet first) (quiet first') (quiet second) (cap (shape second)) h))
     (two_mono state' (quiet first') (quiet second') (cap (shape second)) (cap (shape second)) (subst (λ c. quiet second' ≤ cap c) y (quiet_le_cap second'))))
 
 -- or it does not
-pub first_falls : (state state' : Two) (first d first' second : Node) (x r : Step) (begins : Bool) →
+pub first_falls : (state state' : Two) (first first' second : Node) (x r : Step) (begins : Bool) →
     ((q q' r2 c : ℕ) → Falls x q q' → Falls r (two_quiet state q r2 c) (two_quiet state' q' (begun_quiet begins r2 c) c)) →
-    d ≡ first → Falls x (quiet d) (quiet first') → begins ≡ false →
+    Falls x (quiet first) (quiet first') → begins ≡ false →
     Falls r (two_quiet state (quiet first) (quiet second) (cap (shape second))) (two_quiet state' (quiet first') (quiet second) (cap (shape second)))
-first_falls state state' first d first' second x r begins after q h e =
+first_falls state state' first first' second x r begins after h e =
     subst (λ (b : Bool). Falls r (two_quiet state (quiet first) (quiet second) (cap (shape second))) (two_quiet state' (quiet first') (begun_quiet b (quiet second) (cap (shape second))) (cap (shape second)))) e
-    (after (quiet first) (quiet first') (quiet second) (cap (shape second)) (subst (λ (n : Node). Falls x (quiet n) (quiet first')) q h))
+    (after (quiet first) (quiet first') (quiet second) (cap (shape second)) h)
 
 -- the second part goes on
-pub second_falls : (state state' : Two) (first second d second' : Node) (x r : Step) →
+pub second_falls : (state state' : Two) (first second second' : Node) (x r : Step) →
     ((q r2 r3 c : ℕ) → Falls x r2 r3 → Falls r (two_quiet state q r2 c) (two_quiet state' q r3 c)) →
-    d ≡ second → shape second' ≡ shape d → Falls x (quiet d) (quiet second') →
+    shape second' ≡ shape second → Falls x (quiet second) (quiet second') →
     Falls r (two_quiet state (quiet first) (quiet second) (cap (shape second))) (two_quiet state' (quiet first) (quiet second') (cap (shape second')))
-second_falls state state' first second d second' x r after q z h =
-    subst (λ c. Falls r (two_quiet state (quiet first) (quiet second) (cap (shape second))) (two_quiet state' (quiet first) (quiet second') (cap c))) (sym (z ∙ ap shape q))
-    (after (quiet first) (quiet second) (quiet second') (cap (shape second)) (subst (λ (n : Node). Falls x (quiet n) (quiet second')) q h))
+second_falls state state' first second second' x r after z h =
+    subst (λ c. Falls r (two_quiet state (quiet first) (quiet second) (cap (shape second))) (two_quiet state' (quiet first) (quiet second') (cap c))) (sym z)
+    (after (quiet first) (quiet second) (quiet second') (cap (shape second)) h)
 
 -- a test that is decided begins its branches anew
-pub decided_falls : (state state' : Choice) (test d test' chosen chosen' other other' : Node) (x r : Step) (begins : Bool) →
+pub decided_falls : (state state' : Choice) (test test' chosen chosen' other other' : Node) (x r : Step) (begins : Bool) →
     ((q q' r2 w2 c e : ℕ) → Falls x q q' → Falls r (choice_quiet state q r2 w2 c e) (choice_quiet state' q' (begun_quiet begins r2 c) (begun_quiet begins w2 e) c e)) →
-    d ≡ test → Falls x (quiet d) (quiet test') → begins ≡ true → shape chosen' ≡ shape chosen → shape other' ≡ shape other →
+    Falls x (quiet test) (quiet test') → begins ≡ true → shape chosen' ≡ shape chosen → shape other' ≡ shape other →
     Falls r (choice_quiet state (quiet test) (quiet chosen) (quiet other) (cap (shape chosen)) (cap (shape other))) (choice_quiet state' (quiet test') (quiet chosen') (quiet other') (cap (shape chosen')) (cap (shape other')))
-decided_falls state state' test d test' chosen chosen' other other' x r begins after q h e y n =
+decided_falls state state' test test' chosen chosen' other other' x r begins after h e y n =
     let old = choice_quiet state (quiet test) (quiet chosen) (quiet other) (cap (shape chosen)) (cap (shape other)) in
     let c = cap (shape chosen) in
     let f = cap (shape other) in
@@ -152,45 +151,37 @@ decided_falls state state' test d test' chosen chosen' other other' x r begins a
     (subst (λ k. Falls r old (choice_quiet state' (quiet test') (quiet chosen') (quiet other') c (cap k))) (sym n)
     (falls_below r old (choice_quiet state' (quiet test') c f c f) (choice_quiet state' (quiet test') (quiet chosen') (quiet other') c f)
     (subst (λ (b : Bool). Falls r old (choice_quiet state' (quiet test') (begun_quiet b (quiet chosen) c) (begun_quiet b (quiet other) f) c f)) e
-    (after (quiet test) (quiet test') (quiet chosen) (quiet other) c f (subst (λ (m : Node). Falls x (quiet m) (quiet test')) q h)))
+    (after (quiet test) (quiet test') (quiet chosen) (quiet other) c f h))
     (choice_mono state' (quiet test') (quiet chosen') c (quiet other') f c f (subst (λ k. quiet chosen' ≤ cap k) y (quiet_le_cap chosen')) (subst (λ k. quiet other' ≤ cap k) n (quiet_le_cap other')))))
 
 -- a test that goes on
-pub test_falls : (state state' : Choice) (test d test' chosen other : Node) (x r : Step) (begins : Bool) →
+pub test_falls : (state state' : Choice) (test test' chosen other : Node) (x r : Step) (begins : Bool) →
     ((q q' r2 w2 c e : ℕ) → Falls x q q' → Falls r (choice_quiet state q r2 w2 c e) (choice_quiet state' q' (begun_quiet begins r2 c) (begun_quiet begins w2 e) c e)) →
-    d ≡ test → Falls x (quiet d) (quiet test') → begins ≡ false →
+    Falls x (quiet test) (quiet test') → begins ≡ false →
     Falls r (choice_quiet state (quiet test) (quiet chosen) (quiet other) (cap (shape chosen)) (cap (shape other))) (choice_quiet state' (quiet test') (quiet chosen) (quiet other) (cap (shape chosen)) (cap (shape other)))
-test_falls state state' test d test' chosen other x r begins after q h e =
+test_falls state state' test test' chosen other x r begins after h e =
     subst (λ (b : Bool). Falls r (choice_quiet state (quiet test) (quiet chosen) (quiet other) (cap (shape chosen)) (cap (shape other))) (choice_quiet state' (quiet test') (begun_quiet b (quiet chosen) (cap (shape chosen))) (begun_quiet b (quiet other) (cap (shape other))) (cap (shape chosen)) (cap (shape other)))) e
-    (after (quiet test) (quiet test') (quiet chosen) (quiet other) (cap (shape chosen)) (cap (shape other)) (subst (λ (m : Node). Falls x (quiet m) (quiet test')) q h))
-
--- the one part goes on
-pub part_falls : (state state' : One) (part d part' : Node) (x r : Step) →
-    ((q q' : ℕ) → Falls x q q' → Falls r (one_quiet state q) (one_quiet state' q')) →
-    d ≡ part → Falls x (quiet d) (quiet part') →
-    Falls r (one_quiet state (quiet part)) (one_quiet state' (quiet part'))
-part_falls state state' part d part' x r after q h =
-    after (quiet part) (quiet part') (subst (λ (n : Node). Falls x (quiet n) (quiet part')) q h)
+    (after (quiet test) (quiet test') (quiet chosen) (quiet other) (cap (shape chosen)) (cap (shape other)) h)
 
 -- a branch that goes on
-pub yes_falls : (state state' : Choice) (test chosen d chosen' other : Node) (x r : Step) →
+pub yes_falls : (state state' : Choice) (test chosen chosen' other : Node) (x r : Step) →
     ((q r2 w2 r3 w3 c e : ℕ) → Falls x (branch_quiet state r2 w2) (branch_quiet state r3 w3) → Falls r (choice_quiet state q r2 w2 c e) (choice_quiet state' q r3 w3 c e)) →
-    state ≡ choice.Yes → d ≡ chosen → shape chosen' ≡ shape d → Falls x (quiet d) (quiet chosen') →
+    state ≡ choice.Yes → shape chosen' ≡ shape chosen → Falls x (quiet chosen) (quiet chosen') →
     Falls r (choice_quiet state (quiet test) (quiet chosen) (quiet other) (cap (shape chosen)) (cap (shape other))) (choice_quiet state' (quiet test) (quiet chosen') (quiet other) (cap (shape chosen')) (cap (shape other)))
-yes_falls state state' test chosen d chosen' other x r after i q z h =
+yes_falls state state' test chosen chosen' other x r after i z h =
     let old = choice_quiet state (quiet test) (quiet chosen) (quiet other) (cap (shape chosen)) (cap (shape other)) in
-    subst (λ k. Falls r old (choice_quiet state' (quiet test) (quiet chosen') (quiet other) (cap k) (cap (shape other)))) (sym (z ∙ ap shape q))
+    subst (λ k. Falls r old (choice_quiet state' (quiet test) (quiet chosen') (quiet other) (cap k) (cap (shape other)))) (sym z)
     (after (quiet test) (quiet chosen) (quiet other) (quiet chosen') (quiet other) (cap (shape chosen)) (cap (shape other))
     (subst (λ (y : Choice). Falls x (branch_quiet y (quiet chosen) (quiet other)) (branch_quiet y (quiet chosen') (quiet other))) (sym i)
-    (subst (λ (n : Node). Falls x (quiet n) (quiet chosen')) q h)))
+    h))
 
-pub no_falls : (state state' : Choice) (test chosen other d other' : Node) (x r : Step) →
+pub no_falls : (state state' : Choice) (test chosen other other' : Node) (x r : Step) →
     ((q r2 w2 r3 w3 c e : ℕ) → Falls x (branch_quiet state r2 w2) (branch_quiet state r3 w3) → Falls r (choice_quiet state q r2 w2 c e) (choice_quiet state' q r3 w3 c e)) →
-    state ≡ choice.No → d ≡ other → shape other' ≡ shape d → Falls x (quiet d) (quiet other') →
+    state ≡ choice.No → shape other' ≡ shape other → Falls x (quiet other) (quiet other') →
     Falls r (choice_quiet state (quiet test) (quiet chosen) (quiet other) (cap (shape chosen)) (cap (shape other))) (choice_quiet state' (quiet test) (quiet chosen) (quiet other') (cap (shape chosen)) (cap (shape other')))
-no_falls state state' test chosen other d other' x r after i q z h =
+no_falls state state' test chosen other other' x r after i z h =
     let old = choice_quiet state (quiet test) (quiet chosen) (quiet other) (cap (shape chosen)) (cap (shape other)) in
-    subst (λ k. Falls r old (choice_quiet state' (quiet test) (quiet chosen) (quiet other') (cap (shape chosen)) (cap k))) (sym (z ∙ ap shape q))
+    subst (λ k. Falls r old (choice_quiet state' (quiet test) (quiet chosen) (quiet other') (cap (shape chosen)) (cap k))) (sym z)
     (after (quiet test) (quiet chosen) (quiet other) (quiet chosen) (quiet other') (cap (shape chosen)) (cap (shape other))
     (subst (λ (y : Choice). Falls x (branch_quiet y (quiet chosen) (quiet other)) (branch_quiet y (quiet chosen) (quiet other'))) (sym i)
-    (subst (λ (n : Node). Falls x (quiet n) (quiet other')) q h)))
+    h))

@@ -26,67 +26,67 @@ use Rattle.rel_nodes.specs.Nodes.{shape, rest}
 use Rattle.rel_nodes.specs.Steps.{Went}
 use Rattle.rel_nodes.proofs.Going.{went_on, went_same}
 
-pub second_went : (w : WorldState) (s : Scene) (state state' : Two) (first second d second' : Node) (a a2 : Around) (l l' : Option (List Key)) (x r : Step) →
+pub second_went : (w : WorldState) (s : Scene) (state state' : Two) (first second second' : Node) (a a2 : Around) (l l' : Option (List Key)) (x r : Step) →
     ((l l' : List Key) (t : Trace) (b b' f : Around → Trace) (a : Around) → Goes l (b (second_around state a)) x l' (b' (second_around state a)) → Goes l (two_left state t b f a) r l' (two_left state' t b' f a)) →
-    a2 ≡ second_around state a → d ≡ second → shape second' ≡ shape d → Went l (rest w s d a2) x l' (rest w s second' a2) →
+    a2 ≡ second_around state a → shape second' ≡ shape second → Went l (rest w s second a2) x l' (rest w s second' a2) →
     Went l (two_left state (rest w s first a) (rest w s second) (core w s (shape second)) a) r l' (two_left state' (rest w s first a) (rest w s second') (core w s (shape second')) a)
-second_went w s state state' first second d second' a a2 l l' x r after e q z h =
-    subst (λ (c : Core). Went l (two_left state (rest w s first a) (rest w s second) (core w s (shape second)) a) r l' (two_left state' (rest w s first a) (rest w s second') (core w s c) a)) (sym (z ∙ ap shape q))
+second_went w s state state' first second second' a a2 l l' x r after e z h =
+    subst (λ (c : Core). Went l (two_left state (rest w s first a) (rest w s second) (core w s (shape second)) a) r l' (two_left state' (rest w s first a) (rest w s second') (core w s c) a)) (sym z)
     (went_on l l' (rest w s second (second_around state a)) (rest w s second' (second_around state a))
     (two_left state (rest w s first a) (rest w s second) (core w s (shape second)) a) (two_left state' (rest w s first a) (rest w s second') (core w s (shape second)) a) x r
     (λ m m'. after m m' (rest w s first a) (rest w s second) (rest w s second') (core w s (shape second)) a)
-    (subst (λ (y : Around). Went l (rest w s second y) x l' (rest w s second' y)) e (subst (λ (n : Node). Went l (rest w s n a2) x l' (rest w s second' a2)) q h)))
+    (subst (λ (y : Around). Went l (rest w s second y) x l' (rest w s second' y)) e h))
 
-pub first_went : (w : WorldState) (s : Scene) (state state' : Two) (first d first' second : Node) (a : Around) (l l' : Option (List Key)) (x r : Step) (begins : Bool) →
+pub first_went : (w : WorldState) (s : Scene) (state state' : Two) (first first' second : Node) (a : Around) (l l' : Option (List Key)) (x r : Step) (begins : Bool) →
     ((l l' : List Key) (t t' : Trace) (b f : Around → Trace) (a : Around) → Goes l t x l' t' → Goes l (two_left state t b f a) r l' (two_left state' t' (begun begins b f) f a)) →
-    d ≡ first → Went l (rest w s d a) x l' (rest w s first' a) → begins ≡ false →
+    Went l (rest w s first a) x l' (rest w s first' a) → begins ≡ false →
     Went l (two_left state (rest w s first a) (rest w s second) (core w s (shape second)) a) r l' (two_left state' (rest w s first' a) (rest w s second) (core w s (shape second)) a)
-first_went w s state state' first d first' second a l l' x r begins after q h e =
+first_went w s state state' first first' second a l l' x r begins after h e =
     subst (λ (y : Bool). Went l (two_left state (rest w s first a) (rest w s second) (core w s (shape second)) a) r l' (two_left state' (rest w s first' a) (begun y (rest w s second) (core w s (shape second))) (core w s (shape second)) a)) e
     (went_on l l' (rest w s first a) (rest w s first' a)
     (two_left state (rest w s first a) (rest w s second) (core w s (shape second)) a) (two_left state' (rest w s first' a) (begun begins (rest w s second) (core w s (shape second))) (core w s (shape second)) a) x r
     (λ m m'. after m m' (rest w s first a) (rest w s first' a) (rest w s second) (core w s (shape second)) a)
-    (subst (λ (n : Node). Went l (rest w s n a) x l' (rest w s first' a)) q h))
+    h)
 
-pub begins_went : (w : WorldState) (s : Scene) (state state' : Two) (first d first' second k second' : Node) (a : Around) (l l' : Option (List Key)) (x r : Step) (begins : Bool) →
+pub begins_went : (w : WorldState) (s : Scene) (state state' : Two) (first first' second second' : Node) (a : Around) (l l' : Option (List Key)) (x r : Step) (begins : Bool) →
     ((l l' : List Key) (t t' : Trace) (b f : Around → Trace) (a : Around) → Goes l t x l' t' → Goes l (two_left state t b f a) r l' (two_left state' t' (begun begins b f) f a)) →
-    d ≡ first → Went l (rest w s d a) x l' (rest w s first' a) → begins ≡ true → k ≡ second → shape second' ≡ shape k → ((e : Around) → rest w s second' e ≡ core w s (shape k) e) →
+    Went l (rest w s first a) x l' (rest w s first' a) → begins ≡ true → shape second' ≡ shape second → ((e : Around) → rest w s second' e ≡ core w s (shape second) e) →
     Went l (two_left state (rest w s first a) (rest w s second) (core w s (shape second)) a) r l' (two_left state' (rest w s first' a) (rest w s second') (core w s (shape second')) a)
-begins_went w s state state' first d first' second k second' a l l' x r begins after q h e j z fresh =
-    let same : rest w s second' ≡ core w s (shape second) = (λ i y. fresh y i) ∙ ap (λ n. core w s (shape n)) j in
-    subst (λ (c : Core). Went l (two_left state (rest w s first a) (rest w s second) (core w s (shape second)) a) r l' (two_left state' (rest w s first' a) (rest w s second') (core w s c) a)) (sym (z ∙ ap shape j))
+begins_went w s state state' first first' second second' a l l' x r begins after h e z whole =
+    let same : rest w s second' ≡ core w s (shape second) = λ i y. whole y i in
+    subst (λ (c : Core). Went l (two_left state (rest w s first a) (rest w s second) (core w s (shape second)) a) r l' (two_left state' (rest w s first' a) (rest w s second') (core w s c) a)) (sym z)
     (subst (λ (b : Around → Trace). Went l (two_left state (rest w s first a) (rest w s second) (core w s (shape second)) a) r l' (two_left state' (rest w s first' a) b (core w s (shape second)) a)) (sym same)
     (subst (λ (y : Bool). Went l (two_left state (rest w s first a) (rest w s second) (core w s (shape second)) a) r l' (two_left state' (rest w s first' a) (begun y (rest w s second) (core w s (shape second))) (core w s (shape second)) a)) e
     (went_on l l' (rest w s first a) (rest w s first' a)
     (two_left state (rest w s first a) (rest w s second) (core w s (shape second)) a) (two_left state' (rest w s first' a) (begun begins (rest w s second) (core w s (shape second))) (core w s (shape second)) a) x r
     (λ m m'. after m m' (rest w s first a) (rest w s first' a) (rest w s second) (core w s (shape second)) a)
-    (subst (λ (n : Node). Went l (rest w s n a) x l' (rest w s first' a)) q h))))
+    h)))
 
 -- the test of an `if` goes on
-pub test_went : (w : WorldState) (s : Scene) (state state' : Choice) (test d test' chosen other : Node) (a : Around) (l l' : Option (List Key)) (x r : Step) (begins : Bool) →
+pub test_went : (w : WorldState) (s : Scene) (state state' : Choice) (test test' chosen other : Node) (a : Around) (l l' : Option (List Key)) (x r : Step) (begins : Bool) →
     ((l l' : List Key) (t t' : Trace) (b c f g : Around → Trace) (a : Around) → Goes l t x l' t' → Goes l (choice_left state t b c f g a) r l' (choice_left state' t' (begun begins b f) (begun begins c g) f g a)) →
-    d ≡ test → Went l (rest w s d a) x l' (rest w s test' a) → begins ≡ false →
+    Went l (rest w s test a) x l' (rest w s test' a) → begins ≡ false →
     Went l (choice_left state (rest w s test a) (rest w s chosen) (rest w s other) (core w s (shape chosen)) (core w s (shape other)) a) r
     l' (choice_left state' (rest w s test' a) (rest w s chosen) (rest w s other) (core w s (shape chosen)) (core w s (shape other)) a)
-test_went w s state state' test d test' chosen other a l l' x r begins after q h e =
+test_went w s state state' test test' chosen other a l l' x r begins after h e =
     let old = choice_left state (rest w s test a) (rest w s chosen) (rest w s other) (core w s (shape chosen)) (core w s (shape other)) a in
     subst (λ (y : Bool). Went l old r l' (choice_left state' (rest w s test' a) (begun y (rest w s chosen) (core w s (shape chosen))) (begun y (rest w s other) (core w s (shape other))) (core w s (shape chosen)) (core w s (shape other)) a)) e
     (went_on l l' (rest w s test a) (rest w s test' a) old (choice_left state' (rest w s test' a) (begun begins (rest w s chosen) (core w s (shape chosen))) (begun begins (rest w s other) (core w s (shape other))) (core w s (shape chosen)) (core w s (shape other)) a) x r
     (λ m m'. after m m' (rest w s test a) (rest w s test' a) (rest w s chosen) (rest w s other) (core w s (shape chosen)) (core w s (shape other)) a)
-    (subst (λ (n : Node). Went l (rest w s n a) x l' (rest w s test' a)) q h))
+    h)
 
 -- a branch that was begun anew is whole
-pub fresh : (w : WorldState) (s : Scene) (n k n' : Node) → k ≡ n → ((e : Around) → rest w s n' e ≡ core w s (shape k) e) → rest w s n' ≡ core w s (shape n)
-fresh w s n k n' j h = (λ i y. h y i) ∙ ap (λ m. core w s (shape m)) j
+pub fresh : (w : WorldState) (s : Scene) (n n' : Node) → ((e : Around) → rest w s n' e ≡ core w s (shape n) e) → rest w s n' ≡ core w s (shape n)
+fresh w s n n' h = λ i y. h y i
 
 -- the test of an `if` was decided, and its branches begin anew
-pub decided_went : (w : WorldState) (s : Scene) (state state' : Choice) (test d test' chosen chosen' other other' : Node) (a : Around) (l l' : Option (List Key)) (x r : Step) (begins : Bool) →
+pub decided_went : (w : WorldState) (s : Scene) (state state' : Choice) (test test' chosen chosen' other other' : Node) (a : Around) (l l' : Option (List Key)) (x r : Step) (begins : Bool) →
     ((l l' : List Key) (t t' : Trace) (b c f g : Around → Trace) (a : Around) → Goes l t x l' t' → Goes l (choice_left state t b c f g a) r l' (choice_left state' t' (begun begins b f) (begun begins c g) f g a)) →
-    d ≡ test → Went l (rest w s d a) x l' (rest w s test' a) → begins ≡ true →
+    Went l (rest w s test a) x l' (rest w s test' a) → begins ≡ true →
     shape chosen' ≡ shape chosen → rest w s chosen' ≡ core w s (shape chosen) → shape other' ≡ shape other → rest w s other' ≡ core w s (shape other) →
     Went l (choice_left state (rest w s test a) (rest w s chosen) (rest w s other) (core w s (shape chosen)) (core w s (shape other)) a) r
     l' (choice_left state' (rest w s test' a) (rest w s chosen') (rest w s other') (core w s (shape chosen')) (core w s (shape other')) a)
-decided_went w s state state' test d test' chosen chosen' other other' a l l' x r begins after q h e y1 y2 n1 n2 =
+decided_went w s state state' test test' chosen chosen' other other' a l l' x r begins after h e y1 y2 n1 n2 =
     let old = choice_left state (rest w s test a) (rest w s chosen) (rest w s other) (core w s (shape chosen)) (core w s (shape other)) a in
     let f = core w s (shape chosen) in
     let g = core w s (shape other) in
@@ -97,47 +97,36 @@ decided_went w s state state' test d test' chosen chosen' other other' a l l' x 
     (subst (λ (y : Bool). Went l old r l' (choice_left state' (rest w s test' a) (begun y (rest w s chosen) f) (begun y (rest w s other) g) f g a)) e
     (went_on l l' (rest w s test a) (rest w s test' a) old (choice_left state' (rest w s test' a) (begun begins (rest w s chosen) f) (begun begins (rest w s other) g) f g a) x r
     (λ m m'. after m m' (rest w s test a) (rest w s test' a) (rest w s chosen) (rest w s other) f g a)
-    (subst (λ (n : Node). Went l (rest w s n a) x l' (rest w s test' a)) q h))))))
+    h)))))
 
 -- a branch of an `if` goes on
-pub yes_went : (w : WorldState) (s : Scene) (state state' : Choice) (test chosen d chosen' other : Node) (a : Around) (l l' : Option (List Key)) (x r : Step) →
+pub yes_went : (w : WorldState) (s : Scene) (state state' : Choice) (test chosen chosen' other : Node) (a : Around) (l l' : Option (List Key)) (x r : Step) →
     ((l l' : List Key) (t : Trace) (b c b' c' f g : Around → Trace) (a : Around) → Goes l (branch_left state b c a) x l' (branch_left state b' c' a) → Goes l (choice_left state t b c f g a) r l' (choice_left state' t b' c' f g a)) →
-    state ≡ Yes → d ≡ chosen → shape chosen' ≡ shape d → Went l (rest w s d a) x l' (rest w s chosen' a) →
+    state ≡ Yes → shape chosen' ≡ shape chosen → Went l (rest w s chosen a) x l' (rest w s chosen' a) →
     Went l (choice_left state (rest w s test a) (rest w s chosen) (rest w s other) (core w s (shape chosen)) (core w s (shape other)) a) r
     l' (choice_left state' (rest w s test a) (rest w s chosen') (rest w s other) (core w s (shape chosen')) (core w s (shape other)) a)
-yes_went w s state state' test chosen d chosen' other a l l' x r after i q z h =
+yes_went w s state state' test chosen chosen' other a l l' x r after i z h =
     let old = choice_left state (rest w s test a) (rest w s chosen) (rest w s other) (core w s (shape chosen)) (core w s (shape other)) a in
-    subst (λ (c : Core). Went l old r l' (choice_left state' (rest w s test a) (rest w s chosen') (rest w s other) (core w s c) (core w s (shape other)) a)) (sym (z ∙ ap shape q))
+    subst (λ (c : Core). Went l old r l' (choice_left state' (rest w s test a) (rest w s chosen') (rest w s other) (core w s c) (core w s (shape other)) a)) (sym z)
     (went_on l l' (branch_left state (rest w s chosen) (rest w s other) a) (branch_left state (rest w s chosen') (rest w s other) a)
     old (choice_left state' (rest w s test a) (rest w s chosen') (rest w s other) (core w s (shape chosen)) (core w s (shape other)) a) x r
     (λ m m'. after m m' (rest w s test a) (rest w s chosen) (rest w s other) (rest w s chosen') (rest w s other) (core w s (shape chosen)) (core w s (shape other)) a)
     (subst (λ (y : Choice). Went l (branch_left y (rest w s chosen) (rest w s other) a) x l' (branch_left y (rest w s chosen') (rest w s other) a)) (sym i)
-    (subst (λ (n : Node). Went l (rest w s n a) x l' (rest w s chosen' a)) q h)))
+    h))
 
-pub no_went : (w : WorldState) (s : Scene) (state state' : Choice) (test chosen other d other' : Node) (a : Around) (l l' : Option (List Key)) (x r : Step) →
+pub no_went : (w : WorldState) (s : Scene) (state state' : Choice) (test chosen other other' : Node) (a : Around) (l l' : Option (List Key)) (x r : Step) →
     ((l l' : List Key) (t : Trace) (b c b' c' f g : Around → Trace) (a : Around) → Goes l (branch_left state b c a) x l' (branch_left state b' c' a) → Goes l (choice_left state t b c f g a) r l' (choice_left state' t b' c' f g a)) →
-    state ≡ No → d ≡ other → shape other' ≡ shape d → Went l (rest w s d a) x l' (rest w s other' a) →
+    state ≡ No → shape other' ≡ shape other → Went l (rest w s other a) x l' (rest w s other' a) →
     Went l (choice_left state (rest w s test a) (rest w s chosen) (rest w s other) (core w s (shape chosen)) (core w s (shape other)) a) r
     l' (choice_left state' (rest w s test a) (rest w s chosen) (rest w s other') (core w s (shape chosen)) (core w s (shape other')) a)
-no_went w s state state' test chosen other d other' a l l' x r after i q z h =
+no_went w s state state' test chosen other other' a l l' x r after i z h =
     let old = choice_left state (rest w s test a) (rest w s chosen) (rest w s other) (core w s (shape chosen)) (core w s (shape other)) a in
-    subst (λ (c : Core). Went l old r l' (choice_left state' (rest w s test a) (rest w s chosen) (rest w s other') (core w s (shape chosen)) (core w s c) a)) (sym (z ∙ ap shape q))
+    subst (λ (c : Core). Went l old r l' (choice_left state' (rest w s test a) (rest w s chosen) (rest w s other') (core w s (shape chosen)) (core w s c) a)) (sym z)
     (went_on l l' (branch_left state (rest w s chosen) (rest w s other) a) (branch_left state (rest w s chosen) (rest w s other') a)
     old (choice_left state' (rest w s test a) (rest w s chosen) (rest w s other') (core w s (shape chosen)) (core w s (shape other)) a) x r
     (λ m m'. after m m' (rest w s test a) (rest w s chosen) (rest w s other) (rest w s chosen) (rest w s other') (core w s (shape chosen)) (core w s (shape other)) a)
     (subst (λ (y : Choice). Went l (branch_left y (rest w s chosen) (rest w s other) a) x l' (branch_left y (rest w s chosen) (rest w s other') a)) (sym i)
-    (subst (λ (n : Node). Went l (rest w s n a) x l' (rest w s other' a)) q h)))
-
--- a form with one part goes on
-pub part_went : (w : WorldState) (s : Scene) (state state' : One) (part d part' : Node) (a : Around) (offset : ℤ) (l l' : Option (List Key)) (x r : Step) → offset ≡ s.offset →
-    ((l l' : List Key) (t t' : Trace) → Goes l t x l' t' → Goes l (one_left state a offset t) r l' (one_left state' a offset t')) →
-    d ≡ part → Went l (rest w s d a) x l' (rest w s part' a) →
-    Went l (one_left state a s.offset (rest w s part a)) r l' (one_left state' a s.offset (rest w s part' a))
-part_went w s state state' part d part' a offset l l' x r e after q h =
-    subst (λ (o : ℤ). Went l (one_left state a o (rest w s part a)) r l' (one_left state' a o (rest w s part' a))) e
-    (went_on l l' (rest w s part a) (rest w s part' a) (one_left state a offset (rest w s part a)) (one_left state' a offset (rest w s part' a)) x r
-    (λ m m'. after m m' (rest w s part a) (rest w s part' a))
-    (subst (λ (n : Node). Went l (rest w s n a) x l' (rest w s part' a)) q h))
+    h))
 
 false_true : false ≡ true → ⊥
 false_true h = cc
@@ -148,9 +137,3 @@ done_left (one.Draw (Single p held done)) a offset t h = ap (λ b. unless b (sin
 done_left (one.Draw (Exists done)) a offset t h = ap (λ b. unless b (any t)) h
 done_left (one.Fold f) a offset t h = ap (λ b. unless b (folded f.fold a.argument f.place f.held t)) h
 done_left (one.Apply x) a offset t h = absurd (false_true h)
-
-pub done_went : (w : WorldState) (s : Scene) (state : One) (part : Node) (a : Around) (l : Option (List Key)) → is_done state ≡ true →
-    Went l (one_left state a s.offset (rest w s part a)) Over l (one_left state a s.offset (rest w s part a))
-done_went w s state part a l h =
-    went_same l l (one_left state a s.offset (rest w s part a)) (one_left state a s.offset (rest w s part a)) Over refl
-    (λ m. (done_left state a s.offset (rest w s part a) h, refl))

@@ -1,15 +1,17 @@
-ghost use Rattle.std.specs.Prelude.{◌≡◌, ◌≤◌, ℕ, Bool, List, Option, Some};
+ghost use Rattle.std.specs.Prelude.{◌≡◌, ◌≢◌, ◌≤◌, ℕ, Bool, List, Option, Some};
 ghost use Rattle.bf_world.specs.declared.key.Key.{Key};
 ghost use Rattle.bf_world.specs.Worlds.{WorldState};
 ghost use Rattle.desk_base.specs.Moments.{IsMoment};
 ghost use Rattle.line_forms.specs.Numbers.{IsOffset};
 ghost use Rattle.rel_sources.specs.declared.scene.Scene.{Scene};
-ghost use Rattle.rel_trace.specs.Ones.{unless, zero_if};
+ghost use Rattle.rel_trace.specs.Choices.{choice_left, choice_quiet};
+ghost use Rattle.rel_trace.specs.Ones.{one_kind, one_left, one_quiet, unless, zero_if};
 ghost use Rattle.rel_trace.specs.Scopes.{Around, lent, seen};
 ghost use Rattle.rel_trace.specs.Steps.{AsRoom, Falls, Goes, HasCause};
+ghost use Rattle.rel_trace.specs.Twos.{two_kind, two_left, two_quiet};
 ghost use Rattle.rel_nodes.specs.Core.{core};
 ghost use Rattle.rel_nodes.specs.Meaning.{given};
-ghost use Rattle.rel_nodes.specs.Measure.{quiet};
+ghost use Rattle.rel_nodes.specs.Measure.{cap, quiet};
 ghost use Rattle.rel_nodes.specs.Nodes.{rest, shape};
 ghost use Rattle.rel_nodes.specs.Steps.{Went};
 
@@ -81,9 +83,43 @@ impl Node {
         }
     }
 
-    /// One event, or none. A look is made only where there is room for one, and then nothing else is done that could fail. After a
+    /// The next event. A look is made only where there is room for one, and then nothing else is done that could fail. After a
     /// failed look the next step makes the same one.
+    #[cycle(step)]
     pub fn step<M: Machine>(
+        &mut self,
+        alloc: Global,
+        scope: Scope<'_>,
+        scene: &Scene,
+        machine: &mut M,
+        room: bool,
+    ) -> Step
+        requires moment { IsMoment scene.now.moment }
+        requires offset { IsOffset scene.now.offset }
+        ensures event { result ≢ Step.Quiet }
+        ensures shape { shape self.new ≡ shape self.old }
+        ensures goes { (w : WorldState) → M.world machine.old ≡ Some w
+            → Went (M.looked machine.old) (rest w scene.now self.old (seen scope.entry)) result
+            (M.looked machine.new) (rest w scene.now self.new (seen scope.entry)) }
+        ensures cause { HasCause (M.faults machine.old) (M.faults machine.new) result }
+        ensures later { M.faults machine.old ≤ M.faults machine.new }
+        ensures room { AsRoom room result }
+        ensures falls { Falls result (quiet self.old) (quiet self.new) }
+        ensures world { M.world machine.new ≡ M.world machine.old }
+        ensures acted { M.acted machine.new ≡ M.acted machine.old }
+        ensures started { M.started machine.new ≡ M.started machine.old }
+    {
+        loop {
+            match self.go_on(alloc, scope, scene, machine, room) {
+                Step::Quiet => {}
+                step => return step,
+            }
+        }
+    }
+
+    /// One event, or none.
+    #[cycle(step)]
+    fn go_on<M: Machine>(
         &mut self,
         alloc: Global,
         scope: Scope<'_>,
@@ -112,53 +148,146 @@ impl Node {
             Node::Left { given } => give(scope.left, given),
             Node::Property(property) => property.step(alloc, scope, scene, machine, room),
             Node::WithOne { part, state } => {
-                if state.is_done() {
-                    return Step::Over;
-                }
-                let step = part.step(alloc, scope, scene, machine, room);
-                state.after(alloc, step, scope, scene.offset)
+                step_one(part, state, alloc, scope, scene, machine, room)
             }
             Node::WithTwo {
                 first,
                 second,
                 state,
-            } => {
-                if state.on_second() {
-                    let inner = state.second_scope(scope);
-                    let step = second.step(alloc, inner, scene, machine, room);
-                    return state.after_second(step);
-                }
-                let step = first.step(alloc, scope, scene, machine, room);
-                let next = state.after_first(step);
-                if next.begins {
-                    second.reset();
-                }
-                next.step
-            }
+            } => step_two(first, second, state, alloc, scope, scene, machine, room),
             Node::WithChoice {
                 test,
                 yes,
                 no,
                 state,
-            } => match state {
-                Choice::Test => {
-                    let step = test.step(alloc, scope, scene, machine, room);
-                    let next = state.after_test(step);
-                    if next.begins {
-                        yes.reset();
-                        no.reset();
-                    }
-                    next.step
-                }
-                Choice::Yes => {
-                    let step = yes.step(alloc, scope, scene, machine, room);
-                    state.after_branch(step)
-                }
-                Choice::No => {
-                    let step = no.step(alloc, scope, scene, machine, room);
-                    state.after_branch(step)
-                }
-            },
+            } => step_choice(test, yes, no, state, alloc, scope, scene, machine, room),
+        }
+    }
+}
+
+/// One event of a form with one part, or none.
+#[cycle(step)]
+#[inline(never)]
+fn step_one<M: Machine>(
+    part: &mut Node,
+    state: &mut One,
+    alloc: Global,
+    scope: Scope<'_>,
+    scene: &Scene,
+    machine: &mut M,
+    room: bool,
+) -> Step
+    requires moment { IsMoment scene.now.moment }
+    requires offset { IsOffset scene.now.offset }
+    ensures part { shape part.new ≡ shape part.old }
+    ensures kind { one_kind state.new ≡ one_kind state.old }
+    ensures goes { (w : WorldState) → M.world machine.old ≡ Some w
+        → Went (M.looked machine.old) (one_left state.old (seen scope.entry) scene.now.offset (rest w scene.now part.old (seen scope.entry))) result
+        (M.looked machine.new) (one_left state.new (seen scope.entry) scene.now.offset (rest w scene.now part.new (seen scope.entry))) }
+    ensures cause { HasCause (M.faults machine.old) (M.faults machine.new) result }
+    ensures later { M.faults machine.old ≤ M.faults machine.new }
+    ensures room { AsRoom room result }
+    ensures falls { Falls result (one_quiet state.old (quiet part.old)) (one_quiet state.new (quiet part.new)) }
+    ensures world { M.world machine.new ≡ M.world machine.old }
+    ensures acted { M.acted machine.new ≡ M.acted machine.old }
+    ensures started { M.started machine.new ≡ M.started machine.old }
+{
+    if state.is_done() {
+        return Step::Over;
+    }
+    let step = part.step(alloc, scope, scene, machine, room);
+    state.after(alloc, step, scope, scene.offset)
+}
+
+/// One event of a form with two parts, or none.
+#[cycle(step)]
+#[inline(never)]
+fn step_two<M: Machine>(
+    first: &mut Node,
+    second: &mut Node,
+    state: &mut Two,
+    alloc: Global,
+    scope: Scope<'_>,
+    scene: &Scene,
+    machine: &mut M,
+    room: bool,
+) -> Step
+    requires moment { IsMoment scene.now.moment }
+    requires offset { IsOffset scene.now.offset }
+    ensures first { shape first.new ≡ shape first.old }
+    ensures second { shape second.new ≡ shape second.old }
+    ensures kind { two_kind state.new ≡ two_kind state.old }
+    ensures goes { (w : WorldState) → M.world machine.old ≡ Some w
+        → Went (M.looked machine.old) (two_left state.old (rest w scene.now first.old (seen scope.entry)) (rest w scene.now second.old) (core w scene.now (shape second.old)) (seen scope.entry)) result
+        (M.looked machine.new) (two_left state.new (rest w scene.now first.new (seen scope.entry)) (rest w scene.now second.new) (core w scene.now (shape second.new)) (seen scope.entry)) }
+    ensures cause { HasCause (M.faults machine.old) (M.faults machine.new) result }
+    ensures later { M.faults machine.old ≤ M.faults machine.new }
+    ensures room { AsRoom room result }
+    ensures falls { Falls result (two_quiet state.old (quiet first.old) (quiet second.old) (cap (shape second.old))) (two_quiet state.new (quiet first.new) (quiet second.new) (cap (shape second.new))) }
+    ensures world { M.world machine.new ≡ M.world machine.old }
+    ensures acted { M.acted machine.new ≡ M.acted machine.old }
+    ensures started { M.started machine.new ≡ M.started machine.old }
+{
+    if state.on_second() {
+        let inner = state.second_scope(scope);
+        let step = second.step(alloc, inner, scene, machine, room);
+        return state.after_second(step);
+    }
+    let step = first.step(alloc, scope, scene, machine, room);
+    let next = state.after_first(step);
+    if next.begins {
+        second.reset();
+    }
+    next.step
+}
+
+/// One event of a form with a test and two branches, or none.
+#[cycle(step)]
+#[inline(never)]
+fn step_choice<M: Machine>(
+    test: &mut Node,
+    yes: &mut Node,
+    no: &mut Node,
+    state: &mut Choice,
+    alloc: Global,
+    scope: Scope<'_>,
+    scene: &Scene,
+    machine: &mut M,
+    room: bool,
+) -> Step
+    requires moment { IsMoment scene.now.moment }
+    requires offset { IsOffset scene.now.offset }
+    ensures test { shape test.new ≡ shape test.old }
+    ensures yes { shape yes.new ≡ shape yes.old }
+    ensures no { shape no.new ≡ shape no.old }
+    ensures goes { (w : WorldState) → M.world machine.old ≡ Some w
+        → Went (M.looked machine.old) (choice_left state.old (rest w scene.now test.old (seen scope.entry)) (rest w scene.now yes.old) (rest w scene.now no.old) (core w scene.now (shape yes.old)) (core w scene.now (shape no.old)) (seen scope.entry)) result
+        (M.looked machine.new) (choice_left state.new (rest w scene.now test.new (seen scope.entry)) (rest w scene.now yes.new) (rest w scene.now no.new) (core w scene.now (shape yes.new)) (core w scene.now (shape no.new)) (seen scope.entry)) }
+    ensures cause { HasCause (M.faults machine.old) (M.faults machine.new) result }
+    ensures later { M.faults machine.old ≤ M.faults machine.new }
+    ensures room { AsRoom room result }
+    ensures falls { Falls result (choice_quiet state.old (quiet test.old) (quiet yes.old) (quiet no.old) (cap (shape yes.old)) (cap (shape no.old))) (choice_quiet state.new (quiet test.new) (quiet yes.new) (quiet no.new) (cap (shape yes.new)) (cap (shape no.new))) }
+    ensures world { M.world machine.new ≡ M.world machine.old }
+    ensures acted { M.acted machine.new ≡ M.acted machine.old }
+    ensures started { M.started machine.new ≡ M.started machine.old }
+{
+    match state {
+        Choice::Test => {
+            let step = test.step(alloc, scope, scene, machine, room);
+            let next = state.after_test(step);
+            if next.begins {
+                yes.reset();
+                no.reset();
+            }
+            next.step
+        }
+        Choice::Yes => {
+            let step = yes.step(alloc, scope, scene, machine, room);
+            state.after_branch(step)
+        }
+        Choice::No => {
+            let step = no.step(alloc, scope, scene, machine, room);
+            state.after_branch(step)
         }
     }
 }
