@@ -1,12 +1,10 @@
 -- Parts that mean the same may stand for one another.
-use Rattle.std.proofs.Common.{◌≡◌, refl, sym, ap, ◌∙◌}
+use Rattle.std.proofs.Common.{◌≡◌, sym, ap, ◌∙◌}
 use Rattle.std.proofs.lemmas.Result.{IfOk-weaker}
 use Rattle.std.specs.Result.{IfOk}
 use Rattle.std.specs.declared.alloc.Global.{Global}
 use Rattle.std.specs.declared.boxed.Box.{Box}
 use Rattle.std.specs.declared.result.Result.{Result}
-use Rattle.bf_world.specs.Worlds.{WorldState}
-use Rattle.rel_sources.specs.declared.scene.Scene.{Scene}
 use Rattle.rel_trace.specs.Trace.{Trace}
 use Rattle.rel_trace.specs.Scopes.{Around}
 use Rattle.rel_trace.specs.Ones.{OneKind, one_whole}

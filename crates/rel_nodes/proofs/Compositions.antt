@@ -4,7 +4,7 @@ use Rattle.rel_lexer.specs.declared.place.Place.{Place}
 use Rattle.rel_value.specs.Plain.{Plain}
 use Rattle.rel_trace.specs.declared.kind.RelKind.{RelKind}
 use Rattle.rel_trace.specs.Kinds.{is_caught}
-use Rattle.rel_trace.specs.Trace.{End, Stop, Error, Look, Turn, Give, Trace, Ends, After, none, one, follow, each}
+use Rattle.rel_trace.specs.Trace.{Stop, Error, Look, Turn, Give, Trace, Ends, After, none, follow, each}
 use Rattle.rel_trace.specs.Joins.{barred}
 
 pub follow_assoc : (t u v : Trace) → follow (follow t u) v ≡ follow t (follow u v)

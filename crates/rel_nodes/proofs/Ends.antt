@@ -5,7 +5,7 @@ use Rattle.rel_types.specs.declared.node.Link.{Link, out-Link}
 use Rattle.rel_types.specs.declared.node.Links.{Links, out-Links}
 use Rattle.rel_types.specs.declared.node.Node.{Node}
 use Rattle.rel_types.specs.declared.node.NodeList.{NodeList, out-NodeList}
-use Rattle.rel_types.specs.Plans.{PlainNode, LinkedNodes, no_links, more_links, Nodes, no_nodes, more_nodes}
+use Rattle.rel_types.specs.Plans.{PlainNode, no_links, Nodes, no_nodes, more_nodes}
 use Rattle.rel_types.specs.Views.{PlainLink, linked, listed, shown_node, shown_link, shown_links, shown_nodes}
 use Rattle.rel_nodes.specs.Spans.{begin_of, end_of, nodes_begin, nodes_end, links_end}
 use Rattle.rel_nodes.proofs.Lists.{nodes-out, links-out, link-shown, linked-push, listed-push}

@@ -1,5 +1,5 @@
 -- Aggregates without an argument don't look at the argument around them.
-use Rattle.std.proofs.Common.{◌≡◌, refl, ap, ◌∙◌, Option, Some, None}
+use Rattle.std.proofs.Common.{◌≡◌, refl, ap, ◌∙◌, Option, Some}
 use Rattle.rel_lexer.specs.declared.place.Place.{Place}
 use Rattle.rel_value.specs.Plain.{Plain, PlainKind, intervals}
 use Rattle.rel_types.specs.declared.head.Aggregate.{Aggregate}

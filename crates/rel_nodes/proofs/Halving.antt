@@ -1,11 +1,11 @@
 -- The nodes of a list, put together in halves.
-use Rattle.std.proofs.Common.{◌≡◌, ℕ, ◌+◌, ◌-◌, ◌<◌, ◌≤◌, List, [], ◌∷◌, ◌++◌, length, map, take, drop, refl, sym, ap, ◌∙◌, subst, arith, take-add, take_all, drop-drop, length-take-le, length-drop}
+use Rattle.std.proofs.Common.{◌≡◌, ℕ, ◌+◌, ◌-◌, ◌<◌, ◌≤◌, List, [], ◌∷◌, ◌++◌, length, map, take, drop, sym, ap, ◌∙◌, subst, arith, take-add, take_all, drop-drop, length-take-le, length-drop}
 use Rattle.std.proofs.lemmas.List.{map-append, length-map}
 use Rattle.rel_trace.specs.Twos.{TwoKind}
 use Rattle.std.specs.declared.alloc.Global.{Global}
 use Rattle.std.specs.declared.boxed.Box.{Box}
 use Rattle.rel_nodes.specs.declared.node.Node.{Node}
-use Rattle.rel_nodes.specs.Core.{Core, two_core, core, Alike}
+use Rattle.rel_nodes.specs.Core.{Core, two_core, Alike}
 use Rattle.rel_nodes.specs.Nodes.{boxed_shape}
 use Rattle.rel_nodes.specs.Runs.{nest, joined}
 use Rattle.rel_nodes.proofs.Alikes.{alike_same, alike_trans}

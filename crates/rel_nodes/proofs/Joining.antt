@@ -1,5 +1,5 @@
 -- A list that is put together in any order means what it means from the left.
-use Rattle.std.proofs.Common.{◌≡◌, ℕ, ◌<◌, List, [], ◌∷◌, ◌++◌, length, map, refl, sym, ap, ◌∙◌, arith}
+use Rattle.std.proofs.Common.{◌≡◌, ◌<◌, List, [], ◌∷◌, ◌++◌, length, refl, sym, ◌∙◌, arith}
 use Rattle.rel_trace.specs.Scopes.{with_left}
 use Rattle.rel_trace.specs.Twos.{TwoKind}
 use Rattle.rel_nodes.specs.declared.runs.Joint.{Joint}

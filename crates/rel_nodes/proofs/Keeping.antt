@@ -13,7 +13,7 @@ use Rattle.rel_grammar.specs.Trees as tree
 use Rattle.rel_value.specs.Plain.{PlainKind, booleans, integers, texts}
 use Rattle.rel_types.specs.declared.cast_steps.CastStep.{CastStep}
 use Rattle.rel_types.specs.declared.error.TypeError.{TypeError}
-use Rattle.rel_types.specs.declared.error.TypeError.TheVariants.{NotDefined, NotSingular, Incompatible}
+use Rattle.rel_types.specs.declared.error.TypeError.TheVariants.{NotSingular, Incompatible}
 use Rattle.rel_types.specs.Plans.{PlainNode, node, kind_of, is_plural, numeral, literal, it, cast, unary, chain, tuple, collection, HeldNode, no_node, a_node, LinkedNodes, no_links, more_links, Nodes, no_nodes, more_nodes, first_kind, tuple_kind, any_plural}
 use Rattle.rel_types.specs.Outcomes.{Checked, after, defined, fitting}
 use Rattle.rel_types.specs.Alike.{same_kind}

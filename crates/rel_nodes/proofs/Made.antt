@@ -1,5 +1,5 @@
 -- What is made of each form of a plan of the code.
-use Rattle.std.proofs.Common.{◌≡◌, ℤ, ℕ, Bool, List, [], ◌∷◌, refl, sym, ap, ◌∙◌, Option}
+use Rattle.std.proofs.Common.{◌≡◌, ℤ, ℕ, Bool, List, [], ◌∷◌, sym, ap, ◌∙◌, Option}
 use Rattle.std.specs.declared.alloc.Global.{Global}
 use Rattle.std.specs.declared.boxed.Box.{Box}
 use Rattle.rel_lexer.specs.declared.place.Place.{Place}
@@ -16,7 +16,7 @@ use Rattle.rel_types.specs.Plans.{PlainForm, LinkedNodes, no_links, more_links, 
 use Rattle.rel_types.specs.Views.{shown_form, shown_held, shown_links, shown_node, shown_nodes}
 use Rattle.rel_trace.specs.Ones.{OneKind}
 use Rattle.rel_trace.specs.Twos.{left_kind}
-use Rattle.rel_nodes.specs.Core.{Core, constant_core, it_core, one_core, two_core, choice_core, Alike, argued_core, cast_arrow, casted_core, chained_core, collected_core, core_of, filtered_core, form_core, head_core, infix_core, over_core, prefix_kind, singly_core, tuple_core}
+use Rattle.rel_nodes.specs.Core.{Core, constant_core, it_core, one_core, two_core, choice_core, Alike, argued_core, cast_arrow, casted_core, chained_core, collected_core, core_of, filtered_core, form_core, head_core, over_core, prefix_kind, singly_core, tuple_core}
 use Rattle.rel_nodes.proofs.Alikes.{alike_same, alike_trans, alike_two}
 use Rattle.rel_nodes.proofs.Forms.{choice_on, kept_alike, one_on, over_on, phrase_on}
 use Rattle.rel_nodes.proofs.Joining.{same}

@@ -21,7 +21,7 @@ use Rattle.rel_trace.specs.declared.logic.Logic.{Logic}
 use Rattle.rel_trace.specs.declared.logic.Logic.TheVariants.{And, Or}
 use Rattle.rel_trace.specs.Trace.{Turn, After, Trace, none, follow, each, turned, result_at}
 use Rattle.rel_trace.specs.Draws.{sifted}
-use Rattle.rel_trace.specs.Folds.{held_first, folded}
+use Rattle.rel_trace.specs.Folds.{held_first}
 use Rattle.rel_trace.specs.Joins.{barred, chosen, decided, tied, tupled}
 use Rattle.rel_trace.specs.Scopes.{Around, with_it, with_argument, with_left}
 use Rattle.rel_trace.specs.Ones.{fold_kind}

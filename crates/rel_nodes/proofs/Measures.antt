@@ -1,5 +1,5 @@
 -- A node never has more quiet steps before it than its plan allows.
-use Rattle.std.proofs.Common.{ℕ, ◌≡◌, ◌+◌, ◌*◌, ◌<◌, ◌≤◌, arith, sym, ap, subst, ◌∙◌, Bool, true, false, Option, Some, None}
+use Rattle.std.proofs.Common.{ℕ, ◌≡◌, ◌+◌, ◌*◌, ◌≤◌, arith, sym, subst, Bool, true, false, Option, Some, None}
 use Rattle.rel_trace.specs.declared.choice.Choice.{Choice}
 use Rattle.rel_trace.specs.declared.choice.Choice.TheVariants as choice
 use Rattle.rel_trace.specs.declared.handing.Handing.{Handing}

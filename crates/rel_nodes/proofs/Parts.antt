@@ -1,5 +1,5 @@
 -- A form with several parts goes on as its state does.
-use Rattle.std.proofs.Common.{◌≡◌, ℤ, List, Bool, true, false, refl, sym, ap, subst, ◌∙◌}
+use Rattle.std.proofs.Common.{◌≡◌, ℤ, List, Bool, true, false, sym, ap, subst}
 use Rattle.std.specs.declared.option.Option.{Option}
 use Rattle.bf_world.specs.declared.key.Key.{Key}
 use Rattle.bf_world.specs.Worlds.{WorldState}
@@ -10,7 +10,6 @@ use Rattle.rel_trace.specs.declared.draw.Draw.TheVariants.{Single, Exists}
 use Rattle.rel_trace.specs.declared.one.One.{One}
 use Rattle.rel_trace.specs.declared.one.One.TheVariants as one
 use Rattle.rel_trace.specs.declared.step.Step.{Step}
-use Rattle.rel_trace.specs.declared.step.Step.TheVariants.{Over}
 use Rattle.rel_trace.specs.declared.two.Two.{Two}
 use Rattle.rel_trace.specs.Trace.{Trace, none}
 use Rattle.rel_trace.specs.Draws.{any, single_from}
@@ -24,7 +23,7 @@ use Rattle.rel_nodes.specs.declared.node.Node.{Node}
 use Rattle.rel_nodes.specs.Core.{Core, core}
 use Rattle.rel_nodes.specs.Nodes.{shape, rest}
 use Rattle.rel_nodes.specs.Steps.{Went}
-use Rattle.rel_nodes.proofs.Going.{went_on, went_same}
+use Rattle.rel_nodes.proofs.Going.{went_on}
 
 pub second_went : (w : WorldState) (s : Scene) (state state' : Two) (first second second' : Node) (a a2 : Around) (l l' : Option (List Key)) (x r : Step) →
     ((l l' : List Key) (t : Trace) (b b' f : Around → Trace) (a : Around) → Goes l (b (second_around state a)) x l' (b' (second_around state a)) → Goes l (two_left state t b f a) r l' (two_left state' t b' f a)) →

@@ -1,5 +1,5 @@
 -- What a plan of the code shows, form by form.
-use Rattle.std.proofs.Common.{◌≡◌, ℤ, Bool, List, refl, sym, ap, ◌∙◌, ℕ, Option, Some, None}
+use Rattle.std.proofs.Common.{◌≡◌, ℤ, List, sym, ap, ◌∙◌, ℕ, Option, Some, None}
 use Rattle.std.specs.declared.alloc.Global.{Global}
 use Rattle.std.specs.declared.boxed.Box.{Box}
 use Rattle.rel_lexer.specs.declared.place.Place.{Place}
@@ -11,7 +11,7 @@ use Rattle.rel_value.specs.Plain.{Plain, Parts, integer}
 use Rattle.rel_value.specs.Views.{shown, shown_kind, value_step, values_step}
 use Rattle.rel_types.specs.declared.cast_steps.CastStep.{CastStep}
 use Rattle.rel_types.specs.declared.head.Head.{Head}
-use Rattle.rel_types.specs.declared.node.Form.{Form, roll-Form}
+use Rattle.rel_types.specs.declared.node.Form.{roll-Form}
 use Rattle.rel_types.specs.declared.node.Form.TheVariants.{Number, Literal, It, Phrase, Body, Cast, Unary, Chain, If, Tuple, Collection, rolls-Number, rolls-Literal, rolls-It, rolls-Phrase, rolls-Body, rolls-Cast, rolls-Unary, rolls-Chain, rolls-If, rolls-Tuple, rolls-Collection}
 use Rattle.rel_types.specs.declared.node.Form.TheOpen as layer
 use Rattle.rel_types.specs.declared.node.Form.TheFolds.{fold-roll-Form, fold_out-Node}

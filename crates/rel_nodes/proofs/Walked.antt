@@ -1,5 +1,5 @@
 -- A walk gives at most one value before its next look or turn.
-use Rattle.std.proofs.Common.{◌≡◌, ℕ, ◌≤◌, arith}
+use Rattle.std.proofs.Common.{◌≤◌, arith}
 use Rattle.rel_inspect.specs.declared.descent.Ahead.{Ahead}
 use Rattle.rel_inspect.specs.declared.descent.Ahead.TheVariants as ahead
 use Rattle.rel_inspect.specs.declared.once.Once.{Once}

@@ -1,5 +1,5 @@
 -- Parts that may be there, in the forms of a plan.
-use Rattle.std.specs.Prelude.{◌≡◌, ⊤, Bool, true, false, Option, Some, None}
+use Rattle.std.specs.Prelude.{⊤, Bool, true, false, Option, Some, None}
 use Rattle.std.specs.declared.alloc.Global.{Global}
 use Rattle.std.specs.declared.boxed.Box.{Box}
 use Rattle.rel_lexer.specs.declared.place.Place.{Place}

@@ -4,7 +4,6 @@ use Rattle.rel_inspect.specs.Left.{values_ahead}
 use Rattle.rel_trace.specs.Ones.{one_quiet, zero_if}
 use Rattle.rel_trace.specs.Twos.{TwoKind, then_kind, bar_kind, logic_kind, each_kind, sift_kind, argument_kind, left_kind, turned_kind, two_quiet}
 use Rattle.rel_trace.specs.Choices.{choice_quiet}
-use Rattle.rel_nodes.specs.declared.property.Property.{Property}
 use Rattle.rel_nodes.specs.declared.walking.Walking.{Walking}
 use Rattle.rel_nodes.specs.declared.node.Node.{Node}
 use Rattle.rel_nodes.specs.declared.node.Node.TheVariants as node

@@ -1,5 +1,4 @@
 -- A walk is sound in one way at most. No contract speaks of it.
-use Rattle.std.specs.Prelude.{All}
 use Rattle.std.specs.Coded.{×_prop, Unit-prop, le_prop}
 use Rattle.std.proofs.Props.{props}
 use Rattle.rel_value.specs.Operands.{AreSound, IsSound}

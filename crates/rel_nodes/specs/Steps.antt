@@ -1,5 +1,5 @@
 -- What a step of a node does to the machine's looks and to the trace that is left.
-use Rattle.std.specs.Prelude.{◌≡◌, List, ◌++◌}
+use Rattle.std.specs.Prelude.{List, ◌++◌}
 use Rattle.std.specs.declared.option.Option.{Option}
 use Rattle.bf_machine.specs.Told.{Grows}
 use Rattle.bf_world.specs.declared.key.Key.{Key}

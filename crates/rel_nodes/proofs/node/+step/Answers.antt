@@ -1,8 +1,7 @@
 -- A step goes on over quiet ones, and a form as its state says of the step of its part.
-use Rattle.std.proofs.Common.{◌≡◌, ◌∙◌, ap, arith, refl, sym}
-use Rattle.rel_trace.specs.declared.step.Step.TheVariants.{Over, Quiet}
+use Rattle.std.proofs.Common.{◌≡◌, ◌∙◌, ap, arith, refl}
+use Rattle.rel_trace.specs.declared.step.Step.TheVariants.{Quiet}
 use Rattle.rel_trace.specs.Scopes.{seen}
-use Rattle.rel_trace.specs.Trace.{none}
 use Rattle.rel_nodes.specs.Nodes.{rest, shape}
 use Rattle.rel_nodes.proofs.Going.{cause_then, falls_then, went_none, went_same, went_then}
 use Rattle.rel_nodes.proofs.Levels.{levels}

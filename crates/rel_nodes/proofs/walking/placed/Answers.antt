@@ -1,7 +1,5 @@
 -- Where no look was made, the next event is still the look.
-use Rattle.std.proofs.Common.{◌≡◌, List, refl, sym, ap, subst}
-use Rattle.std.specs.declared.option.Option.{Option}
-use Rattle.bf_world.specs.declared.key.Key.{Key}
+use Rattle.std.proofs.Common.{refl, sym, ap, subst}
 use Rattle.rel_sources.specs.declared.event.WalkEvent.{WalkEvent}
 use Rattle.rel_sources.specs.Steps as walks
 use Rattle.rel_trace.specs.declared.step.Step.TheVariants.{Full, Failed}

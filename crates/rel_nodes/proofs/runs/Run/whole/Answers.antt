@@ -1,4 +1,4 @@
-use Rattle.std.proofs.Common.{◌≡◌, ◌<◌, ◌≤◌, length, arith, refl}
+use Rattle.std.proofs.Common.{arith, refl}
 use Rattle.std.specs.Vec.Iter.{into_iter_items}
 use Rattle.rel_trace.specs.Twos.{two_kind}
 use Rattle.rel_nodes.specs.Core.{two_core}
