@@ -16,3 +16,4 @@ pub mod OneLine
 pub mod NextParts
 pub mod OnePart
 pub mod OneVerdict
+pub mod Bounds
