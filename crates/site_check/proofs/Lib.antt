@@ -1,0 +1,4 @@
+pub mod Judging
+pub mod Numbers
+pub mod OneReading
+pub mod OneFinding

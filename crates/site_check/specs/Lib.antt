@@ -1,0 +1,4 @@
+pub mod Pieces
+pub mod Findings
+pub mod Judgements
+pub mod Lines

@@ -1,0 +1,16 @@
+//! What is wrong first with a site of content: a line, an id, the digest, a question or a script.
+#![tactic(auto)]
+
+mod check;
+mod finding;
+mod law;
+mod piece_check;
+mod say;
+
+pub use check::check_site;
+pub use finding::Finding;
+pub use law::one_finding;
+pub use say::say_finding;
+
+#[cfg(test)]
+mod tests;
