@@ -1,6 +1,6 @@
--- How questions to the world of an input can end, as the words' command says it.
-use Rattle.std.proofs.Common.{◌≡◌, ◌≢◌, ◌⊎◌, ℕ, ◌≤◌, List, [], ◌∷◌, ◌++◌, length, None, Some, inl, inr, refl, sym, ap, subst, ◌∙◌, append-nil}
-use Rattle.std.specs.Prelude.{IsSomeAnd}
+-- How a command can end that reads its input and asks no device, as the words' command says it.
+use Rattle.std.proofs.Common.{◌≡◌, ◌≢◌, ◌⊎◌, ℕ, ◌≤◌, List, ◌++◌, length, None, Some, inl, inr, refl, sym, ap, subst, ◌∙◌, append-nil}
+use Rattle.std.specs.Prelude.{⊤, IsSomeAnd}
 use Rattle.std.specs.Io.KnownBytes.{Consumes, IsAtEnd}
 use Rattle.std.specs.declared.option.Option.{Option}
 use Rattle.std.specs.declared.result.Result.{Result}
@@ -12,13 +12,17 @@ use Rattle.world_text.specs.Texts.{ReadsWorld}
 use Rattle.world_text.proofs.PassLemmas.{world_read}
 use Rattle.rel_session.specs.Devices.{Devices}
 use Rattle.desk_top.specs.declared.command.Command.{Command}
-use Rattle.desk_top.specs.declared.command.Command.TheVariants.{Qna, QnaWorld, Help}
+use Rattle.desk_top.specs.declared.command.Command.TheVariants.{Qna, QnaWorld, Check, Help}
 use Rattle.desk_top.specs.declared.status.Status.{Status}
 use Rattle.desk_top.specs.declared.status.Status.TheVariants.{Done, Usage, Refused, Source, Sink, Clock, Pocket, Keeper, Door, Memory, InputTooLong}
-use Rattle.desk_top.specs.Asked.{IsWorldStatus}
+use Rattle.site_check.specs.declared.finding.Finding.{Finding}
+use Rattle.site_check.specs.declared.finding.Finding.TheVariants as finding
+use Rattle.site_check.specs.Findings.{Finds}
+use Rattle.site_check.specs.Lines.{finding_line}
+use Rattle.desk_top.specs.Asked.{status_of_finding, IsTextStatus}
 use Rattle.desk_top.specs.Commands.{Asks}
 use Rattle.desk_top.specs.Runs.{input_limit, TookInput, TookPart}
-use Rattle.desk_top.specs.Said.{Began, Did, IsGoodInput, IsSomeNumber}
+use Rattle.desk_top.specs.Said.{Began, Did, IsGoodInput, IsRefusal, IsRefused, Refuses}
 use Rattle.desk_top.specs.WorldInputs.{IsBadInput}
 use Rattle.desk_top.proofs.Splitting.{one_split}
 
@@ -39,46 +43,77 @@ good_not_bad input number (w, rest, (text, splits, reads)) (text', rest', splits
     let same : text ≡ text' = one_split input text rest text' rest' splits splits' in
     no_bad_answer w (Err (world_error.BadLine number)) number refl (world_read text w (Err (world_error.BadLine number)) reads.0 reads.1 (subst Refuses (sym same) reads'))
 
--- a run over an input with the text of a world is done, unless the sink failed or memory ran out
-pub good_is_done : (input : List ℕ) (status : Status) (Written : ℕ → Type 0) → IsWorldStatus status → (status ≡ Refused → IsSomeNumber (λ number. IsBadInput input number × Written number))
-    → IsGoodInput QnaWorld input → (status ≡ Sink → ⊥) → (status ≡ Done) ⊎ (status ≡ Memory)
-good_is_done input Done Written is refused good no_fault = inl refl
-good_is_done input Memory Written is refused good no_fault = inr refl
-good_is_done input Refused Written is refused good no_fault = let bad = refused refl in absurd (good_not_bad input bad.0 good bad.1.0)
-good_is_done input Sink Written is refused good no_fault = absurd (no_fault refl)
-good_is_done input Usage Written is refused good no_fault = absurd is
-good_is_done input Source Written is refused good no_fault = absurd is
-good_is_done input Clock Written is refused good no_fault = absurd is
-good_is_done input Pocket Written is refused good no_fault = absurd is
-good_is_done input Keeper Written is refused good no_fault = absurd is
-good_is_done input Door Written is refused good no_fault = absurd is
-good_is_done input InputTooLong Written is refused good no_fault = absurd is
+-- a text has one finding
+abbrev pub OneFinding : Type 0
+OneFinding = (text : List ℕ) (x y : Finding) → Finds text x → Finds text y → x ≢ finding.Memory → y ≢ finding.Memory → x ≡ y
 
--- and one over an input without is refused
-pub bad_is_refused : (input : List ℕ) (status : Status) → IsWorldStatus status → (status ≡ Done → IsGoodInput QnaWorld input)
-    → (IsGoodInput QnaWorld input → ⊥) → (status ≡ Sink → ⊥) → (status ≡ Refused) ⊎ (status ≡ Memory)
-bad_is_refused input Done is done bad no_fault = absurd (bad (done refl))
-bad_is_refused input Memory is done bad no_fault = inr refl
-bad_is_refused input Refused is done bad no_fault = inl refl
-bad_is_refused input Sink is done bad no_fault = absurd (no_fault refl)
-bad_is_refused input Usage is done bad no_fault = absurd is
-bad_is_refused input Source is done bad no_fault = absurd is
-bad_is_refused input Clock is done bad no_fault = absurd is
-bad_is_refused input Pocket is done bad no_fault = absurd is
-bad_is_refused input Keeper is done bad no_fault = absurd is
-bad_is_refused input Door is done bad no_fault = absurd is
-bad_is_refused input InputTooLong is done bad no_fault = absurd is
+pub refusal_known : (f : Finding) → IsRefusal f → f ≢ finding.Memory
+refusal_known f refusal e = let P : Finding → Type 0 = IsRefusal in subst P e refusal
+
+-- a refusal is no good finding
+refusal_not_good : OneFinding → (text : List ℕ) (f : Finding) (fixlets baselines : ℕ) → Finds text f → IsRefusal f → Finds text (finding.Good fixlets baselines) → ⊥
+refusal_not_good one text f fixlets baselines x refusal y =
+    let Wrong : Finding → Type 0 = IsRefusal in
+    subst Wrong (one text f (finding.Good fixlets baselines) x y (refusal_known f refusal) (λ e. cc)) refusal
+
+-- an input that a command takes isn't refused
+pub good_not_refused : OneFinding → (k : Command) (input line : List ℕ) → IsGoodInput k input → Refuses k input line → ⊥
+good_not_refused one Qna input line good refused = refused
+good_not_refused one QnaWorld input line good (number, bad, is) = good_not_bad input number good bad
+good_not_refused one Check input line (fixlets, baselines, good) (f, found, refusal, is) = refusal_not_good one input f fixlets baselines found refusal good
+good_not_refused one Help input line good refused = refused
+
+-- a run over an input that the command takes is done, unless the sink failed or memory ran out
+good_is_done : (k : Command) (input : List ℕ) (status : Status) → IsTextStatus status → (status ≡ Refused → IsGoodInput k input → ⊥)
+    → IsGoodInput k input → (status ≡ Sink → ⊥) → (status ≡ Done) ⊎ (status ≡ Memory)
+good_is_done k input Done is apart good no_fault = inl refl
+good_is_done k input Memory is apart good no_fault = inr refl
+good_is_done k input Refused is apart good no_fault = absurd (apart refl good)
+good_is_done k input Sink is apart good no_fault = absurd (no_fault refl)
+good_is_done k input Usage is apart good no_fault = absurd is
+good_is_done k input Source is apart good no_fault = absurd is
+good_is_done k input Clock is apart good no_fault = absurd is
+good_is_done k input Pocket is apart good no_fault = absurd is
+good_is_done k input Keeper is apart good no_fault = absurd is
+good_is_done k input Door is apart good no_fault = absurd is
+good_is_done k input InputTooLong is apart good no_fault = absurd is
+
+-- and one over another input is refused
+bad_is_refused : (k : Command) (input : List ℕ) (status : Status) → IsTextStatus status → (status ≡ Done → IsGoodInput k input)
+    → (IsGoodInput k input → ⊥) → (status ≡ Sink → ⊥) → (status ≡ Refused) ⊎ (status ≡ Memory)
+bad_is_refused k input Done is done bad no_fault = absurd (bad (done refl))
+bad_is_refused k input Memory is done bad no_fault = inr refl
+bad_is_refused k input Refused is done bad no_fault = inl refl
+bad_is_refused k input Sink is done bad no_fault = absurd (no_fault refl)
+bad_is_refused k input Usage is done bad no_fault = absurd is
+bad_is_refused k input Source is done bad no_fault = absurd is
+bad_is_refused k input Clock is done bad no_fault = absurd is
+bad_is_refused k input Pocket is done bad no_fault = absurd is
+bad_is_refused k input Keeper is done bad no_fault = absurd is
+bad_is_refused k input Door is done bad no_fault = absurd is
+bad_is_refused k input InputTooLong is done bad no_fault = absurd is
+
+-- what a world's text is refused for, where it is good
+pub world_apart : (input : List ℕ) (status : Status) (Written : List ℕ → Type 0) → (status ≡ Refused → IsRefused QnaWorld input Written) → status ≡ Refused → IsGoodInput QnaWorld input → ⊥
+world_apart input status Written refused is good = let bad = refused is in good_not_bad input bad.1.0 good bad.1.1
 
 -- words ask for one command
 one_command : (words : List (List ℕ)) (a b : Command) → Asks words a → Asks words b → a ≡ b
 one_command words Qna Qna p q = refl
 one_command words Qna QnaWorld p q = cc
+one_command words Qna Check p q = cc
 one_command words Qna Help p q = cc
 one_command words QnaWorld Qna p q = cc
 one_command words QnaWorld QnaWorld p q = refl
+one_command words QnaWorld Check p q = cc
 one_command words QnaWorld Help p q = cc
+one_command words Check Qna p q = cc
+one_command words Check QnaWorld p q = cc
+one_command words Check Check p q = refl
+one_command words Check Help p q = cc
 one_command words Help Qna p q = cc
 one_command words Help QnaWorld p q = cc
+one_command words Help Check p q = cc
 one_command words Help Help p q = refl
 
 -- The input was taken, all of it, and is no longer than it may be.
@@ -87,41 +122,76 @@ pub record TakesAll (old new : Option (List ℕ)) (taken : List ℕ) : Type 0 wh
   pub ends : IsAtEnd new
   pub short : length taken ≤ input_limit
 
-took : (old new : Option (List ℕ)) (world : Option WorldState) (taken input : List ℕ) (d d' : Devices) → input ≡ taken → TakesAll old new taken
-    → Began QnaWorld world input d d' → TookInput QnaWorld old new (λ i. Began QnaWorld world i d d')
-took old new world taken input d d' is all began =
-    let P : List ℕ → Type 0 = λ i. Began QnaWorld world i d d' in
-    (taken, all.takes, all.ends, (all.short, subst P is began))
+-- a command that reads its input and asks no device
+abbrev pub IsTextCommand : Command → Type 0
+IsTextCommand QnaWorld = ⊤
+IsTextCommand Check = ⊤
+IsTextCommand _ = ⊥
 
-pub world_front : (words : List (List ℕ)) (command : Command) (old new : Option (List ℕ)) (world : Option WorldState) (taken input : List ℕ) (d d' : Devices)
-    → Asks words QnaWorld → Asks words command → input ≡ taken → TakesAll old new taken → Began QnaWorld world input d d'
+took : (k : Command) → IsTextCommand k → (old new : Option (List ℕ)) (taken input : List ℕ) (P : List ℕ → Type 0) → input ≡ taken → TakesAll old new taken
+    → P input → TookInput k old new P
+took Qna text old new taken input P is all holds = absurd text
+took QnaWorld text old new taken input P is all holds = (taken, all.takes, all.ends, (all.short, subst P is holds))
+took Check text old new taken input P is all holds = (taken, all.takes, all.ends, (all.short, subst P is holds))
+took Help text old new taken input P is all holds = absurd text
+
+pub text_front : (k : Command) → IsTextCommand k → (words : List (List ℕ)) (command : Command) (old new : Option (List ℕ)) (world : Option WorldState) (taken input : List ℕ) (d d' : Devices)
+    → Asks words k → Asks words command → input ≡ taken → TakesAll old new taken → Began k world input d d'
     → TookInput command old new (λ i. Began command world i d d')
-world_front words command old new world taken input d d' asked asks is all began =
-    let P : Command → Type 0 = λ k. TookInput k old new (λ i. Began k world i d d') in
-    subst P (one_command words QnaWorld command asked asks) (took old new world taken input d d' is all began)
+text_front k text words command old new world taken input d d' asked asks is all began =
+    let P : Command → Type 0 = λ m. TookInput m old new (λ i. Began m world i d d') in
+    subst P (one_command words k command asked asks) (took k text old new taken input (λ i. Began k world i d d') is all began)
 
-pub world_memory : (Unwritten Unasked Undated : Type 0) (old new : Option (List ℕ)) (world : Option WorldState) (taken input : List ℕ) (d d' : Devices)
-    → input ≡ taken → TakesAll old new taken → Unasked → Undated → Unwritten ⊎ Began QnaWorld world input d d'
-    → (TookPart old new × Unwritten × Unasked × Undated) ⊎ TookInput QnaWorld old new (λ i. Began QnaWorld world i d d')
-world_memory Unwritten Unasked Undated old new world taken input d d' is all unasked undated (inl unwritten) = inl ((taken, all.takes, all.short), unwritten, unasked, undated)
-world_memory Unwritten Unasked Undated old new world taken input d d' is all unasked undated (inr began) = inr (took old new world taken input d d' is all began)
+pub text_memory : (k : Command) → IsTextCommand k → (Unwritten Unasked Undated : Type 0) (old new : Option (List ℕ)) (world : Option WorldState) (taken input : List ℕ) (d d' : Devices)
+    → input ≡ taken → TakesAll old new taken → Unasked → Undated → Unwritten ⊎ Began k world input d d'
+    → (TookPart old new × Unwritten × Unasked × Undated) ⊎ TookInput k old new (λ i. Began k world i d d')
+text_memory k text Unwritten Unasked Undated old new world taken input d d' is all unasked undated (inl unwritten) = inl ((taken, all.takes, all.short), unwritten, unasked, undated)
+text_memory k text Unwritten Unasked Undated old new world taken input d d' is all unasked undated (inr began) = inr (took k text old new taken input (λ i. Began k world i d d') is all began)
 
-pub world_complete : (words : List (List ℕ)) (command : Command) (old new : Option (List ℕ)) (taken input : List ℕ) (status : Status) (Written : ℕ → Type 0)
-    → Asks words QnaWorld → Asks words command → input ≡ taken → TakesAll old new taken → IsWorldStatus status
-    → (status ≡ Refused → IsSomeNumber (λ number. IsBadInput input number × Written number))
+pub text_refusal : (k : Command) → IsTextCommand k → (old new : Option (List ℕ)) (taken input : List ℕ) (Written : List ℕ → Type 0)
+    → input ≡ taken → TakesAll old new taken → IsRefused k input Written → TookInput k old new (λ i. IsRefused k i Written)
+text_refusal k text old new taken input Written is all refused = took k text old new taken input (λ i. IsRefused k i Written) is all refused
+
+pub text_complete : (k : Command) (words : List (List ℕ)) (command : Command) (old new : Option (List ℕ)) (taken input : List ℕ) (status : Status)
+    → Asks words k → Asks words command → input ≡ taken → TakesAll old new taken → IsTextStatus status
+    → (status ≡ Refused → IsGoodInput k input → ⊥)
     → IsSomeAnd old (λ i. (length i ≤ input_limit) × IsGoodInput command i) → (status ≡ Sink → ⊥) → (status ≡ Done) ⊎ (status ≡ Memory)
-world_complete words command old new taken input status Written asked asks is all may refused left no_fault =
-    let P : Command → Type 0 = λ k. IsSomeAnd old (λ i. (length i ≤ input_limit) × IsGoodInput k i) in
-    let Good : List ℕ → Type 0 = IsGoodInput QnaWorld in
-    let Left : List ℕ → Type 0 = λ i. (length i ≤ input_limit) × IsGoodInput QnaWorld i in
-    let good = taken_is_left old new taken Left all.takes all.ends (subst P (sym (one_command words QnaWorld command asked asks)) left) in
-    good_is_done input status Written may refused (subst Good (sym is) good.1) no_fault
+text_complete k words command old new taken input status asked asks is all may apart left no_fault =
+    let P : Command → Type 0 = λ m. IsSomeAnd old (λ i. (length i ≤ input_limit) × IsGoodInput m i) in
+    let Good : List ℕ → Type 0 = IsGoodInput k in
+    let Left : List ℕ → Type 0 = λ i. (length i ≤ input_limit) × IsGoodInput k i in
+    let good = taken_is_left old new taken Left all.takes all.ends (subst P (sym (one_command words k command asked asks)) left) in
+    good_is_done k input status may apart (subst Good (sym is) good.1) no_fault
 
-pub world_refused : (old new : Option (List ℕ)) (world : Option WorldState) (taken input : List ℕ) (d d' : Devices) (status : Status)
-    → input ≡ taken → TakesAll old new taken → IsWorldStatus status → (status ≡ Done → Did QnaWorld world input d d')
-    → IsSomeAnd old (λ i. (length i ≤ input_limit) × (IsGoodInput QnaWorld i → ⊥)) → (status ≡ Sink → ⊥) → (status ≡ Refused) ⊎ (status ≡ Memory)
-world_refused old new world taken input d d' status is all may done left no_fault =
-    let Good : List ℕ → Type 0 = IsGoodInput QnaWorld in
-    let Left : List ℕ → Type 0 = λ i. (length i ≤ input_limit) × (IsGoodInput QnaWorld i → ⊥) in
-    let bad = taken_is_left old new taken Left all.takes all.ends left in
-    bad_is_refused input status may (λ s. let did = done s in (did.0, did.1, did.2)) (λ good. bad.1 (subst Good is good)) no_fault
+did_good : (k : Command) → IsTextCommand k → (world : Option WorldState) (input : List ℕ) (d d' : Devices) → Did k world input d d' → IsGoodInput k input
+did_good Qna text world input d d' did = absurd text
+did_good QnaWorld text world input d d' did = (did.0, did.1, did.2)
+did_good Check text world input d d' did = (did.0, did.1, did.2)
+did_good Help text world input d d' did = absurd text
+
+pub text_refused : (k : Command) → IsTextCommand k → (words : List (List ℕ)) (command : Command) (old new : Option (List ℕ)) (world : Option WorldState) (taken input : List ℕ) (d d' : Devices) (status : Status)
+    → Asks words k → Asks words command → input ≡ taken → TakesAll old new taken → IsTextStatus status → (status ≡ Done → Did k world input d d')
+    → IsSomeAnd old (λ i. (length i ≤ input_limit) × (IsGoodInput command i → ⊥)) → (status ≡ Sink → ⊥) → (status ≡ Refused) ⊎ (status ≡ Memory)
+text_refused k text words command old new world taken input d d' status asked asks is all may done left no_fault =
+    let P : Command → Type 0 = λ m. IsSomeAnd old (λ i. (length i ≤ input_limit) × (IsGoodInput m i → ⊥)) in
+    let Good : List ℕ → Type 0 = IsGoodInput k in
+    let Left : List ℕ → Type 0 = λ i. (length i ≤ input_limit) × (IsGoodInput k i → ⊥) in
+    let bad = taken_is_left old new taken Left all.takes all.ends (subst P (sym (one_command words k command asked asks)) left) in
+    bad_is_refused k input status may (λ s. did_good k text world input d d' (done s)) (λ good. bad.1 (subst Good is good)) no_fault
+
+-- a finding that is no good one, once its line was written
+pub checked_refused : (input : List ℕ) (f : Finding) (status : Status) (Written : List ℕ → Type 0) → Finds input f → Some status ≡ status_of_finding f → status ≡ Refused
+    → Written (finding_line f) → IsRefused Check input Written
+checked_refused input (finding.Good fixlets baselines) status Written found ends is written = absurd (let x = ends in let y = is in cc)
+checked_refused input (finding.BadLine line) status Written found ends is written = (_, (finding.BadLine line, found, tt, refl), written)
+checked_refused input (finding.TwiceId line) status Written found ends is written = (_, (finding.TwiceId line, found, tt, refl), written)
+checked_refused input (finding.WrongDigest stated right) status Written found ends is written = (_, (finding.WrongDigest stated right, found, tt, refl), written)
+checked_refused input finding.TooLong status Written found ends is written = (_, (finding.TooLong, found, tt, refl), written)
+checked_refused input (finding.BadRelevance line kind place) status Written found ends is written = (_, (finding.BadRelevance line kind place, found, tt, refl), written)
+checked_refused input (finding.BadScript error) status Written found ends is written = (_, (finding.BadScript error, found, tt, refl), written)
+checked_refused input finding.Memory status Written found ends is written = absurd (let x = ends in cc)
+
+pub checked_apart : OneFinding → (input : List ℕ) (f : Finding) (status : Status) → Finds input f → Some status ≡ status_of_finding f → status ≡ Refused → IsGoodInput Check input → ⊥
+checked_apart one input f status found ends is good =
+    let refused = checked_refused input f status (λ line. ⊤) found ends is tt in
+    good_not_refused one Check input refused.0 good refused.1

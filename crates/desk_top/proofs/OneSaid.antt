@@ -1,23 +1,27 @@
 -- A command says one thing of an input, where no look fails.
-use Rattle.std.proofs.Common.{◌≡◌, ℕ, zero, suc, ◌+◌, ◌-◌, ◌^◌, ◌<◌, ◌≤◌, ℤ, pos, Bool, true, false, cond, List, [], ◌∷◌, ◌++◌, length, All, None, Some, refl, sym, ap, ap₂, ◌∙◌, subst, arith, length-append}
-use Rattle.std.specs.Prelude.{codes}
+use Rattle.std.proofs.Common.{◌≡◌, ℕ, zero, suc, ◌+◌, ◌-◌, ◌^◌, min, ◌<◌, ℤ, pos, Bool, true, false, cond, List, [], ◌∷◌, ◌++◌, length, All, None, Some, refl, sym, ap, ap₂, ◌∙◌, subst, arith, length-append}
 use Rattle.std.proofs.lemmas.List.{append_cancel_left}
 use Rattle.std.proofs.lemmas.List.Elements.{All-head, All-tail}
 use Rattle.line_forms.specs.LineStates as states
 use Rattle.bf_world.specs.declared.key.Key.{Key}
 use Rattle.bf_world.specs.Worlds.{WorldState}
-use Rattle.world_text.specs.Texts.{Describes}
+use Rattle.world_text.specs.Texts.{AreWorldLines, Describes}
+use Rattle.line_forms.specs.BadLines.{AnswersBadLine}
+use Rattle.line_forms.proofs.BadLines.{first_bad_line-one}
 use Rattle.rel_session.specs.declared.line.Line.{Line}
 use Rattle.rel_session.specs.declared.line.Line.TheVariants.{Question, Page, More, NoCommand}
 use Rattle.rel_session.specs.Devices.{DidAll, RoseBy}
 use Rattle.rel_session.specs.Lines.{lines_of}
-use Rattle.rel_session.specs.Sessions.{Answers, Asks, Run, Runs, RunsLine, Session, begins_with_colon, fresh}
+use Rattle.rel_session.specs.Sessions.{Answers, Asks, Run, Runs, Session, begins_with_colon, fresh}
 use Rattle.rel_session.proofs.OneRun.{runs_once}
 use Rattle.desk_top.specs.declared.command.Command.{Command}
-use Rattle.desk_top.specs.declared.command.Command.TheVariants.{Qna, QnaWorld, Help}
-use Rattle.desk_top.specs.Said.{Did, DidDescribed}
+use Rattle.desk_top.specs.declared.command.Command.TheVariants.{Qna, QnaWorld, Check, Help}
+use Rattle.site_check.specs.declared.finding.Finding.TheVariants.{Good}
+use Rattle.site_check.specs.Lines.{finding_line}
+use Rattle.desk_top.proofs.Ends.{OneFinding, refusal_known}
+use Rattle.desk_top.specs.Said.{Did, DidDescribed, Refuses}
 use Rattle.desk_top.specs.Tellings.{telling}
-use Rattle.desk_top.specs.WorldInputs.{IsWorldInput}
+use Rattle.desk_top.specs.WorldInputs.{IsBadInput, IsWorldInput, bad_line}
 use Rattle.desk_top.proofs.Splitting.{one_split}
 
 -- how many of the lines are questions: each of these uses a moment
@@ -95,17 +99,36 @@ world_once input held a b looked keys others faults given after w rest is did w'
     let OfRest : List ℕ → Type 0 = λ l. DidDescribed w l (telling held looked faults given) (telling b others faults after) in
     described_once w rest held a b looked keys others faults given after did (subst OfRest same.1 (subst InWorld same.0 did'))
 
-pub bytes_once : (command : Command) (w : WorldState) (input held a b : List ℕ) (looked keys others : List Key) (faults : ℕ) (given after : List ℤ) → faults < 2 ^ 64 - 1
+pub bytes_once : OneFinding → (command : Command) (w : WorldState) (input held a b : List ℕ) (looked keys others : List Key) (faults : ℕ) (given after : List ℤ) → faults < 2 ^ 64 - 1
     → Did command (Some w) input (telling held looked faults given) (telling a keys faults after)
     → Did command (Some w) input (telling held looked faults given) (telling b others faults after) → a ≡ b
-bytes_once Qna w input held a b looked keys others faults given after below did did' =
+bytes_once one Qna w input held a b looked keys others faults given after below did did' =
     (qna_once w input held a b looked keys others faults given after below (did w refl) (did' w refl)).0
-bytes_once QnaWorld w input held a b looked keys others faults given after below (v, rest, is, did) (v', rest', is', did') =
+bytes_once one QnaWorld w input held a b looked keys others faults given after below (v, rest, is, did) (v', rest', is', did') =
     world_once input held a b looked keys others faults given after v rest is did v' rest' is' did'
-bytes_once Help w input held a b looked keys others faults given after below did did' = did ∙ sym did'
+bytes_once one Check w input held a b looked keys others faults given after below (fixlets, baselines, found, is) (fixlets', baselines', found', is') =
+    let same = one input (Good fixlets baselines) (Good fixlets' baselines') found found' (λ e. cc) (λ e. cc) in
+    is ∙ ap (λ f. held ++ finding_line f) same ∙ sym is'
+bytes_once one Help w input held a b looked keys others faults given after below did did' = did ∙ sym did'
 
 pub looks_once : (w : WorldState) (input held a b : List ℕ) (looked keys others : List Key) (faults : ℕ) (given after : List ℤ) → faults < 2 ^ 64 - 1
     → Did Qna (Some w) input (telling held looked faults given) (telling a keys faults after)
     → Did Qna (Some w) input (telling held looked faults given) (telling b others faults after) → keys ≡ others
 looks_once w input held a b looked keys others faults given after below did did' =
     (qna_once w input held a b looked keys others faults given after below (did w refl) (did' w refl)).1
+
+-- an input has one first bad line
+one_bad_line : (input : List ℕ) (m n : ℕ) → IsBadInput input m → IsBadInput input n → m ≡ n
+one_bad_line input m n (text, rest, splits, (i, first, is)) (text', rest', splits', bad') =
+    let Answers : List ℕ → Type 0 = λ t. AnswersBadLine AreWorldLines t n in
+    let same : text' ≡ text = one_split input text' rest' text rest splits' splits in
+    let bad = subst Answers same bad' in
+    is ∙ ap (λ k. min k (2 ^ 32 - 1)) (first_bad_line-one AreWorldLines text i bad.0 first bad.1) ∙ sym bad.2
+
+-- an input is refused in one way
+pub refusal_once : OneFinding → (command : Command) (input a b : List ℕ) → Refuses command input a → Refuses command input b → a ≡ b
+refusal_once one Qna input a b x y = absurd x
+refusal_once one QnaWorld input a b (m, bad, is) (n, bad', is') = is ∙ ap bad_line (one_bad_line input m n bad bad') ∙ sym is'
+refusal_once one Check input a b (f, found, refusal, is) (g, found', refusal', is') =
+    is ∙ ap finding_line (one input f g found found' (refusal_known f refusal) (refusal_known g refusal')) ∙ sym is'
+refusal_once one Help input a b x y = absurd x

@@ -1,16 +1,17 @@
 -- The table of commands.
 use Rattle.std.specs.Prelude.{◌≡◌, ⊤, ℕ, List, [], ◌∷◌, ◌++◌, codes, flat_map}
 use Rattle.desk_top.specs.declared.command.Command.{Command}
-use Rattle.desk_top.specs.declared.command.Command.TheVariants.{Qna, QnaWorld, Help}
+use Rattle.desk_top.specs.declared.command.Command.TheVariants.{Qna, QnaWorld, Check, Help}
 
 -- every command, in the order of the help
 abbrev pub commands : List Command
-commands = Qna ∷ QnaWorld ∷ Help ∷ []
+commands = Qna ∷ QnaWorld ∷ Check ∷ Help ∷ []
 
 -- the words of a command
 abbrev pub words_of : Command → List (List ℕ)
 words_of Qna = codes "qna" ∷ []
 words_of QnaWorld = codes "qna" ∷ codes "--world" ∷ []
+words_of Check = codes "check" ∷ []
 words_of Help = codes "--help" ∷ []
 
 -- the words ask for the command
@@ -33,6 +34,7 @@ IsNoCommand words = (command : Command) → ¬ Asks words command
 abbrev pub ReadsSource : Command → Type 0
 ReadsSource Qna = ⊤
 ReadsSource QnaWorld = ⊤
+ReadsSource Check = ⊤
 ReadsSource Help = ⊥
 
 -- what is written where the words are those of no command

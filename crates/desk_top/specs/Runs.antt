@@ -6,7 +6,7 @@ use Rattle.std.specs.declared.result.Result.TheVariants.{Ok, Err}
 use Rattle.std.specs.Io.KnownBytes.{Consumes, IsAtEnd, Keeps}
 use Rattle.desk_base.specs.Whole.{Took, TookAll}
 use Rattle.desk_top.specs.declared.command.Command.{Command}
-use Rattle.desk_top.specs.declared.command.Command.TheVariants.{Qna, QnaWorld, Help}
+use Rattle.desk_top.specs.declared.command.Command.TheVariants.{Qna, QnaWorld, Check, Help}
 use Rattle.desk_top.specs.declared.status.Status.{Status}
 use Rattle.desk_top.specs.declared.status.Status.TheVariants.{InputTooLong, Source, Memory}
 
@@ -18,6 +18,7 @@ input_limit = 8388608
 abbrev pub TookInput : Command → Option (List ℕ) → Option (List ℕ) → (List ℕ → Type 0) → Type 0
 TookInput Qna old new P = TookAll old new (λ input. (length input ≤ input_limit) × P input)
 TookInput QnaWorld old new P = TookAll old new (λ input. (length input ≤ input_limit) × P input)
+TookInput Check old new P = TookAll old new (λ input. (length input ≤ input_limit) × P input)
 TookInput Help old new P = Keeps old new × P []
 
 -- At most the limit was taken.

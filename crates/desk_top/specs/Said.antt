@@ -7,7 +7,11 @@ use Rattle.rel_session.specs.Lines.{lines_of}
 use Rattle.rel_session.specs.Sessions.{Run, Runs, IsFrontOfRun, fresh}
 use Rattle.rel_session.specs.Devices.{Devices, DidAll, DidFront}
 use Rattle.desk_top.specs.declared.command.Command.{Command}
-use Rattle.desk_top.specs.declared.command.Command.TheVariants.{Qna, QnaWorld, Help}
+use Rattle.desk_top.specs.declared.command.Command.TheVariants.{Qna, QnaWorld, Check, Help}
+use Rattle.site_check.specs.declared.finding.Finding.{Finding}
+use Rattle.site_check.specs.declared.finding.Finding.TheVariants.{Good, Memory}
+use Rattle.site_check.specs.Findings.{Finds}
+use Rattle.site_check.specs.Lines.{finding_line}
 use Rattle.desk_top.specs.Commands.{help_text}
 use Rattle.desk_top.specs.WorldInputs.{IsBadInput, IsWorldInput, bad_line}
 
@@ -25,28 +29,47 @@ DidDescribedFront w rest old new = (moments : List ℤ) × (front : List ℕ) ×
 abbrev pub Did : Command → Option WorldState → List ℕ → Devices → Devices → Type 0
 Did Qna world input old new = (w : WorldState) → world ≡ Some w → DidAll w (pos 0) fresh (lines_of input) None old new
 Did QnaWorld world input old new = (w : WorldState) × (rest : List ℕ) × IsWorldInput input w rest × DidDescribed w rest old new
+Did Check world input old new = (fixlets baselines : ℕ) × Finds input (Good fixlets baselines) × Appends old.held new.held (finding_line (Good fixlets baselines))
 Did Help world input old new = Appends old.held new.held help_text
+
+-- What is found in a site's text is a refusal.
+abbrev pub IsRefusal : Finding → Type 0
+IsRefusal (Good fixlets baselines) = ⊥
+IsRefusal Memory = ⊥
+IsRefusal _ = ⊤
+
+-- The command refuses the input, and this is what is said of it.
+abbrev pub Refuses : Command → List ℕ → List ℕ → Type 0
+Refuses Qna input line = ⊥
+Refuses QnaWorld input line = (number : ℕ) × IsBadInput input number × (line ≡ bad_line number)
+Refuses Check input line = (finding : Finding) × Finds input finding × IsRefusal finding × (line ≡ finding_line finding)
+Refuses Help input line = ⊥
+
+-- The command refuses the input, and P holds of what is said of it.
+abbrev pub IsRefused : Command → List ℕ → (List ℕ → Type 0) → Type 0
+IsRefused command input P = (line : List ℕ) × Refuses command input line × P line
 
 -- A front of it was written.
 abbrev pub Began : Command → Option WorldState → List ℕ → Devices → Devices → Type 0
 Began Qna world input old new = (w : WorldState) → world ≡ Some w → DidFront w (pos 0) fresh (lines_of input) None old new
 Began QnaWorld world input old new =
     ((w : WorldState) × (rest : List ℕ) × IsWorldInput input w rest × DidDescribedFront w rest old new)
-    ⊎ ((number : ℕ) × IsBadInput input number × AppendsFront old.held new.held (bad_line number))
+    ⊎ IsRefused QnaWorld input (AppendsFront old.held new.held)
+Began Check world input old new =
+    ((fixlets baselines : ℕ) × Finds input (Good fixlets baselines) × AppendsFront old.held new.held (finding_line (Good fixlets baselines)))
+    ⊎ IsRefused Check input (AppendsFront old.held new.held)
 Began Help world input old new = AppendsSome old.held new.held (IsFront help_text)
 
 -- The command asks the machine and the clock.
 abbrev pub AsksDevices : Command → Type 0
 AsksDevices Qna = ⊤
 AsksDevices QnaWorld = ⊥
+AsksDevices Check = ⊥
 AsksDevices Help = ⊥
 
--- The input is within the grammar that the command asks for. Each line of `qna` is.
+-- The input is one that the command does not refuse. Each line of `qna` is.
 abbrev pub IsGoodInput : Command → List ℕ → Type 0
 IsGoodInput Qna input = ⊤
 IsGoodInput QnaWorld input = (w : WorldState) × (rest : List ℕ) × IsWorldInput input w rest
+IsGoodInput Check input = (fixlets baselines : ℕ) × Finds input (Good fixlets baselines)
 IsGoodInput Help input = ⊤
-
--- P holds of some number
-abbrev pub IsSomeNumber : (ℕ → Type 0) → Type 0
-IsSomeNumber P = (number : ℕ) × P number

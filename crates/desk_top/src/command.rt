@@ -13,12 +13,19 @@ pub enum Command {
     Qna,
     /// The same of a described world, whose text the source begins with.
     QnaWorld,
+    /// What is wrong first with the site whose text the source is.
+    Check,
     /// The words of each command.
     Help,
 }
 
 /// Every command, in the order of the help.
-const COMMANDS: [Command; 3] = [Command::Qna, Command::QnaWorld, Command::Help];
+const COMMANDS: [Command; 4] = [
+    Command::Qna,
+    Command::QnaWorld,
+    Command::Check,
+    Command::Help,
+];
 
 impl Command {
     fn words(self) -> &'static [&'static str]
@@ -27,6 +34,7 @@ impl Command {
         match self {
             Command::Qna => &["qna"],
             Command::QnaWorld => &["qna", "--world"],
+            Command::Check => &["check"],
             Command::Help => &["--help"],
         }
     }

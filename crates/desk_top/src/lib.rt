@@ -1,6 +1,7 @@
 //! The program, from words and bytes to bytes and a status.
 #![tactic(auto)]
 
+mod checks;
 mod command;
 mod described;
 mod law;

@@ -3,9 +3,9 @@ ghost use Rattle.std.specs.Prelude.{◌≡◌, ◌≢◌, ◌≤◌, ◌⊎◌, 
 ghost use Rattle.std.specs.Io.KnownBytes.{Appends};
 ghost use Rattle.desk_base.specs.Counts.{Rose};
 ghost use Rattle.desk_base.specs.Flow.{AppendsFront};
-ghost use Rattle.desk_top.specs.Asked.{holding, IsMachineStatus, IsWorldStatus, IsDescribedStatus, IsRefusalStatus};
-ghost use Rattle.desk_top.specs.Said.{Began, Did, DidDescribed, DidDescribedFront, IsSomeNumber};
-ghost use Rattle.desk_top.specs.WorldInputs.{IsBadInput, bad_line};
+ghost use Rattle.desk_top.specs.Asked.{holding, IsMachineStatus, IsTextStatus, IsDescribedStatus, IsRefusalStatus};
+ghost use Rattle.desk_top.specs.Said.{Began, Did, DidDescribed, DidDescribedFront, IsRefused};
+ghost use Rattle.desk_top.specs.WorldInputs.{bad_line};
 ghost use Rattle.rel_session.specs.Devices.{devices_of};
 
 use crate::described::{DescribedMachine, NoClock};
@@ -58,13 +58,12 @@ pub(crate) fn ask_machine<W: Sink, M: Machine, C: Clock>(
 pub(crate) fn ask_world<W: Sink>(alloc: Global, input: &[u8], sink: &mut W) -> Status
     ensures done { result ≡ Status.Done → Did Command.QnaWorld None input.now
         (holding (W.held sink.old)) (holding (W.held sink.new)) }
-    ensures refused { result ≡ Status.Refused → IsSomeNumber (λ number. IsBadInput input.now number
-        × Appends (W.held sink.old) (W.held sink.new) (bad_line number)) }
+    ensures refused { result ≡ Status.Refused → IsRefused Command.QnaWorld input.now (Appends (W.held sink.old) (W.held sink.new)) }
     ensures sink_front { result ≡ Status.Sink → Began Command.QnaWorld None input.now
         (holding (W.held sink.old)) (holding (W.held sink.new)) }
     ensures memory { result ≡ Status.Memory → (sink.new ≡ sink.old) ⊎ Began Command.QnaWorld None input.now
         (holding (W.held sink.old)) (holding (W.held sink.new)) }
-    ensures status { IsWorldStatus result }
+    ensures status { IsTextStatus result }
     ensures later { W.faults sink.old ≤ W.faults sink.new }
     ensures failed { result ≡ Status.Sink → Rose (W.faults sink.old) (W.faults sink.new) }
     ensures steady { result ≢ Status.Sink → W.faults sink.new ≡ W.faults sink.old }

@@ -78,6 +78,27 @@ fn a_world_outside_its_grammar_is_refused(rt: HostRuntime) -> Result<(), Fail> {
 }
 
 #[test]
+fn a_good_site_is_counted(rt: HostRuntime) -> Result<(), Fail> {
+    let site: &[u8] =
+        b"site desk 1\nfixlet 1\ntitle Bring it\nrelevance true\nsuccess lines\nend\ndigest 18b9ec312e3ebb4d2873e4a4ea156cf9c639a225af1ea252fcc1988d9c12e506\n";
+    let outcome = run(rt.alloc(), &["check"], site, &[], &[])?;
+    assert_eq!(rt; outcome.status, Status::Done);
+    assert_eq!(rt; outcome.written.as_slice(), b"ok 1 0\n".as_slice());
+    Ok(())
+}
+
+#[test]
+fn a_site_with_a_fault_is_refused(rt: HostRuntime) -> Result<(), Fail> {
+    let outcome = run(rt.alloc(), &["check"], b"sit desk 1\n", &[], &[])?;
+    assert_eq!(rt; outcome.status, Status::Refused);
+    assert_eq!(rt; outcome.written.as_slice(), b"20 line 1\n".as_slice());
+    let outcome = run(rt.alloc(), &["check"], b"sit desk 1\n", &[], &[1])?;
+    assert_eq!(rt; outcome.status, Status::Sink);
+    assert_eq!(rt; outcome.written.as_slice(), b"".as_slice());
+    Ok(())
+}
+
+#[test]
 fn a_clock_without_a_moment_ends_the_run(rt: HostRuntime) -> Result<(), Fail> {
     let outcome = run(rt.alloc(), &["qna"], b":more\n1\n", &[], &[])?;
     assert_eq!(rt; outcome.status, Status::Clock);
@@ -113,7 +134,7 @@ fn the_help_leaves_the_source_as_it_was(rt: HostRuntime) -> Result<(), Fail> {
     assert_eq!(rt; outcome.status, Status::Done);
     assert_eq!(rt;
         outcome.written.as_slice(),
-        b"desk qna\ndesk qna --world\ndesk --help\n".as_slice()
+        b"desk qna\ndesk qna --world\ndesk check\ndesk --help\n".as_slice()
     );
     let mut room = [0u8; 4];
     assert_eq!(rt; outcome.source.read(&mut room), Got::Some(2));

@@ -4,11 +4,11 @@ ghost use Rattle.desk_base.specs.Counts.{Rose, CountsAtMost};
 ghost use Rattle.desk_base.specs.Flow.{AppendsFront, AppendsSome, IsFront};
 ghost use Rattle.desk_top.specs.Commands.{Asks, AsksSome, IsNoCommand, ReadsSource, usage_line, help_text};
 ghost use Rattle.desk_top.specs.Runs.{input_limit, ReadsInput, TookInput, TookPart, TookTooMuch};
-ghost use Rattle.desk_top.specs.Said.{AsksDevices, Began, Did, IsGoodInput, IsSomeNumber};
+ghost use Rattle.desk_top.specs.Said.{AsksDevices, Began, Did, IsGoodInput, IsRefused};
 ghost use Rattle.desk_top.specs.Statuses.{IsStatusSoFar};
-ghost use Rattle.desk_top.specs.WorldInputs.{IsBadInput, bad_line};
 ghost use Rattle.rel_session.specs.Devices.{devices_of};
 
+use crate::checks::check_input;
 use crate::command::{Command, command_of, help};
 use crate::questions::{ask_machine, ask_world};
 use crate::status::Status;
@@ -43,10 +43,11 @@ pub fn desk<S: Source, W: Sink, M: Machine, C: Clock>(
     ensures usage_comes { IsNoCommand words.now → (result ≡ Status.Usage)
         ⊎ ((result ≡ Status.Sink) × AppendsFront (W.held sink.old) (W.held sink.new) usage_line) }
 
-    // The world text of `qna --world` is outside its grammar, and its first bad line was written alone.
-    ensures refused { result ≡ Status.Refused → Asks words.now Command.QnaWorld
-        × TookInput Command.QnaWorld (S.left source.old) (S.left source.new) (λ input.
-        IsSomeNumber (λ number. IsBadInput input number × Appends (W.held sink.old) (W.held sink.new) (bad_line number))) }
+    // The world text of `qna --world` is outside its grammar, or something is wrong with the site of `check`: what is said of that was
+    // written alone.
+    ensures refused { result ≡ Status.Refused → AsksSome words.now (λ command.
+        TookInput command (S.left source.old) (S.left source.new) (λ input.
+        IsRefused command input (Appends (W.held sink.old) (W.held sink.new)))) }
 
     // The source failed while it was read, and nothing was written or asked.
     ensures source { result ≡ Status.Source → AsksSome words.now ReadsSource
@@ -84,14 +85,14 @@ pub fn desk<S: Source, W: Sink, M: Machine, C: Clock>(
         → (result ≡ Status.InputTooLong) ⊎ (result ≡ Status.Memory) }
 
     // Where the words are of the table, the source tells no more bytes than it may, and nothing failed, it is done, unless memory
-    // ran out; or refused, where the input is outside the grammar that the command asks for.
+    // ran out; or refused, where the input is none that the command takes.
     ensures complete { (command : Command) → Asks words.now command
         → IsSomeAnd (S.left source.old) (λ input. (length input ≤ input_limit) × IsGoodInput command input)
         → ¬ Rose (S.faults source.old) (S.faults source.new) → ¬ Rose (W.faults sink.old) (W.faults sink.new)
         → ¬ Rose (C.faults clock.old) (C.faults clock.new)
         → (result ≡ Status.Done) ⊎ (result ≡ Status.Memory) }
-    ensures refused_comes { Asks words.now Command.QnaWorld
-        → IsSomeAnd (S.left source.old) (λ input. (length input ≤ input_limit) × ¬ IsGoodInput Command.QnaWorld input)
+    ensures refused_comes { (command : Command) → Asks words.now command
+        → IsSomeAnd (S.left source.old) (λ input. (length input ≤ input_limit) × ¬ IsGoodInput command input)
         → ¬ Rose (S.faults source.old) (S.faults source.new) → ¬ Rose (W.faults sink.old) (W.faults sink.new)
         → (result ≡ Status.Refused) ⊎ (result ≡ Status.Memory) }
 
@@ -132,6 +133,10 @@ pub fn desk<S: Source, W: Sink, M: Machine, C: Clock>(
         },
         Command::QnaWorld => match read_input(alloc, source) {
             Ok(input) => ask_world(alloc, input.as_slice(), sink),
+            Err(status) => status,
+        },
+        Command::Check => match read_input(alloc, source) {
+            Ok(input) => check_input(alloc, input.as_slice(), sink),
             Err(status) => status,
         },
     }

@@ -1,0 +1,66 @@
+// What is wrong first with a site.
+ghost use Rattle.std.specs.Prelude.{◌≡◌, ◌≢◌, ◌≤◌, ◌⊎◌, None, IsErrOf, MatchResult};
+ghost use Rattle.std.specs.Io.KnownBytes.{Appends};
+ghost use Rattle.desk_base.specs.Counts.{Rose};
+ghost use Rattle.desk_base.specs.Flow.{AppendsFront};
+ghost use Rattle.site_check.specs.Lines.{finding_line};
+ghost use Rattle.desk_top.specs.Asked.{holding, status_of_finding, IsTextStatus};
+ghost use Rattle.desk_top.specs.Said.{Began, Did, IsGoodInput, IsRefused};
+
+use crate::{Command, Status};
+use desk_base::{Bytes, Sink};
+use rel_session::{Halt, put};
+use site_check::{Finding, check_site, one_finding, say_finding};
+use std::alloc::Global;
+
+/// Writes what is found first in the text of a site.
+pub(crate) fn check_input<W: Sink>(alloc: Global, input: &[u8], sink: &mut W) -> Status
+    ensures done { result ≡ Status.Done → Did Command.Check None input.now
+        (holding (W.held sink.old)) (holding (W.held sink.new)) }
+    ensures refused { result ≡ Status.Refused → IsRefused Command.Check input.now (Appends (W.held sink.old) (W.held sink.new)) }
+    ensures apart { result ≡ Status.Refused → ¬ IsGoodInput Command.Check input.now }
+    ensures sink_front { result ≡ Status.Sink → Began Command.Check None input.now
+        (holding (W.held sink.old)) (holding (W.held sink.new)) }
+    ensures memory { result ≡ Status.Memory → (sink.new ≡ sink.old) ⊎ Began Command.Check None input.now
+        (holding (W.held sink.old)) (holding (W.held sink.new)) }
+    ensures status { IsTextStatus result }
+    ensures later { W.faults sink.old ≤ W.faults sink.new }
+    ensures failed { result ≡ Status.Sink → Rose (W.faults sink.old) (W.faults sink.new) }
+    ensures steady { result ≢ Status.Sink → W.faults sink.new ≡ W.faults sink.old }
+{
+    one_finding();
+    let finding = check_site(alloc, input);
+    let Some(status) = status_of_finding(&finding) else {
+        return Status::Memory;
+    };
+    match write_finding(alloc, &finding, sink) {
+        Ok(()) => status,
+        Err(halt) => Status::of_halt(halt),
+    }
+}
+
+/// The status with which a check ends once its finding was written. None for want of memory, of which nothing is written.
+fn status_of_finding(finding: &Finding) -> Option<Status>
+    ensures { result ≡ status_of_finding finding.now }
+{
+    match finding {
+        Finding::Good { .. } => Some(Status::Done),
+        Finding::Memory => None,
+        _ => Some(Status::Refused),
+    }
+}
+
+/// Writes the line that tells a finding.
+fn write_finding<W: Sink>(alloc: Global, finding: &Finding, sink: &mut W) -> Result<(), Halt>
+    ensures written { MatchResult result
+        (λ _. Appends (W.held sink.old) (W.held sink.new) (finding_line finding.now))
+        (λ _. AppendsFront (W.held sink.old) (W.held sink.new) (finding_line finding.now)) }
+    ensures later { W.faults sink.old ≤ W.faults sink.new }
+    ensures failed { IsErrOf result Halt.Sink → Rose (W.faults sink.old) (W.faults sink.new) }
+    ensures steady { ¬ IsErrOf result Halt.Sink → W.faults sink.new ≡ W.faults sink.old }
+    ensures never { ¬ IsErrOf result Halt.Clock }
+{
+    let mut line = Bytes::new(alloc);
+    say_finding(finding, &mut line)?;
+    put(sink, line.as_slice())
+}
