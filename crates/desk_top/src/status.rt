@@ -10,7 +10,7 @@ pub enum Status {
     Done,
     /// The words are none of the table's.
     Usage,
-    /// The input is outside its grammar.
+    /// The command refuses its input.
     Refused,
     /// The source failed.
     Source,

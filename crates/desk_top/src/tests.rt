@@ -118,6 +118,25 @@ fn a_source_that_fails_leaves_nothing_written(rt: HostRuntime) -> Result<(), Fai
 }
 
 #[test]
+fn a_sink_that_fails_later_holds_what_was_said(rt: HostRuntime) -> Result<(), Fail> {
+    let input: &[u8] =
+        b"world\nname pc1\nsystem 12.4 Debian\noffset 0\nmoment 0\nend\n1 + 1\n2 + 2\n";
+    let outcome = run(rt.alloc(), &["qna", "--world"], input, &[], &[2])?;
+    assert_eq!(rt; outcome.status, Status::Sink);
+    assert_eq!(rt; outcome.written.as_slice(), b"Q: 1 + 1\nA: 2\n".as_slice());
+    Ok(())
+}
+
+#[test]
+fn a_source_that_is_too_long_is_not_answered(rt: HostRuntime) -> Result<(), Fail> {
+    let long = vec![in rt.alloc(); b'1'; 8_388_609]?;
+    let outcome = run(rt.alloc(), &["qna"], &long, &[], &[])?;
+    assert_eq!(rt; outcome.status, Status::InputTooLong);
+    assert_eq!(rt; outcome.written.as_slice(), b"".as_slice());
+    Ok(())
+}
+
+#[test]
 fn other_words_are_answered_by_the_usage(rt: HostRuntime) -> Result<(), Fail> {
     let outcome = run(rt.alloc(), &["qna", "qna"], b"1\n", &[], &[])?;
     assert_eq!(rt; outcome.status, Status::Usage);

@@ -10,8 +10,8 @@ use rel_trace::RelKind;
 use script_text::ScriptError;
 use std::alloc::AllocError;
 
-/// Appends the line that tells a finding. Memory has none, and appends nothing. At an error, which is want of memory, a front may
-/// be appended.
+/// Appends the line that tells a finding; Memory has none, and appends nothing. The error is want of memory, after which `out` is of
+/// no use.
 pub fn say_finding(finding: &Finding, out: &mut Bytes) -> Result<(), AllocError>
     ensures { OnOk result (out.new ≡ out.old ++ finding_line finding.now) }
 {

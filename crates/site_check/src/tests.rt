@@ -25,7 +25,11 @@ fn each_is_said(alloc: Global, rows: &[Row]) -> Result<(), Fail> {
 
 #[test]
 fn texts_as_a_whole(rt: HostRuntime) -> Result<(), Fail> {
-    let rows: [Row; 5] = [
+    let rows: [Row; 6] = [
+        (
+            b"site desk 1\nfixlet 1\ntitle Bring agentd to 1.2\nrelevance exists packages whose (name of it = \"agentd\" and version of it < \"1.2\")\nrelevance not exists lines containing \"mode=new\" of file \"/etc/agentd/conf\"\nsuccess relevance\n| delete __createfile\n| createfile until EOF\n| mode=new\n| host={computer name}\n| EOF\n| delete /etc/agentd/conf\n| copy \"__createfile\" \"/etc/agentd/conf\"\n| wait upgrade agentd\n| continue if {exit code of action = 0}\n",
+            b"20 line 16\n",
+        ),
         (
             b"site desk 1\nfixlet 1\ntitle T\nsuccess lines\nend\ndigest 367ec6c0118051269c0841b11265c4d1775e904d9c5a610ae066719354930ec5\n",
             b"ok 1 0\n",
