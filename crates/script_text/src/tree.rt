@@ -41,6 +41,39 @@ pub struct ArmList {
     items: Vec<Arm>,
 }
 
+impl Statement {
+    /// The same statement once more.
+    #[cycle(copy)]
+    pub fn copy(&self) -> Result<Statement, AllocError>
+        ensures { IfOk result (λ statement. shown_statement statement ≡ shown_statement self.now) }
+    {
+        match self {
+            Statement::Do { line, what } => Ok(Statement::Do {
+                line: *line,
+                what: what.copy()?,
+            }),
+            Statement::If { arms, other } => Ok(Statement::If {
+                arms: arms.copy()?,
+                other: other.copy()?,
+            }),
+        }
+    }
+}
+
+impl Arm {
+    /// The same arm once more.
+    #[cycle(copy)]
+    pub fn copy(&self) -> Result<Arm, AllocError>
+        ensures { IfOk result (λ arm. shown_arm arm ≡ shown_arm self.now) }
+    {
+        Ok(Arm {
+            line: self.line,
+            test: self.test.copy()?,
+            body: self.body.copy()?,
+        })
+    }
+}
+
 impl StatementList {
     /// Takes no memory.
     pub fn from_vec(statements: Vec<Statement>) -> StatementList
@@ -75,6 +108,18 @@ impl StatementList {
     {
         self.items.push(statement)?;
         Ok(())
+    }
+
+    /// The same statements once more.
+    #[cycle(copy)]
+    pub fn copy(&self) -> Result<StatementList, AllocError>
+        ensures { IfOk result (λ list. shown_statements list ≡ shown_statements self.now) }
+    {
+        let mut copies = StatementList::new(*self.items.allocator());
+        for statement in &self.items {
+            copies.push(statement.copy()?)?;
+        }
+        Ok(copies)
     }
 }
 
@@ -112,5 +157,17 @@ impl ArmList {
     {
         self.items.push(arm)?;
         Ok(())
+    }
+
+    /// The same arms once more.
+    #[cycle(copy)]
+    pub fn copy(&self) -> Result<ArmList, AllocError>
+        ensures { IfOk result (λ list. shown_arms list ≡ shown_arms self.now) }
+    {
+        let mut copies = ArmList::new(*self.items.allocator());
+        for arm in &self.items {
+            copies.push(arm.copy()?)?;
+        }
+        Ok(copies)
     }
 }
