@@ -310,53 +310,22 @@ fn statements_stand_in_arms(rt: HostRuntime) -> Result<(), Fail> {
     Ok(())
 }
 
+/// All of a script as `Debug` writes it.
+fn written(alloc: Global, script: &Script) -> Result<String, Fail> {
+    let mut out = String::new(alloc);
+    write!(out, "{:?}", script)?;
+    Ok(out)
+}
+
 #[test]
 fn a_copy_has_each_statement(rt: HostRuntime) -> Result<(), Fail> {
     let mut lines = Text::from_str(rt.alloc(), FETCH)?;
     lines.push("\nif {a}\ncreatefile until E\nx {b}\n\nE\nelse\nwait z\nendif\nrun w")?;
-    let script = read(rt.alloc(), lines.as_str())?.copy()?;
-    let prefetch = script.prefetches.as_slice().first();
-    assert_eq!(rt; prefetch.ok_or("nothing is fetched")?.size, 3);
-    let list = script.statements.as_slice();
-    assert_eq!(rt; list.len(), 2);
-    let Some(Statement::If { arms, other }) = list.first() else {
-        return Err("no if".into());
-    };
-    let arms = arms.as_slice();
-    assert_eq!(rt; arms.len(), 1);
-    assert_eq!(rt; arms[0].line, 2);
-    assert_eq!(rt; arms[0].test.as_str(), "a");
-    let Some(
-        Statement::Do {
-            line: 3,
-            what: Line::Create(file),
-        },
-    ) = arms[0].body.as_slice().first()
-    else {
-        return Err("no file".into());
-    };
-    assert_eq!(rt; file.as_slice().len(), 2);
-    let mut out = Text::from_str(rt.alloc(), "")?;
-    print(&mut out, &file.as_slice()[0])?;
-    assert_eq!(rt; out.as_str(), "x |[b]|");
-    let Some(
-        Statement::Do {
-            line: 8,
-            what: Line::Wait(_),
-        },
-    ) = other.as_slice().first()
-    else {
-        return Err("no wait".into());
-    };
-    let Some(
-        Statement::Do {
-            line: 10,
-            what: Line::Run(_),
-        },
-    ) = list.last()
-    else {
-        return Err("no run".into());
-    };
+    let script = read(rt.alloc(), lines.as_str())?;
+    let copied = script.copy()?;
+    assert_eq!(rt; copied.statements.as_slice().len(), 2);
+    let copied = written(rt.alloc(), &copied)?;
+    assert_eq!(rt; copied.as_str(), written(rt.alloc(), &script)?.as_str());
     Ok(())
 }
 
