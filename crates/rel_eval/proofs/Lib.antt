@@ -1,7 +1,9 @@
 pub mod OnePlan
 pub mod Untyped
 pub mod Skips
-pub mod Moves
+pub mod Stops
+pub mod Drawn
+pub mod Causes
 pub mod Nearer
 pub mod Uses
 pub mod Singles

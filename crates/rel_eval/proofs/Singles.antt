@@ -14,6 +14,7 @@ use Rattle.rel_trace.specs.declared.kind.RelKind.TheVariants.{Nonexistent, NonUn
 use Rattle.rel_trace.specs.Draws.{single, single_from}
 use Rattle.rel_trace.specs.Steps.{LooksAt}
 use Rattle.rel_trace.specs.Trace.{End, Stop, Error, Event, Look, Turn, Give, Trace, Ends, After, none, one, follow, each}
+use Rattle.rel_nodes.specs.Steps.{prepend, gives}
 use Rattle.rel_eval.specs.declared.one_value.OneValue.{OneValue}
 use Rattle.rel_eval.specs.declared.one_value.OneValue.TheVariants as drawn
 use Rattle.rel_eval.specs.declared.cursor.Pulled.{Pulled}
@@ -23,9 +24,10 @@ use Rattle.rel_eval.specs.declared.told.Truth.TheVariants as truth
 use Rattle.rel_eval.specs.declared.told.OneText.{OneText}
 use Rattle.rel_eval.specs.declared.told.OneText.TheVariants as one_text
 use Rattle.rel_eval.specs.Ones.{Ones, TellsOne}
-use Rattle.rel_eval.specs.Pulls.{prepend, keys, gives, Draws, Pulls, Skips}
+use Rattle.rel_eval.specs.Pulls.{Draws, Pulls, Skips}
 use Rattle.rel_eval.specs.Singles.{Judges, TellsTruth, TellsText, Words}
-use Rattle.rel_eval.proofs.Skips.{same_skips, skips_skips, grows_grows, grows_none}
+use Rattle.rel_nodes.proofs.Stretches.{grows_grows, grows_none}
+use Rattle.rel_eval.proofs.Skips.{same_skips, skips_skips}
 
 single_over : (p : Place) (held : Option Plain) (es : List Event) (u : Trace) → gives es ≡ [] → single_from p held (prepend es u) ≡ prepend es (single_from p held u)
 single_over p held [] u h = refl

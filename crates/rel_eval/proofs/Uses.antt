@@ -12,11 +12,13 @@ use Rattle.rel_eval.specs.declared.cursor.Pulled.TheVariants as pulled
 use Rattle.rel_eval.specs.declared.taker.Ended.TheVariants as ended
 use Rattle.rel_value.specs.Plain.{Plain}
 use Rattle.rel_trace.specs.Trace.{Stop, Error, Event, Give, Trace, Ends, After}
+use Rattle.rel_nodes.specs.Steps.{prepend, keys, gives}
 use Rattle.rel_eval.specs.declared.taker.Take.{Take}
 use Rattle.rel_eval.specs.declared.taker.Take.TheVariants as take
 use Rattle.rel_eval.specs.Answers.{Answers, Takes, Took, Uses, UsesToLast}
-use Rattle.rel_eval.specs.Pulls.{prepend, keys, gives, Draws, Skips}
-use Rattle.rel_eval.proofs.Skips.{prepend_append, keys_append, gives_append, same_skips, grows_none, grows_grows}
+use Rattle.rel_eval.specs.Pulls.{Draws, Skips}
+use Rattle.rel_nodes.proofs.Stretches.{prepend_append, keys_append, gives_append, grows_none, grows_grows}
+use Rattle.rel_eval.proofs.Skips.{same_skips}
 
 -- one value more
 pub took_more : {T : Type 0} (takes : Takes T) (old t new : T) (vs : List Plain) (v : Plain) → Took takes old vs t → takes t v take.More new → Took takes old (vs ++ v ∷ []) new

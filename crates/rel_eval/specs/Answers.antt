@@ -7,6 +7,7 @@ use Rattle.bf_world.specs.declared.key.Key.{Key}
 use Rattle.rel_value.specs.Plain.{Plain}
 use Rattle.rel_trace.specs.Steps.{LooksAt}
 use Rattle.rel_trace.specs.Trace.{Stop, Error, Event, Give, Trace, Ends, After}
+use Rattle.rel_nodes.specs.Steps.{prepend, keys, gives}
 use Rattle.rel_eval.specs.declared.question.Question.{Question}
 use Rattle.rel_eval.specs.declared.refusal.Refusal.{Refusal}
 use Rattle.rel_eval.specs.declared.refusal.Refusal.TheVariants.{At, NotDefined, Memory}
@@ -15,7 +16,6 @@ use Rattle.rel_eval.specs.declared.taker.Ended.TheVariants as ended
 use Rattle.rel_eval.specs.declared.taker.Take.{Take}
 use Rattle.rel_eval.specs.declared.taker.Take.TheVariants as take
 use Rattle.rel_eval.specs.Questions.{IsPlanOf, IsRefusedAs, IsUndefined, plan_of}
-use Rattle.rel_eval.specs.Pulls.{prepend, keys, gives}
 
 -- A question comes exactly where the text is one, with its plan, and a refusal exactly as the text is refused.
 abbrev pub Prepares : List ℕ → Result Question Refusal → Type 0

@@ -3,7 +3,7 @@ pub mod Questions
 pub mod Cuts
 pub mod Pulls
 pub mod Cursors
-pub mod Moves
+pub mod Stops
 pub mod Answers
 pub mod Ones
 pub mod Singles

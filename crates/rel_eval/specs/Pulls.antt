@@ -1,33 +1,14 @@
 -- What is used up of a trace, by positions: the events from one place to another.
-use Rattle.std.specs.Prelude.{◌≡◌, List, [], ◌∷◌}
+use Rattle.std.specs.Prelude.{◌≡◌, List, []}
 use Rattle.std.specs.declared.option.Option.{Option}
 use Rattle.bf_machine.specs.Told.{Grows}
 use Rattle.bf_world.specs.declared.key.Key.{Key}
-use Rattle.rel_value.specs.Plain.{Plain}
 use Rattle.rel_value.specs.Views.{shown}
 use Rattle.rel_trace.specs.Steps.{LooksAt}
-use Rattle.rel_trace.specs.Trace.{Stop, Error, Event, Look, Turn, Give, Trace, Ends, After}
+use Rattle.rel_trace.specs.Trace.{Stop, Error, Event, Give, Trace, Ends, After}
+use Rattle.rel_nodes.specs.Steps.{prepend, keys, gives}
 use Rattle.rel_eval.specs.declared.cursor.Pulled.{Pulled}
 use Rattle.rel_eval.specs.declared.cursor.Pulled.TheVariants as pulled
-
--- events, and then a trace
-abbrev pub prepend : List Event → Trace → Trace
-prepend [] t = t
-prepend (e ∷ es) t = After e (prepend es t)
-
--- the keys of the looks among events
-abbrev pub keys : List Event → List Key
-keys [] = []
-keys (Look p k ∷ es) = k ∷ keys es
-keys (Turn p ∷ es) = keys es
-keys (Give v ∷ es) = keys es
-
--- the values among events
-abbrev pub gives : List Event → List Plain
-gives [] = []
-gives (Look p k ∷ es) = gives es
-gives (Turn p ∷ es) = gives es
-gives (Give v ∷ es) = v ∷ gives es
 
 -- from one place of a trace to a later one, with no value between them, and these are the keys of the looks between them
 pub record Skips (t : Trace) (looks : List Key) (later : Trace) : Type 0 where

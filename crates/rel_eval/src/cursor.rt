@@ -1,12 +1,13 @@
-ghost use Rattle.std.specs.Prelude.{◌≡◌, ◌≢◌, ◌≤◌, ◌+◌, ◌*◌, ℕ, List, [], Some};
+ghost use Rattle.std.specs.Prelude.{◌≡◌, ◌≢◌, ◌≤◌, ℕ, List, [], Some};
 ghost use Rattle.bf_world.specs.declared.key.Key.{Key};
 ghost use Rattle.bf_world.specs.Worlds.{WorldState};
-ghost use Rattle.rel_eval.specs.Cursors.{AsState, GivesSound, HasCause, Nearer, after_pull, cursor_rest, weight};
 ghost use Rattle.rel_trace.specs.Steps as steps;
 ghost use Rattle.rel_trace.specs.Trace.{Trace};
+ghost use Rattle.rel_nodes.specs.Steps.{IsStop, has_room};
+ghost use Rattle.rel_eval.specs.Cursors.{AsState, GivesSound, HasCause, Nearer, after_pull, cursor_rest, weight};
 ghost use Rattle.rel_eval.specs.Cuts.{cut, limit};
-ghost use Rattle.rel_eval.specs.Moves.{IsNotClosed, Moves, MovesNearer, OnOut, Went, has_room, open_rest};
 ghost use Rattle.rel_eval.specs.Pulls.{Draws};
+ghost use Rattle.rel_eval.specs.Stops.{IsNotClosed, Meets};
 
 use crate::sound_scene::SoundScene;
 use bf_machine::Machine;
@@ -66,13 +67,6 @@ pub struct Cursor {
     alloc: Global,
 }
 
-/// One step of a pull: on, or out of it.
-#[derive(Drop)]
-enum Moved {
-    On,
-    Out(Pulled),
-}
-
 impl Cursor {
     /// A cursor over a node that is at its beginning.
     pub(crate) fn new(alloc: Global, node: Node, scene: SoundScene) -> Cursor
@@ -111,75 +105,38 @@ impl Cursor {
             State::Erred(kind, place) => return Pulled::Error(kind, place),
             State::Shut => return Pulled::Closed,
         }
-        loop {
-            match self.advance(machine) {
-                Moved::On => {}
-                Moved::Out(pulled) => {
-                    self.state = pulled.state();
-                    return pulled;
-                }
-            }
-        }
-    }
-
-    /// One step of an open cursor.
-    fn advance<M: Machine>(&mut self, machine: &mut M) -> Moved
-        requires { self.old.state ≡ State.Open }
-        ensures goes { (w : WorldState) → M.world machine.old ≡ Some w
-            → Went (M.looked machine.old) (open_rest w self.old) result (M.looked machine.new) (open_rest w self.new) }
-        ensures state { self.new.state ≡ State.Open }
-        ensures out { OnOut result IsNotClosed }
-        ensures sound { OnOut result GivesSound }
-        ensures nearer { MovesNearer result (weight self.old) (weight self.new) }
-        ensures cause { OnOut result (HasCause (M.faults machine.old) (M.faults machine.new)) }
-        ensures later { M.faults machine.old ≤ M.faults machine.new }
-        ensures world { M.world machine.new ≡ M.world machine.old }
-        ensures acted { M.acted machine.new ≡ M.acted machine.old }
-        ensures started { M.started machine.new ≡ M.started machine.old }
-    {
-        let room = self.left > 0;
         let kept = &self.scene;
+        let left = &mut self.left;
         let step = self
             .node
-            .step(self.alloc, ALONE, &kept.scene, machine, room);
-        within_limit(step, &mut self.left)
+            .step(self.alloc, ALONE, &kept.scene, machine, left);
+        let pulled = into_pulled(step, self.left);
+        self.state = pulled.state();
+        pulled
     }
 }
 
-/// What a step of the node is to a pull that may still make so many looks and turns.
-fn within_limit(step: Step, left: &mut u64) -> Moved
-    requires { steps.AsRoom (has_room left.old) step }
-    ensures goes { (t u : Trace) (looks : List Key) → steps.Goes [] t step looks u
-        → Moves (cut left.old t) result looks (cut left.new u) }
-    ensures out { OnOut result IsNotClosed }
-    ensures sound { OnOut result GivesSound }
-    ensures nearer { (most q r : ℕ) → steps.Falls step q r → r ≤ most
-        → MovesNearer result (left.old * (most + 1) + q) (left.new * (most + 1) + r) }
-    ensures cause { (before now : ℕ) → steps.HasCause before now step → OnOut result (HasCause before now) }
+/// What the step at which a node stopped is to a pull, with so many looks and turns left: a turn or a look more is one too many.
+fn into_pulled(step: Step, left: u64) -> Pulled
+    requires stop { IsStop left step }
+    requires room { steps.AsRoom (has_room left) step }
+    ensures meets { (t u : Trace) (looks : List Key) → steps.Goes [] t step looks u
+        → (looks ≡ []) × Meets (cut left t) result (cut left u) }
+    ensures not_closed { IsNotClosed result }
+    ensures sound { GivesSound result }
+    ensures nearer { (q r : ℕ) → steps.Falls step q r → Nearer result q r }
+    ensures cause { (before now : ℕ) → steps.HasCause before now step → HasCause before now result }
 {
     match step {
-        Step::Quiet => Moved::On,
-        Step::Looked(place) => counted(left, place),
-        Step::Turned(place) => counted(left, place),
-        Step::Given(value) => Moved::Out(Pulled::Value(value.into_value())),
-        Step::Over => Moved::Out(Pulled::End),
-        Step::Erred(kind, place) => Moved::Out(Pulled::Error(kind, place)),
-        Step::Full(place) => Moved::Out(Pulled::Error(RelKind::Steps, place)),
-        Step::Failed(place) => Moved::Out(Pulled::Failed(place)),
-        Step::Memory => Moved::Out(Pulled::Memory),
+        Step::Given(value) => Pulled::Value(value.into_value()),
+        Step::Over => Pulled::End,
+        Step::Erred(kind, place) => Pulled::Error(kind, place),
+        Step::Turned(place) => Pulled::Error(RelKind::Steps, place),
+        Step::Full(place) => Pulled::Error(RelKind::Steps, place),
+        Step::Failed(place) => Pulled::Failed(place),
+        Step::Memory => Pulled::Memory,
+        Step::Quiet | Step::Looked(_) => unreachable!(),
     }
-}
-
-/// A look or a turn at this place is counted. One too many ends the question.
-fn counted(left: &mut u64, place: Place) -> Moved
-    ensures full { left.old ≡ 0 → result ≡ Moved.Out (Pulled.Error RelKind.Steps place) }
-    ensures room { left.old ≢ 0 → (result ≡ Moved.On) × (left.new + 1 ≡ left.old) }
-{
-    if *left == 0 {
-        return Moved::Out(Pulled::Error(RelKind::Steps, place));
-    }
-    *left -= 1;
-    Moved::On
 }
 
 impl Pulled {

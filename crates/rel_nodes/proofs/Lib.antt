@@ -9,7 +9,10 @@ pub mod Made
 pub mod HeldParts
 pub mod Folding
 pub mod Means
+pub mod Stretches
 pub mod Going
+pub mod Passing
+pub mod Pures
 pub mod Levels
 pub mod Parts
 pub mod Walked

@@ -1,5 +1,5 @@
 -- A node never has more quiet steps before it than its plan allows.
-use Rattle.std.proofs.Common.{ℕ, ◌≡◌, ◌+◌, ◌*◌, ◌≤◌, arith, sym, subst, Bool, true, false, Option, Some, None}
+use Rattle.std.proofs.Common.{ℕ, ◌≡◌, ◌+◌, ◌*◌, ◌≤◌, ◌<◌, arith, sym, subst, Bool, true, false, Option, Some, None}
 use Rattle.rel_trace.specs.declared.choice.Choice.{Choice}
 use Rattle.rel_trace.specs.declared.choice.Choice.TheVariants as choice
 use Rattle.rel_trace.specs.declared.handing.Handing.{Handing}
@@ -17,10 +17,13 @@ use Rattle.rel_trace.specs.Ones.{draw_done, one_quiet, zero_if}
 use Rattle.rel_trace.specs.Twos.{begun_quiet, half_quiet, handing_quiet, holds, sequence_quiet, then_quiet, two_kind, two_quiet}
 use Rattle.rel_trace.specs.Choices.{branch_quiet, choice_quiet}
 use Rattle.rel_nodes.specs.declared.walking.Walking.{Walking}
+use Rattle.rel_nodes.specs.declared.pure.Pure.{Pure}
+use Rattle.rel_nodes.specs.declared.pure.Pure.TheVariants as pure
 use Rattle.rel_nodes.specs.declared.node.Node.{Node}
 use Rattle.rel_nodes.specs.declared.node.Node.TheVariants as node
-use Rattle.rel_nodes.specs.Nodes.{shape}
+use Rattle.rel_nodes.specs.Nodes.{pure_shape, shape}
 use Rattle.rel_nodes.specs.Measure.{two_cap, cap, property_quiet, quiet}
+use Rattle.rel_nodes.proofs.Going.{nearer}
 use Rattle.rel_nodes.proofs.Walked.{values_le}
 
 zero_if_le : (b : Bool) (n : ℕ) → zero_if b n ≤ n
@@ -93,15 +96,27 @@ property_le : (walk : Option Walking) → property_quiet walk ≤ 2
 property_le None = omega arith
 property_le (Some g) = omega (arith, values_le g.walk)
 
+one_le_pure : (x : Pure) → 1 ≤ cap (pure_shape x)
+one_le_pure (pure.Constant v) = omega arith
+one_le_pure pure.It = omega arith
+one_le_pure pure.Left = omega arith
+one_le_pure (pure.Applied' p part apply) = omega arith
+one_le_pure (pure.Single' p part place) = omega arith
+one_le_pure (pure.Joined' p first q second) = omega arith
+
 pub quiet_le_cap : (n : Node) → quiet n ≤ cap (shape n)
 quiet_le_cap node.Nothing = omega arith
-quiet_le_cap (node.Constant v is_given) = zero_if_le is_given 1
-quiet_le_cap (node.It is_given) = zero_if_le is_given 1
-quiet_le_cap (node.Left is_given) = zero_if_le is_given 1
+quiet_le_cap (node.Pure x is_given) = omega (arith, zero_if_le is_given 1, one_le_pure x)
 quiet_le_cap (node.Property r) = property_le r.walk
 quiet_le_cap (node.WithOne' p part state) = omega (arith, quiet_le_cap part, one_le state (quiet part))
 quiet_le_cap (node.WithTwo' p a q b state) = two_le state (quiet a) (quiet b) (cap (shape a)) (cap (shape b)) (quiet_le_cap a) (quiet_le_cap b)
 quiet_le_cap (node.WithChoice' p t q y r n state) = choice_le state (quiet t) (quiet y) (quiet n) (cap (shape t)) (cap (shape y)) (cap (shape n)) (quiet_le_cap t) (quiet_le_cap y) (quiet_le_cap n)
+
+-- a node that keeps its shape comes nearer to its end by what it makes, and else by what is quiet
+pub step_nearer : (n n' : Node) (m k : ℕ) → shape n' ≡ shape n → k ≤ m → (k ≡ m → quiet n' < quiet n) → k * (cap (shape n') + 1) + quiet n' < m * (cap (shape n) + 1) + quiet n
+step_nearer n n' m k e h f =
+    subst (λ c. k * (cap c + 1) + quiet n' < m * (cap (shape n) + 1) + quiet n) (sym e)
+    (nearer m k (cap (shape n)) (quiet n) (quiet n') h f (subst (λ c. quiet n' ≤ cap c) e (quiet_le_cap n')))
 
 falls_below : (x : Step) (a b b' : ℕ) → Falls x a b → b' ≤ b → Falls x a b'
 falls_below step.Quiet a b b' h k = omega arith

@@ -39,9 +39,7 @@ property_quiet (Some g) = values_ahead g.walk
 
 abbrev pub quiet : Node → ℕ
 quiet node.Nothing = 0
-quiet (node.Constant v is_given) = zero_if is_given 1
-quiet (node.It is_given) = zero_if is_given 1
-quiet (node.Left is_given) = zero_if is_given 1
+quiet (node.Pure x is_given) = zero_if is_given 1
 quiet (node.Property r) = property_quiet r.walk
 quiet (node.WithOne' p part state) = one_quiet state (quiet part)
 quiet (node.WithTwo' p first q second state) = two_quiet state (quiet first) (quiet second) (cap (shape second))

@@ -1,13 +1,66 @@
--- What a step of a node does to the machine's looks and to the trace that is left.
-use Rattle.std.specs.Prelude.{List, ◌++◌}
+-- What a step of a node does to the machine's looks, to the looks and turns that may still be made, and to the trace that is left.
+use Rattle.std.specs.Prelude.{◌≡◌, ℕ, ◌+◌, Bool, nat_lt, List, [], ◌∷◌, ◌++◌, length}
 use Rattle.std.specs.declared.option.Option.{Option}
 use Rattle.bf_machine.specs.Told.{Grows}
 use Rattle.bf_world.specs.declared.key.Key.{Key}
+use Rattle.rel_value.specs.Plain.{Plain}
 use Rattle.rel_trace.specs.declared.step.Step.{Step}
+use Rattle.rel_trace.specs.declared.step.Step.TheVariants.{Quiet, Looked, Turned, Full, Failed}
 use Rattle.rel_trace.specs.Steps.{Goes}
-use Rattle.rel_trace.specs.Trace.{Trace}
+use Rattle.rel_trace.specs.Trace.{Event, Look, Turn, Give, Trace, After}
+
+-- events, and then a trace
+abbrev pub prepend : List Event → Trace → Trace
+prepend [] t = t
+prepend (e ∷ es) t = After e (prepend es t)
+
+-- the keys of the looks among events
+abbrev pub keys : List Event → List Key
+keys [] = []
+keys (Look p k ∷ es) = k ∷ keys es
+keys (Turn p ∷ es) = keys es
+keys (Give v ∷ es) = keys es
+
+-- the values among events
+abbrev pub gives : List Event → List Plain
+gives [] = []
+gives (Look p k ∷ es) = gives es
+gives (Turn p ∷ es) = gives es
+gives (Give v ∷ es) = v ∷ gives es
 
 -- The keys that were looked up grow, where they are told, by those with which the step takes the one trace to the other, whatever
 -- was looked up before.
 abbrev pub Went : Option (List Key) → Trace → Step → Option (List Key) → Trace → Type 0
 Went old t step new t' = (more : List Key) × Grows old new more × ((l : List Key) → Goes l t step (l ++ more) t')
+
+-- Some looks and turns were made, as many as there are less to make now, and then this step; the keys that were looked up grow, where
+-- they are told, by those of the looks and of the step.
+pub record Advances (old : Option (List Key)) (n : ℕ) (t : Trace) (step : Step) (new : Option (List Key)) (n' : ℕ) (t' : Trace) : Type 0 where
+  pub events : List Event
+  pub quiet : gives events ≡ []
+  pub counted : n ≡ length events + n'
+  pub next : Trace
+  pub whole : t ≡ prepend events next
+  pub more : List Key
+  pub grows : Grows old new (keys events ++ more)
+  pub goes : (l : List Key) → Goes l next step (l ++ more) t'
+
+-- so many looks and turns leave room for one
+abbrev pub has_room : ℕ → Bool
+has_room n = nat_lt 0 n
+
+-- With so many looks and turns that may still be made, a node stops here: at a turn only where none may be made.
+abbrev pub IsStop : ℕ → Step → Type 0
+IsStop n Quiet = ⊥
+IsStop n (Looked p) = ⊥
+IsStop n (Turned p) = n ≡ 0
+IsStop n _ = Unit {0}
+
+-- one value, the end, an error or want of memory
+abbrev pub IsTold : Step → Type 0
+IsTold Quiet = ⊥
+IsTold (Looked p) = ⊥
+IsTold (Turned p) = ⊥
+IsTold (Full p) = ⊥
+IsTold (Failed p) = ⊥
+IsTold _ = Unit {0}

@@ -4,9 +4,9 @@ ghost use Rattle.rel_nodes.specs.Core.{Alike, cast_arrow, casted_core, infix_cor
 ghost use Rattle.rel_nodes.specs.Nodes.{boxed_shape};
 ghost use Rattle.rel_nodes.specs.Runs.{run_core};
 
-use crate::Node;
-use crate::make::{on_heap, with_one, with_two};
+use crate::make::{pure, with_one, with_two};
 use crate::runs::{Joint, Run};
+use crate::{Node, Pure};
 use rel_lexer::{BinarySign, Place};
 use rel_trace::{Joining, Logic, One, Two};
 use rel_types::{CastStep, CastSteps};
@@ -15,7 +15,7 @@ use std::alloc::{AllocError, Global};
 fn left(alloc: Global) -> Result<Box<Node>, AllocError>
     ensures { IfOk result (λ n. boxed_shape n ≡ left_core) }
 {
-    on_heap(alloc, Node::Left { given: false })
+    pure(alloc, Pure::Left)
 }
 
 fn cast_arrow(alloc: Global, step: &CastStep) -> Result<Box<Node>, AllocError>

@@ -8,9 +8,9 @@ ghost use Rattle.rel_nodes.specs.HeldParts.{AlikeHeld, part_shape};
 
 use crate::arrows::{casted, later_arrow, linked};
 use crate::held_parts::{argued, filtered, headed, over};
-use crate::make::{constant, on_heap, prefix, singly, with_choice, with_one};
+use crate::make::{on_heap, prefix, pure, singly, with_choice, with_one};
 use crate::runs::{Joint, Run};
-use crate::{Node, span};
+use crate::{Node, Pure, span};
 use rel_lexer::Text;
 use rel_trace::{Held, Joining};
 use rel_types::{Form, Links, NodeList};
@@ -46,9 +46,11 @@ fn begin_form(
     ensures { IfOk result (λ n. Alike (boxed_shape n) (form_core (shown_kind kind.now) plural (shown_form form.now))) }
 {
     match form {
-        Form::Number { number, .. } => constant(alloc, Held::new(Value::Integer(*number))),
+        Form::Number { number, .. } => {
+            pure(alloc, Pure::Constant(Held::new(Value::Integer(*number))))
+        }
         Form::Literal { text, .. } => literal(alloc, text),
-        Form::It { .. } => on_heap(alloc, Node::It { given: false }),
+        Form::It { .. } => pure(alloc, Pure::It),
         Form::Phrase {
             place,
             head,
@@ -107,7 +109,7 @@ fn literal(alloc: Global, text: &Text) -> Result<Box<Node>, AllocError>
         return Err(AllocError);
     }
     let text = text.copy()?;
-    constant(alloc, Held::new(Value::Text(text)))
+    pure(alloc, Pure::Constant(Held::new(Value::Text(text))))
 }
 
 /// A part that may be there.

@@ -8,6 +8,7 @@ mod laws;
 mod make;
 mod node;
 mod property;
+mod pure;
 mod runs;
 mod spans;
 mod walking;
@@ -16,6 +17,7 @@ pub use beginning::begin;
 pub use laws::{few_forms_mean_the_same, plans_keep_spans};
 pub use node::Node;
 pub use property::Property;
+pub use pure::Pure;
 pub use spans::span;
 pub use walking::Walking;
 

@@ -1,19 +1,20 @@
 // Nodes over nodes, before their first step. They are on the heap, so that putting them together moves none of them.
-ghost use Rattle.std.specs.Prelude.{◌≡◌, IfOk};
+ghost use Rattle.std.specs.Prelude.{◌≡◌, IfOk, MatchOption};
 ghost use Rattle.rel_types.specs.Views.{shown_held};
 ghost use Rattle.rel_value.specs.Views.{shown_kind};
-ghost use Rattle.rel_trace.specs.Ones.{one_kind};
-ghost use Rattle.rel_trace.specs.Twos.{two_kind};
-ghost use Rattle.rel_nodes.specs.Core.{choice_core, constant_core, one_core, prefix_kind, property_core, singly_core, two_core};
+ghost use Rattle.rel_trace.specs.Ones.{apply_kind, one_kind, single_kind};
+ghost use Rattle.rel_trace.specs.Twos.{left_kind, two_kind};
+ghost use Rattle.rel_nodes.specs.Core.{choice_core, one_core, prefix_kind, property_core, singly_core, two_core};
 ghost use Rattle.rel_nodes.specs.Meaning.{concatenation_of, fold_of, sum_of};
-ghost use Rattle.rel_nodes.specs.Nodes.{boxed_shape};
+ghost use Rattle.rel_nodes.specs.Nodes.{boxed_shape, pure_shape, shape};
 
-use crate::{Node, Property};
+use crate::{Node, Property, Pure};
 use rel_lexer::{Place, UnarySign};
-use rel_trace::{Choice, Fold, Held, One, Two};
+use rel_trace::{Apply, Choice, Draw, Fold, Handing, One, Two};
 use rel_types::Aggregate;
 use rel_value::{Kind, PropertyId};
 use std::alloc::{AllocError, Global};
+use std::mem;
 
 pub(crate) fn on_heap(alloc: Global, node: Node) -> Result<Box<Node>, AllocError>
     ensures { IfOk result (λ n. n.value ≡ node) }
@@ -21,16 +22,10 @@ pub(crate) fn on_heap(alloc: Global, node: Node) -> Result<Box<Node>, AllocError
     Ok(Box::new(alloc, node)?)
 }
 
-pub(crate) fn constant(alloc: Global, value: Held) -> Result<Box<Node>, AllocError>
-    ensures { IfOk result (λ n. boxed_shape n ≡ constant_core value) }
+pub(crate) fn pure(alloc: Global, pure: Pure) -> Result<Box<Node>, AllocError>
+    ensures { IfOk result (λ n. boxed_shape n ≡ pure_shape pure) }
 {
-    on_heap(
-        alloc,
-        Node::Constant {
-            value,
-            given: false,
-        },
-    )
+    on_heap(alloc, Node::Pure { pure, given: false })
 }
 
 /// A property that has an argument and an object, or has not, with its head at this place.
@@ -56,6 +51,34 @@ pub(crate) fn property(
 pub(crate) fn with_one(alloc: Global, part: Box<Node>, state: One) -> Result<Box<Node>, AllocError>
     ensures { IfOk result (λ n. boxed_shape n ≡ one_core (one_kind state) (boxed_shape part)) }
 {
+    match state {
+        One::Apply(apply) => with_apply(alloc, part, apply),
+        One::Draw(Draw::Single { place, .. }) => with_single(alloc, part, place),
+        state => on_heap(alloc, Node::WithOne { part, state }),
+    }
+}
+
+/// A sign or a cast of a part.
+fn with_apply(alloc: Global, mut part: Box<Node>, apply: Apply) -> Result<Box<Node>, AllocError>
+    ensures { IfOk result (λ n. boxed_shape n ≡ one_core (apply_kind apply) (boxed_shape part)) }
+{
+    if let Node::Pure { pure: inner, .. } = &mut *part {
+        let part = Box::new(alloc, mem::replace(inner, Pure::It))?;
+        return pure(alloc, Pure::Applied { part, apply });
+    }
+    let state = One::Apply(apply);
+    on_heap(alloc, Node::WithOne { part, state })
+}
+
+/// The one value of a part, with its head at this place.
+fn with_single(alloc: Global, mut part: Box<Node>, place: Place) -> Result<Box<Node>, AllocError>
+    ensures { IfOk result (λ n. boxed_shape n ≡ one_core (single_kind place) (boxed_shape part)) }
+{
+    if let Node::Pure { pure: inner, .. } = &mut *part {
+        let part = Box::new(alloc, mem::replace(inner, Pure::It))?;
+        return pure(alloc, Pure::Single { part, place });
+    }
+    let state = One::single(place);
     on_heap(alloc, Node::WithOne { part, state })
 }
 
@@ -67,6 +90,31 @@ pub(crate) fn with_two(
 ) -> Result<Box<Node>, AllocError>
     ensures { IfOk result (λ n. boxed_shape n ≡ two_core (two_kind state) (boxed_shape first) (boxed_shape second)) }
 {
+    match state {
+        Two::Handing(Handing::Left { .. }) => with_left(alloc, first, second),
+        state => on_heap(
+            alloc,
+            Node::WithTwo {
+                first,
+                second,
+                state,
+            },
+        ),
+    }
+}
+
+/// The second part with the value of the first to its left.
+fn with_left(
+    alloc: Global,
+    mut first: Box<Node>,
+    mut second: Box<Node>,
+) -> Result<Box<Node>, AllocError>
+    ensures { IfOk result (λ n. boxed_shape n ≡ two_core left_kind (boxed_shape first) (boxed_shape second)) }
+{
+    if let Some(whole) = pure_joined(alloc, &mut first, &mut second)? {
+        return Ok(whole);
+    }
+    let state = Two::left();
     on_heap(
         alloc,
         Node::WithTwo {
@@ -75,6 +123,26 @@ pub(crate) fn with_two(
             state,
         },
     )
+}
+
+/// The same as one pure part, where both parts are pure; they are taken then.
+fn pure_joined(
+    alloc: Global,
+    first: &mut Node,
+    second: &mut Node,
+) -> Result<Option<Box<Node>>, AllocError>
+    ensures { IfOk result (λ o. MatchOption o ((first.new ≡ first.old) × (second.new ≡ second.old)) (λ n. boxed_shape n ≡ two_core left_kind (shape first.old) (shape second.old))) }
+{
+    let Node::Pure { pure: left, .. } = first else {
+        return Ok(None);
+    };
+    let Node::Pure { pure: right, .. } = second else {
+        return Ok(None);
+    };
+    let first = Box::new(alloc, mem::replace(left, Pure::It))?;
+    let second = Box::new(alloc, mem::replace(right, Pure::It))?;
+    let whole = pure(alloc, Pure::Joined { first, second })?;
+    Ok(Some(whole))
 }
 
 pub(crate) fn with_choice(

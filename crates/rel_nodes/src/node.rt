@@ -6,19 +6,18 @@ ghost use Rattle.line_forms.specs.Numbers.{IsOffset};
 ghost use Rattle.rel_sources.specs.declared.scene.Scene.{Scene};
 ghost use Rattle.rel_trace.specs.Choices.{choice_left, choice_quiet};
 ghost use Rattle.rel_trace.specs.Ones.{one_kind, one_left, one_quiet, unless, zero_if};
-ghost use Rattle.rel_trace.specs.Scopes.{Around, lent, seen};
+ghost use Rattle.rel_trace.specs.Scopes.{Around, seen};
 ghost use Rattle.rel_trace.specs.Steps.{AsRoom, Falls, Goes, HasCause};
 ghost use Rattle.rel_trace.specs.Twos.{two_kind, two_left, two_quiet};
 ghost use Rattle.rel_nodes.specs.Core.{core};
-ghost use Rattle.rel_nodes.specs.Meaning.{given};
 ghost use Rattle.rel_nodes.specs.Measure.{cap, quiet};
-ghost use Rattle.rel_nodes.specs.Nodes.{rest, shape};
-ghost use Rattle.rel_nodes.specs.Steps.{Went};
+ghost use Rattle.rel_nodes.specs.Nodes.{pure_shape, rest, shape};
+ghost use Rattle.rel_nodes.specs.Steps.{Advances, IsStop, IsTold, has_room};
 
-use crate::Property;
+use crate::{Property, Pure};
 use bf_machine::Machine;
 use rel_inspect::Scene;
-use rel_trace::{Choice, Held, One, Scope, Step, Two};
+use rel_trace::{Choice, One, Scope, Step, Two};
 use std::alloc::Global;
 
 /// A part of a question, and how far its evaluation has come.
@@ -26,16 +25,9 @@ use std::alloc::Global;
 pub enum Node {
     /// It gives nothing.
     Nothing,
-    Constant {
-        value: Held,
-        given: bool,
-    },
-    /// What `it` stands for.
-    It {
-        given: bool,
-    },
-    /// The value to the left.
-    Left {
+    /// It is told at once, in the first step.
+    Pure {
+        pure: Pure,
         given: bool,
     },
     Property(Property),
@@ -64,9 +56,7 @@ impl Node {
     {
         match self {
             Node::Nothing => {}
-            Node::Constant { given, .. } => *given = false,
-            Node::It { given } => *given = false,
-            Node::Left { given } => *given = false,
+            Node::Pure { given, .. } => *given = false,
             Node::Property(property) => property.reset(),
             Node::WithOne { part, state } => {
                 part.reset();
@@ -83,8 +73,9 @@ impl Node {
         }
     }
 
-    /// The next event. A look is made only where there is room for one, and then nothing else is done that could fail. After a
-    /// failed look the next step makes the same one.
+    /// Goes on to the next value, the end or an error. Looks and turns on the way are made and counted down in `left`; where none
+    /// is left it stops before the next look (`Step::Full`) or behind the next turn (`Step::Turned`). After a failed look the next
+    /// step makes the same one. At want of memory it stops behind the looks that were made.
     #[cycle(step)]
     pub fn step<M: Machine>(
         &mut self,
@@ -92,32 +83,40 @@ impl Node {
         scope: Scope<'_>,
         scene: &Scene,
         machine: &mut M,
-        room: bool,
+        left: &mut u64,
     ) -> Step
         requires moment { IsMoment scene.now.moment }
         requires offset { IsOffset scene.now.offset }
-        ensures event { result ≢ Step.Quiet }
+        ensures stop { IsStop left.new result }
         ensures shape { shape self.new ≡ shape self.old }
         ensures goes { (w : WorldState) → M.world machine.old ≡ Some w
-            → Went (M.looked machine.old) (rest w scene.now self.old (seen scope.entry)) result
-            (M.looked machine.new) (rest w scene.now self.new (seen scope.entry)) }
+            → Advances (M.looked machine.old) left.old (rest w scene.now self.old (seen scope.entry)) result
+            (M.looked machine.new) left.new (rest w scene.now self.new (seen scope.entry)) }
         ensures cause { HasCause (M.faults machine.old) (M.faults machine.new) result }
         ensures later { M.faults machine.old ≤ M.faults machine.new }
-        ensures room { AsRoom room result }
-        ensures falls { Falls result (quiet self.old) (quiet self.new) }
+        ensures room { AsRoom (has_room left.new) result }
+        ensures within { left.new ≤ left.old }
+        ensures falls { left.new ≡ left.old → Falls result (quiet self.old) (quiet self.new) }
         ensures world { M.world machine.new ≡ M.world machine.old }
         ensures acted { M.acted machine.new ≡ M.acted machine.old }
         ensures started { M.started machine.new ≡ M.started machine.old }
     {
         loop {
-            match self.go_on(alloc, scope, scene, machine, room) {
+            match self.go_on(alloc, scope, scene, machine, left) {
                 Step::Quiet => {}
+                Step::Looked(_) => *left -= 1,
+                Step::Turned(place) => {
+                    if *left == 0 {
+                        return Step::Turned(place);
+                    }
+                    *left -= 1;
+                }
                 step => return step,
             }
         }
     }
 
-    /// One event, or none.
+    /// One event, or none, behind the looks and turns of its parts.
     #[cycle(step)]
     fn go_on<M: Machine>(
         &mut self,
@@ -125,47 +124,46 @@ impl Node {
         scope: Scope<'_>,
         scene: &Scene,
         machine: &mut M,
-        room: bool,
+        left: &mut u64,
     ) -> Step
         requires moment { IsMoment scene.now.moment }
         requires offset { IsOffset scene.now.offset }
         ensures shape { shape self.new ≡ shape self.old }
         ensures goes { (w : WorldState) → M.world machine.old ≡ Some w
-            → Went (M.looked machine.old) (rest w scene.now self.old (seen scope.entry)) result
-            (M.looked machine.new) (rest w scene.now self.new (seen scope.entry)) }
+            → Advances (M.looked machine.old) left.old (rest w scene.now self.old (seen scope.entry)) result
+            (M.looked machine.new) left.new (rest w scene.now self.new (seen scope.entry)) }
         ensures cause { HasCause (M.faults machine.old) (M.faults machine.new) result }
         ensures later { M.faults machine.old ≤ M.faults machine.new }
-        ensures room { AsRoom room result }
-        ensures falls { Falls result (quiet self.old) (quiet self.new) }
+        ensures room { AsRoom (has_room left.new) result }
+        ensures within { left.new ≤ left.old }
+        ensures falls { left.new ≡ left.old → Falls result (quiet self.old) (quiet self.new) }
         ensures world { M.world machine.new ≡ M.world machine.old }
         ensures acted { M.acted machine.new ≡ M.acted machine.old }
         ensures started { M.started machine.new ≡ M.started machine.old }
     {
         match self {
             Node::Nothing => Step::Over,
-            Node::Constant { value, given } => give(Some(value), given),
-            Node::It { given } => give(scope.it, given),
-            Node::Left { given } => give(scope.left, given),
-            Node::Property(property) => property.step(alloc, scope, scene, machine, room),
+            Node::Pure { pure, given } => step_pure(pure, given, alloc, scope, scene),
+            Node::Property(property) => property.step(alloc, scope, scene, machine, *left > 0),
             Node::WithOne { part, state } => {
-                step_one(part, state, alloc, scope, scene, machine, room)
+                step_one(part, state, alloc, scope, scene, machine, left)
             }
             Node::WithTwo {
                 first,
                 second,
                 state,
-            } => step_two(first, second, state, alloc, scope, scene, machine, room),
+            } => step_two(first, second, state, alloc, scope, scene, machine, left),
             Node::WithChoice {
                 test,
                 yes,
                 no,
                 state,
-            } => step_choice(test, yes, no, state, alloc, scope, scene, machine, room),
+            } => step_choice(test, yes, no, state, alloc, scope, scene, machine, left),
         }
     }
 }
 
-/// One event of a form with one part, or none.
+/// One event of a form with one part, or none, behind the looks and turns of the part.
 #[cycle(step)]
 #[inline(never)]
 fn step_one<M: Machine>(
@@ -175,19 +173,20 @@ fn step_one<M: Machine>(
     scope: Scope<'_>,
     scene: &Scene,
     machine: &mut M,
-    room: bool,
+    left: &mut u64,
 ) -> Step
     requires moment { IsMoment scene.now.moment }
     requires offset { IsOffset scene.now.offset }
     ensures part { shape part.new ≡ shape part.old }
     ensures kind { one_kind state.new ≡ one_kind state.old }
     ensures goes { (w : WorldState) → M.world machine.old ≡ Some w
-        → Went (M.looked machine.old) (one_left state.old (seen scope.entry) scene.now.offset (rest w scene.now part.old (seen scope.entry))) result
-        (M.looked machine.new) (one_left state.new (seen scope.entry) scene.now.offset (rest w scene.now part.new (seen scope.entry))) }
+        → Advances (M.looked machine.old) left.old (one_left state.old (seen scope.entry) scene.now.offset (rest w scene.now part.old (seen scope.entry))) result
+        (M.looked machine.new) left.new (one_left state.new (seen scope.entry) scene.now.offset (rest w scene.now part.new (seen scope.entry))) }
     ensures cause { HasCause (M.faults machine.old) (M.faults machine.new) result }
     ensures later { M.faults machine.old ≤ M.faults machine.new }
-    ensures room { AsRoom room result }
-    ensures falls { Falls result (one_quiet state.old (quiet part.old)) (one_quiet state.new (quiet part.new)) }
+    ensures room { AsRoom (has_room left.new) result }
+    ensures within { left.new ≤ left.old }
+    ensures falls { left.new ≡ left.old → Falls result (one_quiet state.old (quiet part.old)) (one_quiet state.new (quiet part.new)) }
     ensures world { M.world machine.new ≡ M.world machine.old }
     ensures acted { M.acted machine.new ≡ M.acted machine.old }
     ensures started { M.started machine.new ≡ M.started machine.old }
@@ -195,11 +194,11 @@ fn step_one<M: Machine>(
     if state.is_done() {
         return Step::Over;
     }
-    let step = part.step(alloc, scope, scene, machine, room);
+    let step = part.step(alloc, scope, scene, machine, left);
     state.after(alloc, step, scope, scene.offset)
 }
 
-/// One event of a form with two parts, or none.
+/// One event of a form with two parts, or none, behind the looks and turns of the parts.
 #[cycle(step)]
 #[inline(never)]
 fn step_two<M: Machine>(
@@ -210,7 +209,7 @@ fn step_two<M: Machine>(
     scope: Scope<'_>,
     scene: &Scene,
     machine: &mut M,
-    room: bool,
+    left: &mut u64,
 ) -> Step
     requires moment { IsMoment scene.now.moment }
     requires offset { IsOffset scene.now.offset }
@@ -218,22 +217,23 @@ fn step_two<M: Machine>(
     ensures second { shape second.new ≡ shape second.old }
     ensures kind { two_kind state.new ≡ two_kind state.old }
     ensures goes { (w : WorldState) → M.world machine.old ≡ Some w
-        → Went (M.looked machine.old) (two_left state.old (rest w scene.now first.old (seen scope.entry)) (rest w scene.now second.old) (core w scene.now (shape second.old)) (seen scope.entry)) result
-        (M.looked machine.new) (two_left state.new (rest w scene.now first.new (seen scope.entry)) (rest w scene.now second.new) (core w scene.now (shape second.new)) (seen scope.entry)) }
+        → Advances (M.looked machine.old) left.old (two_left state.old (rest w scene.now first.old (seen scope.entry)) (rest w scene.now second.old) (core w scene.now (shape second.old)) (seen scope.entry)) result
+        (M.looked machine.new) left.new (two_left state.new (rest w scene.now first.new (seen scope.entry)) (rest w scene.now second.new) (core w scene.now (shape second.new)) (seen scope.entry)) }
     ensures cause { HasCause (M.faults machine.old) (M.faults machine.new) result }
     ensures later { M.faults machine.old ≤ M.faults machine.new }
-    ensures room { AsRoom room result }
-    ensures falls { Falls result (two_quiet state.old (quiet first.old) (quiet second.old) (cap (shape second.old))) (two_quiet state.new (quiet first.new) (quiet second.new) (cap (shape second.new))) }
+    ensures room { AsRoom (has_room left.new) result }
+    ensures within { left.new ≤ left.old }
+    ensures falls { left.new ≡ left.old → Falls result (two_quiet state.old (quiet first.old) (quiet second.old) (cap (shape second.old))) (two_quiet state.new (quiet first.new) (quiet second.new) (cap (shape second.new))) }
     ensures world { M.world machine.new ≡ M.world machine.old }
     ensures acted { M.acted machine.new ≡ M.acted machine.old }
     ensures started { M.started machine.new ≡ M.started machine.old }
 {
     if state.on_second() {
         let inner = state.second_scope(scope);
-        let step = second.step(alloc, inner, scene, machine, room);
+        let step = second.step(alloc, inner, scene, machine, left);
         return state.after_second(step);
     }
-    let step = first.step(alloc, scope, scene, machine, room);
+    let step = first.step(alloc, scope, scene, machine, left);
     let next = state.after_first(step);
     if next.begins {
         second.reset();
@@ -241,7 +241,7 @@ fn step_two<M: Machine>(
     next.step
 }
 
-/// One event of a form with a test and two branches, or none.
+/// One event of a form with a test and two branches, or none, behind the looks and turns of the parts.
 #[cycle(step)]
 #[inline(never)]
 fn step_choice<M: Machine>(
@@ -253,7 +253,7 @@ fn step_choice<M: Machine>(
     scope: Scope<'_>,
     scene: &Scene,
     machine: &mut M,
-    room: bool,
+    left: &mut u64,
 ) -> Step
     requires moment { IsMoment scene.now.moment }
     requires offset { IsOffset scene.now.offset }
@@ -261,19 +261,20 @@ fn step_choice<M: Machine>(
     ensures yes { shape yes.new ≡ shape yes.old }
     ensures no { shape no.new ≡ shape no.old }
     ensures goes { (w : WorldState) → M.world machine.old ≡ Some w
-        → Went (M.looked machine.old) (choice_left state.old (rest w scene.now test.old (seen scope.entry)) (rest w scene.now yes.old) (rest w scene.now no.old) (core w scene.now (shape yes.old)) (core w scene.now (shape no.old)) (seen scope.entry)) result
-        (M.looked machine.new) (choice_left state.new (rest w scene.now test.new (seen scope.entry)) (rest w scene.now yes.new) (rest w scene.now no.new) (core w scene.now (shape yes.new)) (core w scene.now (shape no.new)) (seen scope.entry)) }
+        → Advances (M.looked machine.old) left.old (choice_left state.old (rest w scene.now test.old (seen scope.entry)) (rest w scene.now yes.old) (rest w scene.now no.old) (core w scene.now (shape yes.old)) (core w scene.now (shape no.old)) (seen scope.entry)) result
+        (M.looked machine.new) left.new (choice_left state.new (rest w scene.now test.new (seen scope.entry)) (rest w scene.now yes.new) (rest w scene.now no.new) (core w scene.now (shape yes.new)) (core w scene.now (shape no.new)) (seen scope.entry)) }
     ensures cause { HasCause (M.faults machine.old) (M.faults machine.new) result }
     ensures later { M.faults machine.old ≤ M.faults machine.new }
-    ensures room { AsRoom room result }
-    ensures falls { Falls result (choice_quiet state.old (quiet test.old) (quiet yes.old) (quiet no.old) (cap (shape yes.old)) (cap (shape no.old))) (choice_quiet state.new (quiet test.new) (quiet yes.new) (quiet no.new) (cap (shape yes.new)) (cap (shape no.new))) }
+    ensures room { AsRoom (has_room left.new) result }
+    ensures within { left.new ≤ left.old }
+    ensures falls { left.new ≡ left.old → Falls result (choice_quiet state.old (quiet test.old) (quiet yes.old) (quiet no.old) (cap (shape yes.old)) (cap (shape no.old))) (choice_quiet state.new (quiet test.new) (quiet yes.new) (quiet no.new) (cap (shape yes.new)) (cap (shape no.new))) }
     ensures world { M.world machine.new ≡ M.world machine.old }
     ensures acted { M.acted machine.new ≡ M.acted machine.old }
     ensures started { M.started machine.new ≡ M.started machine.old }
 {
     match state {
         Choice::Test => {
-            let step = test.step(alloc, scope, scene, machine, room);
+            let step = test.step(alloc, scope, scene, machine, left);
             let next = state.after_test(step);
             if next.begins {
                 yes.reset();
@@ -282,34 +283,33 @@ fn step_choice<M: Machine>(
             next.step
         }
         Choice::Yes => {
-            let step = yes.step(alloc, scope, scene, machine, room);
+            let step = yes.step(alloc, scope, scene, machine, left);
             state.after_branch(step)
         }
         Choice::No => {
-            let step = no.step(alloc, scope, scene, machine, room);
+            let step = no.step(alloc, scope, scene, machine, left);
             state.after_branch(step)
         }
     }
 }
 
-/// A copy of a value, if there is one, and nothing more from then on.
-fn give(value: Option<&Held>, is_given: &mut bool) -> Step
-    ensures goes { (l : List Key) → Goes l (unless is_given.old (given (lent value.entry))) result l (unless is_given.new (given (lent value.entry))) }
-    ensures cause { (a b : ℕ) → HasCause a b result }
-    ensures room { (r : Bool) → AsRoom r result }
+/// All that a pure part gives, and nothing more from then on.
+#[inline(never)]
+fn step_pure(
+    pure: &Pure,
+    is_given: &mut bool,
+    alloc: Global,
+    scope: Scope<'_>,
+    scene: &Scene,
+) -> Step
+    requires { IsOffset scene.now.offset }
+    ensures goes { (w : WorldState) (l : List Key) → Goes l (unless is_given.old (core w scene.now (pure_shape pure.now) (seen scope.entry))) result l (unless is_given.new (core w scene.now (pure_shape pure.now) (seen scope.entry))) }
+    ensures told { IsTold result }
     ensures falls { Falls result (zero_if is_given.old 1) (zero_if is_given.new 1) }
 {
     if *is_given {
         return Step::Over;
     }
-    match value {
-        None => Step::Over,
-        Some(value) => match value.copy() {
-            Ok(copied) => {
-                *is_given = true;
-                Step::Given(copied)
-            }
-            Err(_) => Step::Memory,
-        },
-    }
+    *is_given = true;
+    pure.tell(alloc, scope, scene)
 }

@@ -44,6 +44,7 @@ impl Property {
     }
 
     /// One event, or none.
+    #[inline(never)]
     pub(crate) fn step<M: Machine>(
         &mut self,
         alloc: Global,

@@ -13,7 +13,8 @@ use Rattle.rel_trace.specs.declared.kind.RelKind.{RelKind}
 use Rattle.rel_trace.specs.declared.kind.RelKind.TheVariants.{TextTooLong}
 use Rattle.rel_trace.specs.Steps.{LooksAt}
 use Rattle.rel_trace.specs.Trace.{Stop, Error, Event, Look, Turn, Give, Trace, Ends, After}
-use Rattle.rel_eval.specs.Pulls.{prepend, keys, gives, Skips}
+use Rattle.rel_nodes.specs.Steps.{prepend, keys, gives}
+use Rattle.rel_eval.specs.Pulls.{Skips}
 use Rattle.rel_session.specs.declared.paused.Left.TheVariants as left
 use Rattle.rel_session.specs.declared.paused.Step.{Step}
 use Rattle.rel_session.specs.declared.paused.Step.TheVariants.{On, Out}

@@ -95,18 +95,22 @@ fn given(alloc: Global, events: &mut String, value: &Held) -> Result<(), Fail> {
     Ok(())
 }
 
-/// The events of a question: a look is `L` and a turn `T`, each with the byte at which its place begins; a value is its text in
-/// brackets, the end `.`, and an error `!`, its number and its place.
+/// The events of a question, one at a time: with nothing left a node stops behind each turn and before each look. A look is `L` and
+/// a turn `T`, each with the byte at which its place begins; a value is its text in brackets, the end `.`, and an error `!`, its
+/// number and its place.
 fn events(alloc: Global, machine: &mut PlainMachine, plan: &Plan) -> Result<String, Fail> {
     let scene = scene(alloc);
     let mut node = begin(alloc, plan.root())?;
     node.reset();
     let mut events = String::new(alloc);
+    let mut left = 0;
     for _ in 0..1_000_000 {
-        match node.step(alloc, ALONE, &scene, machine, true) {
-            Step::Quiet => {}
-            Step::Looked(place) => placed(&mut events, "L", place)?,
+        match node.step(alloc, ALONE, &scene, machine, &mut left) {
             Step::Turned(place) => placed(&mut events, "T", place)?,
+            Step::Full(place) => {
+                placed(&mut events, "L", place)?;
+                left = 1;
+            }
             Step::Given(value) => given(alloc, &mut events, &value)?,
             Step::Over => {
                 events.push_str(".")?;
@@ -116,7 +120,7 @@ fn events(alloc: Global, machine: &mut PlainMachine, plan: &Plan) -> Result<Stri
                 write!(events, "!{} {}..{}", kind.number(), place.from, place.to)?;
                 return Ok(events);
             }
-            Step::Full(_) | Step::Failed(_) | Step::Memory => events.push_str("?")?,
+            _ => events.push_str("?")?,
         }
     }
     Ok(events)
@@ -128,4 +132,16 @@ fn has(alloc: Global, question: &str, wanted: &str) -> Result<bool, Fail> {
     let mut machine = machine(alloc)?;
     let events = events(alloc, &mut machine, &plan)?;
     Ok(events.as_str() == wanted)
+}
+
+/// The first step of a question with so many looks and turns left, and how many are left then.
+fn first_step(alloc: Global, question: &str, left: u64) -> Result<(Step, u64), Fail> {
+    let plan = plan(alloc, question)?;
+    let mut machine = machine(alloc)?;
+    let scene = scene(alloc);
+    let mut node = begin(alloc, plan.root())?;
+    node.reset();
+    let mut left = left;
+    let step = node.step(alloc, ALONE, &scene, &mut machine, &mut left);
+    Ok((step, left))
 }

@@ -1,5 +1,5 @@
 -- What is made of each form, and of lists of parts.
-use Rattle.std.proofs.Common.{◌≡◌, ◌-◌, List, SFits, w64, arith, rules, refl, sym, ap, ◌∙◌, false, length, take, drop, get_or}
+use Rattle.std.proofs.Common.{◌≡◌, ◌-◌, List, SFits, w64, arith, rules, refl, sym, ap, ◌∙◌, length, take, drop, get_or}
 use Rattle.std.proofs.lemmas.Int.{to_z-of_z}
 use Rattle.rel_value.specs.Plain.{integer, words}
 use Rattle.rel_value.specs.Views.{shown_kind}
@@ -29,13 +29,13 @@ pub begin_form-returns-in-Number : goal.begin_form-returns-in-Number
 begin_form-returns-in-Number t c =
     let fits : SFits w64 c.in-Number.number = search rules in
     let value : c.new.result ≡ integer c.in-Number.number = (simp to_z-of_z at c.new.ensures) ∙ shown-integer c.in-Number.number in
-    on_same c.constant.result (constant_core c.new.result) (form_core (shown_kind c.args.kind.now) c.args.plural (shown_form c.args.form.now)) c.constant.ensures (number_made (shown_kind c.args.kind.now) c.args.plural c.args.form.now c.in-Number.place c.in-Number.number (constant_core c.new.result) c.in-Number.is (ap constant_core value))
+    on_same c.pure.result (constant_core c.new.result) (form_core (shown_kind c.args.kind.now) c.args.plural (shown_form c.args.form.now)) c.pure.ensures (number_made (shown_kind c.args.kind.now) c.args.plural c.args.form.now c.in-Number.place c.in-Number.number (constant_core c.new.result) c.in-Number.is (ap constant_core value))
 
 pub begin_form-returns-in-Literal : goal.begin_form-returns-in-Literal
 begin_form-returns-in-Literal t c = on_same c.literal.result (constant_core (words c.in-Literal.text)) (form_core (shown_kind c.args.kind.now) c.args.plural (shown_form c.args.form.now)) c.literal.ensures (literal_made (shown_kind c.args.kind.now) c.args.plural c.args.form.now c.in-Literal.place c.in-Literal.text (constant_core (words c.in-Literal.text)) c.in-Literal.is refl)
 
 pub begin_form-returns-in-It : goal.begin_form-returns-in-It
-begin_form-returns-in-It t c = on_node c.on_heap.result (node.It false) (form_core (shown_kind c.args.kind.now) c.args.plural (shown_form c.args.form.now)) c.on_heap.ensures (it_made (shown_kind c.args.kind.now) c.args.plural c.args.form.now c.in-It.place it_core c.in-It.is refl)
+begin_form-returns-in-It t c = on_same c.pure-in-It.result it_core (form_core (shown_kind c.args.kind.now) c.args.plural (shown_form c.args.form.now)) c.pure-in-It.ensures (it_made (shown_kind c.args.kind.now) c.args.plural c.args.form.now c.in-It.place it_core c.in-It.is refl)
 
 pub begin_form-returns-in_ok-kept-in-Phrase : goal.begin_form-returns-in_ok-kept-in-Phrase
 begin_form-returns-in_ok-kept-in-Phrase t c =

@@ -1,36 +1,26 @@
-use Rattle.std.proofs.Common.{arith, refl, sym, subst, ◌∙◌}
+use Rattle.std.proofs.Common.{refl, sym, subst}
 use Rattle.rel_eval.specs.declared.cursor.Pulled.TheVariants as pulled
 use Rattle.rel_eval.specs.declared.cursor.State.{State}
 use Rattle.rel_eval.specs.Cursors.{AsState, cursor_rest}
-use Rattle.rel_eval.proofs.Moves.{went_none, went_on, went_out, as_open, nearer_from, cause_from, over_draws, erred_draws, shut_draws}
+use Rattle.rel_eval.proofs.Drawn.{open_draws, as_open, over_draws, erred_draws, shut_draws}
+use Rattle.rel_eval.proofs.Nearer.{weighs}
 use Rattle.rel_eval.proofs.cursor.Cursor.pull.Goals as goal
 
-pub loop-pulled-init : goal.loop-pulled-init
-loop-pulled-init g c = (c.in-Open.is, refl, omega arith, λ w h. went_none _ _, omega arith, refl, refl)
+pub returns-clause-goes : goal.returns-clause-goes
+returns-clause-goes g c = λ w h.
+    open_draws _ _ _ _ _ _ _ c.into_pulled-pulled.result c.args.self.now.state c.state-self.result c.in-Open.is c.state-self.ensures (c.step-step.ensures.goes w h) c.into_pulled-pulled.ensures.meets
 
-pub loop-pulled-preserved : goal.loop-pulled-preserved
-loop-pulled-preserved g c =
-    let i = c.loop-pulled.invariant in
-    let e = c.in-On.ensures in
-    (e.state, e.world ∙ i.1, omega (arith, e.later, i.2), λ w h. went_on _ _ _ _ _ _ (i.3 w h) (e.goes w (i.1 ∙ h)), omega (arith, e.nearer, i.4), e.acted ∙ i.5, e.started ∙ i.6)
+pub returns-clause-again : goal.returns-clause-again
+returns-clause-again g c = as_open c.args.self.now.state c.into_pulled-pulled.result c.in-Open.is c.into_pulled-pulled.ensures.not_closed
 
-pub returns-in-Out-clause-goes : goal.returns-in-Out-clause-goes
-returns-in-Out-clause-goes g c = λ w h.
-    let i = c.loop-pulled.invariant in
-    let e = c.in-Out.ensures in
-    went_out _ _ _ _ _ _ c.in-Out.pulled c.args.self.now.state c.state-self.result c.in-Open.is c.state-self.ensures (i.3 w h) (e.goes w (i.1 ∙ h))
+pub returns-clause-still : goal.returns-clause-still
+returns-clause-still g c = λ h. absurd (h c.in-Open.is)
 
-pub returns-in-Out-clause-again : goal.returns-in-Out-clause-again
-returns-in-Out-clause-again g c = as_open c.args.self.now.state c.in-Out.pulled c.in-Open.is c.in-Out.ensures.out
+pub returns-clause-nearer : goal.returns-clause-nearer
+returns-clause-nearer g c = weighs _ _ _ _ _ c.into_pulled-pulled.result c.step-step.ensures.shape c.step-step.ensures.within c.step-step.ensures.falls c.into_pulled-pulled.ensures.nearer
 
-pub returns-in-Out-clause-still : goal.returns-in-Out-clause-still
-returns-in-Out-clause-still g c = λ h. absurd (h c.in-Open.is)
-
-pub returns-in-Out-clause-nearer : goal.returns-in-Out-clause-nearer
-returns-in-Out-clause-nearer g c = nearer_from c.in-Out.pulled _ _ _ c.in-Out.ensures.nearer c.loop-pulled.invariant.4
-
-pub returns-in-Out-clause-cause : goal.returns-in-Out-clause-cause
-returns-in-Out-clause-cause g c = cause_from c.in-Out.pulled _ _ _ c.in-Out.ensures.cause c.loop-pulled.invariant.2
+pub returns-clause-cause : goal.returns-clause-cause
+returns-clause-cause g c = c.into_pulled-pulled.ensures.cause _ _ c.step-step.ensures.cause
 
 pub returns-in-Over-clause-goes : goal.returns-in-Over-clause-goes
 returns-in-Over-clause-goes g c = λ w h. over_draws _ c.args.self.now.state _ c.in-Over.is

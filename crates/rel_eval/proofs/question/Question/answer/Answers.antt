@@ -2,7 +2,7 @@ use Rattle.std.proofs.Common.{arith, refl, ◌∙◌, [], ◌∷◌, ◌++◌, i
 use Rattle.rel_value.specs.Views.{shown}
 use Rattle.rel_eval.specs.declared.cursor.Pulled.TheVariants as pulled
 use Rattle.rel_eval.specs.Cursors.{cursor_rest}
-use Rattle.rel_eval.proofs.Moves.{cause_from}
+use Rattle.rel_eval.proofs.Causes.{cause_from}
 use Rattle.rel_eval.proofs.Uses.{so_none, so_value, so_enough, so_unable, so_end, so_error, so_failed, so_memory, so_closed, so_unopened, took_more}
 use Rattle.rel_eval.proofs.question.Question.answer.Goals as goal
 

@@ -1,0 +1,118 @@
+ghost use Rattle.std.specs.Prelude.{List};
+ghost use Rattle.bf_world.specs.declared.key.Key.{Key};
+ghost use Rattle.bf_world.specs.Worlds.{WorldState};
+ghost use Rattle.line_forms.specs.Numbers.{IsOffset};
+ghost use Rattle.rel_trace.specs.Ones.{apply_kind, single_kind};
+ghost use Rattle.rel_trace.specs.Scopes.{lent, seen};
+ghost use Rattle.rel_trace.specs.Steps.{Goes};
+ghost use Rattle.rel_trace.specs.Trace.{none};
+ghost use Rattle.rel_trace.specs.Twos.{left_kind};
+ghost use Rattle.rel_nodes.specs.Core.{core, one_core, two_core};
+ghost use Rattle.rel_nodes.specs.Meaning.{given};
+ghost use Rattle.rel_nodes.specs.Nodes.{pure_shape};
+ghost use Rattle.rel_nodes.specs.Steps.{IsTold};
+
+use rel_inspect::Scene;
+use rel_lexer::Place;
+use rel_trace::{Apply, Held, One, RelKind, Scope, Step};
+use std::alloc::Global;
+
+/// A part of a question that neither looks nor turns, and gives one value at most. It is told at once, and keeps no state.
+#[derive(Drop)]
+pub enum Pure {
+    Constant(Held),
+    /// What `it` stands for.
+    It,
+    /// The value to the left.
+    Left,
+    /// What a sign or a cast makes of a part.
+    Applied { part: Box<Pure>, apply: Apply },
+    /// The one value of a part, with its head at this place.
+    Single { part: Box<Pure>, place: Place },
+    /// The second part with the value of the first to its left.
+    Joined { first: Box<Pure>, second: Box<Pure> },
+}
+
+impl Pure {
+    /// Its one value, its error, or that it gives none.
+    #[cycle(tell)]
+    pub(crate) fn tell(&self, alloc: Global, scope: Scope<'_>, scene: &Scene) -> Step
+        requires { IsOffset scene.now.offset }
+        ensures goes { (w : WorldState) (l : List Key) → Goes l (core w scene.now (pure_shape self.now) (seen scope.entry)) result l none }
+        ensures told { IsTold result }
+    {
+        match self {
+            Pure::Constant(value) => copied(Some(value)),
+            Pure::It => copied(scope.it),
+            Pure::Left => copied(scope.left),
+            Pure::Applied { part, apply } => applied(part, *apply, alloc, scope, scene),
+            Pure::Single { part, place } => single(part, *place, alloc, scope, scene),
+            Pure::Joined { first, second } => joined(first, second, alloc, scope, scene),
+        }
+    }
+}
+
+/// What a sign or a cast makes of a part.
+#[cycle(tell)]
+#[inline(never)]
+fn applied(part: &Pure, apply: Apply, alloc: Global, scope: Scope<'_>, scene: &Scene) -> Step
+    requires { IsOffset scene.now.offset }
+    ensures goes { (w : WorldState) (l : List Key) → Goes l (core w scene.now (one_core (apply_kind apply) (pure_shape part.now)) (seen scope.entry)) result l none }
+    ensures told { IsTold result }
+{
+    let step = part.tell(alloc, scope, scene);
+    let mut state = One::Apply(apply);
+    match state.after(alloc, step, scope, scene.offset) {
+        Step::Quiet => Step::Over,
+        step => step,
+    }
+}
+
+/// The one value of a part. None is an error at this place.
+#[cycle(tell)]
+#[inline(never)]
+fn single(part: &Pure, place: Place, alloc: Global, scope: Scope<'_>, scene: &Scene) -> Step
+    requires { IsOffset scene.now.offset }
+    ensures goes { (w : WorldState) (l : List Key) → Goes l (core w scene.now (one_core (single_kind place) (pure_shape part.now)) (seen scope.entry)) result l none }
+    ensures told { IsTold result }
+{
+    match part.tell(alloc, scope, scene) {
+        Step::Over => Step::Erred(RelKind::Nonexistent, place),
+        step => step,
+    }
+}
+
+/// The second part with the value of the first to its left.
+#[cycle(tell)]
+#[inline(never)]
+fn joined(first: &Pure, second: &Pure, alloc: Global, scope: Scope<'_>, scene: &Scene) -> Step
+    requires { IsOffset scene.now.offset }
+    ensures goes { (w : WorldState) (l : List Key) → Goes l (core w scene.now (two_core left_kind (pure_shape first.now) (pure_shape second.now)) (seen scope.entry)) result l none }
+    ensures told { IsTold result }
+{
+    match first.tell(alloc, scope, scene) {
+        Step::Given(value) => {
+            let inner = Scope {
+                left: Some(&value),
+                ..scope
+            };
+            second.tell(alloc, inner, scene)
+        }
+        step => step,
+    }
+}
+
+/// A copy of a value, if there is one.
+#[inline(never)]
+fn copied(value: Option<&Held>) -> Step
+    ensures goes { (l : List Key) → Goes l (given (lent value.entry)) result l none }
+    ensures told { IsTold result }
+{
+    match value {
+        None => Step::Over,
+        Some(value) => match value.copy() {
+            Ok(copied) => Step::Given(copied),
+            Err(_) => Step::Memory,
+        },
+    }
+}
