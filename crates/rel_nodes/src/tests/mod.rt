@@ -133,15 +133,3 @@ fn has(alloc: Global, question: &str, wanted: &str) -> Result<bool, Fail> {
     let events = events(alloc, &mut machine, &plan)?;
     Ok(events.as_str() == wanted)
 }
-
-/// The first step of a question with so many looks and turns left, and how many are left then.
-fn first_step(alloc: Global, question: &str, left: u64) -> Result<(Step, u64), Fail> {
-    let plan = plan(alloc, question)?;
-    let mut machine = machine(alloc)?;
-    let scene = scene(alloc);
-    let mut node = begin(alloc, plan.root())?;
-    node.reset();
-    let mut left = left;
-    let step = node.step(alloc, ALONE, &scene, &mut machine, &mut left);
-    Ok((step, left))
-}

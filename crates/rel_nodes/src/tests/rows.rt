@@ -79,20 +79,3 @@ fn tuples(rt: HostRuntime) -> Result<(), Fail> {
     assert!(rt; has(alloc, "now", "[Sun, 04 Mar 2007 16:04:08 -0800].")?);
     Ok(())
 }
-
-/// The events are `L8T0L0T0T0!16 0..4`.
-#[test]
-fn looks_and_turns_are_counted(rt: HostRuntime) -> Result<(), Fail> {
-    let alloc = rt.alloc();
-    let question = "file of folder \"/a\"";
-    let (step, left) = first_step(alloc, question, 9)?;
-    assert!(rt; matches!(step, Step::Erred(_, _)));
-    assert_eq!(rt; left, 4);
-    let (step, left) = first_step(alloc, question, 4)?;
-    assert!(rt; matches!(step, Step::Turned(_)));
-    assert_eq!(rt; left, 0);
-    let (step, left) = first_step(alloc, question, 2)?;
-    assert!(rt; matches!(step, Step::Full(_)));
-    assert_eq!(rt; left, 0);
-    Ok(())
-}
