@@ -1,5 +1,5 @@
 -- A cause in a later stretch is one in the whole.
-use Rattle.std.proofs.Common.{ℕ, ◌≤◌, ◌+◌, ◌-◌, ◌^◌, min, max, arith}
+use Rattle.std.proofs.Common.{ℕ, ◌≤◌, ◌+◌, ◌-◌, ◌^◌, min, arith}
 use Rattle.std.proofs.Math.Nat.{max-le, le-max_left, le-max_right, le-min, min-le_left, min-le_right}
 use Rattle.desk_base.specs.Counts.{Rose}
 use Rattle.rel_eval.specs.declared.cursor.Pulled.{Pulled}

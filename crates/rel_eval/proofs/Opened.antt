@@ -3,7 +3,6 @@ use Rattle.std.proofs.Common.{◌≡◌, None, ap, ◌∙◌}
 use Rattle.bf_world.specs.Worlds.{WorldState}
 use Rattle.rel_sources.specs.declared.scene.Scene.{Scene}
 use Rattle.rel_types.specs.Plans.{PlainNode}
-use Rattle.rel_trace.specs.Trace.{Trace}
 use Rattle.rel_nodes.specs.declared.node.Node.{Node}
 use Rattle.rel_nodes.specs.Core.{Alike, core, core_of}
 use Rattle.rel_nodes.specs.Meaning.{mean}

@@ -1,9 +1,8 @@
 -- A trace that is drawn for its one value.
-use Rattle.std.proofs.Common.{◌≡◌, true, false, List, [], ◌∷◌, ◌++◌, refl, sym, ap, subst, ◌∙◌}
+use Rattle.std.proofs.Common.{◌≡◌, true, false, List, [], ◌∷◌, ◌++◌, refl, ap, subst, ◌∙◌}
 use Rattle.std.proofs.lemmas.List.{append-nil}
 use Rattle.std.specs.declared.option.Option.{Option}
 use Rattle.std.specs.declared.option.Option.TheVariants.{Some, None}
-use Rattle.bf_machine.specs.Told.{Grows}
 use Rattle.bf_world.specs.declared.key.Key.{Key}
 use Rattle.rel_lexer.specs.declared.place.Place.{Place}
 use Rattle.rel_value.specs.Plain.{Plain, boolean, words}
@@ -13,18 +12,17 @@ use Rattle.rel_trace.specs.declared.kind.RelKind.{RelKind}
 use Rattle.rel_trace.specs.declared.kind.RelKind.TheVariants.{Nonexistent, NonUnique}
 use Rattle.rel_trace.specs.Draws.{single, single_from}
 use Rattle.rel_trace.specs.Steps.{LooksAt}
-use Rattle.rel_trace.specs.Trace.{End, Stop, Error, Event, Look, Turn, Give, Trace, Ends, After, none, one, follow, each}
+use Rattle.rel_trace.specs.Trace.{Stop, Error, Event, Look, Turn, Give, Trace, Ends, After, none, one, follow, each}
 use Rattle.rel_nodes.specs.Steps.{prepend, gives}
 use Rattle.rel_eval.specs.declared.one_value.OneValue.{OneValue}
 use Rattle.rel_eval.specs.declared.one_value.OneValue.TheVariants as drawn
-use Rattle.rel_eval.specs.declared.cursor.Pulled.{Pulled}
 use Rattle.rel_eval.specs.declared.cursor.Pulled.TheVariants as pulled
 use Rattle.rel_eval.specs.declared.told.Truth.{Truth}
 use Rattle.rel_eval.specs.declared.told.Truth.TheVariants as truth
 use Rattle.rel_eval.specs.declared.told.OneText.{OneText}
 use Rattle.rel_eval.specs.declared.told.OneText.TheVariants as one_text
 use Rattle.rel_eval.specs.Ones.{Ones, TellsOne}
-use Rattle.rel_eval.specs.Pulls.{Draws, Pulls, Skips}
+use Rattle.rel_eval.specs.Pulls.{Draws, Skips}
 use Rattle.rel_eval.specs.Singles.{Judges, TellsTruth, TellsText, Words}
 use Rattle.rel_nodes.proofs.Stretches.{grows_grows, grows_none}
 use Rattle.rel_eval.proofs.Skips.{same_skips, skips_skips}

@@ -1,5 +1,5 @@
 -- A question that is not well typed is refused with the checker's fault.
-use Rattle.std.proofs.Common.{◌≡◌, ◌≢◌, ℕ, List, None, Err, inl, inr, subst}
+use Rattle.std.proofs.Common.{◌≡◌, ◌≢◌, ℕ, List, None, Err, inr, subst}
 use Rattle.rel_lexer.specs.declared.place.Place.{Place}
 use Rattle.rel_grammar.specs.Trees.{Plain}
 use Rattle.rel_grammar.specs.Answers.{IsTreeOf}

@@ -1,11 +1,11 @@
 -- Questions that are asked for one truth or one text.
-use Rattle.std.specs.Prelude.{◌≡◌, ℕ, ℤ, Bool, true, false, nat_le, if◌then◌else◌, List, length}
+use Rattle.std.specs.Prelude.{ℕ, ℤ, true, false, nat_le, if◌then◌else◌, List, length}
 use Rattle.std.specs.declared.option.Option.{Option}
 use Rattle.desk_base.specs.Counts.{Rose}
 use Rattle.bf_machine.specs.Told.{Grows}
 use Rattle.bf_world.specs.declared.key.Key.{Key}
 use Rattle.rel_lexer.specs.declared.place.Place.{Place}
-use Rattle.rel_value.specs.Plain.{Plain, boolean, words, PlainKind, booleans}
+use Rattle.rel_value.specs.Plain.{Plain, boolean, words}
 use Rattle.rel_value.specs.Texts.{text_of}
 use Rattle.rel_trace.specs.declared.kind.RelKind.TheVariants.{TextTooLong, Incompatible}
 use Rattle.rel_trace.specs.Draws.{single}

@@ -109,7 +109,7 @@ impl Cursor {
         let left = &mut self.left;
         let step = self
             .node
-            .step(self.alloc, ALONE, &kept.scene, machine, left);
+            .step(self.alloc, &ALONE, &kept.scene, machine, left);
         let pulled = into_pulled(step, self.left);
         self.state = pulled.state();
         pulled

@@ -1,5 +1,5 @@
 -- Parts that mean the same may stand for one another.
-use Rattle.std.proofs.Common.{◌≡◌, sym, ap, ◌∙◌}
+use Rattle.std.proofs.Common.{◌≡◌, ap, ◌∙◌}
 use Rattle.std.proofs.lemmas.Result.{IfOk-weaker}
 use Rattle.std.specs.Result.{IfOk}
 use Rattle.std.specs.declared.alloc.Global.{Global}
@@ -16,9 +16,6 @@ use Rattle.rel_nodes.specs.Nodes.{boxed_shape, shape}
 
 pub alike_same : (c d : Core) → c ≡ d → Alike c d
 alike_same c d e w s a = ap (λ x. core w s x a) e
-
-pub alike_sym : (c d : Core) → Alike c d → Alike d c
-alike_sym c d h w s a = sym (h w s a)
 
 pub alike_trans : (c d e : Core) → Alike c d → Alike d e → Alike c e
 alike_trans c d e h g w s a = h w s a ∙ g w s a

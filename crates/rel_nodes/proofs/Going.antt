@@ -1,20 +1,19 @@
 -- How a step of a part becomes a step of the form around it.
-use Rattle.std.proofs.Common.{inl, inr, ◌≡◌, ◌≢◌, ◌≤◌, ◌<◌, ◌+◌, ◌*◌, ◌⊎◌, ℕ, List, [], ◌∷◌, ◌++◌, arith, ap, sym, refl, subst, ◌∙◌}
+use Rattle.std.proofs.Common.{inl, inr, ◌≡◌, ◌≤◌, ◌<◌, ◌+◌, ◌*◌, ◌⊎◌, ℕ, List, [], ◌∷◌, ◌++◌, arith, ap, sym, refl, subst, ◌∙◌}
 use Rattle.std.specs.Prelude.{length}
 use Rattle.std.proofs.lemmas.List.{append-nil, append_assoc, length-append}
 use Rattle.std.proofs.Math.Nat.{eq-or-lt_of_le}
 use Rattle.desk_base.specs.Counts.{Rose}
 use Rattle.std.specs.declared.option.Option.{Option}
-use Rattle.std.specs.declared.option.Option.TheVariants.{Some, None}
 use Rattle.bf_machine.specs.Told.{Grows}
 use Rattle.bf_world.specs.declared.key.Key.{Key}
 use Rattle.rel_lexer.specs.declared.place.Place.{Place}
 use Rattle.rel_trace.specs.declared.step.Step.{Step}
 use Rattle.rel_trace.specs.declared.step.Step.TheVariants as step
-use Rattle.rel_trace.specs.Trace.{Event, Look, Turn, Give, Trace, After}
+use Rattle.rel_trace.specs.Trace.{Event, Look, Turn, Trace, After}
 use Rattle.rel_trace.specs.Steps.{Falls, Goes, HasCause}
 use Rattle.rel_nodes.proofs.Stretches.{prepend_append, keys_append, gives_append, grows_none, grows_grows}
-use Rattle.rel_nodes.specs.Steps.{Advances, IsStop, Went, gives, keys, prepend}
+use Rattle.rel_nodes.specs.Steps.{Advances, PassedOver, Went, gives, keys, prepend}
 
 -- without a look
 pub went_same : (l l' : Option (List Key)) (t t' : Trace) (r : Step) → l' ≡ l → ((m : List Key) → Goes m t r m t') → Went l t r l' t'
@@ -77,6 +76,27 @@ advance_turn a b n m k t u p one h =
     one_more a b n m k t u h.events (Turn p) h.quiet refl h.counted one (h.whole ∙ ap (prepend h.events) (h.goes []).0)
     (subst (λ (x : List Key). Grows a b (keys h.events ++ x)) (h.goes []).1 h.grows)
 
+-- a step that is passed over
+pub advance_over : (a b : Option (List Key)) (n m k : ℕ) (t u : Trace) (r : Step) → PassedOver m r k → Advances a n t r b m u → Advances a n t step.Quiet b k u
+advance_over a b n m k t u step.Quiet e h = subst (λ (x : ℕ). Advances a n t step.Quiet b x u) (sym e) h
+advance_over a b n m k t u (step.Looked p) e h = advance_look a b n m k t u p (sym e) h
+advance_over a b n m k t u (step.Turned p) e h = advance_turn a b n m k t u p (sym e) h
+advance_over a b n m k t u _ e h = absurd e
+
+-- none is made more
+pub over_within : (r : Step) (m k : ℕ) → PassedOver m r k → k ≤ m
+over_within step.Quiet m k e = omega (arith, e)
+over_within (step.Looked p) m k e = omega (arith, e)
+over_within (step.Turned p) m k e = omega (arith, e)
+over_within _ m k e = absurd e
+
+-- where none was made it was a quiet one
+pub over_falls : (r : Step) (n m k q q' : ℕ) → m ≤ n → PassedOver m r k → (m ≡ n → Falls r q q') → k ≡ n → q' < q
+over_falls step.Quiet n m k q q' h e f z = f (omega (arith, e, z))
+over_falls (step.Looked p) n m k q q' h e f z = absurd (omega (arith, h, e, z))
+over_falls (step.Turned p) n m k q q' h e f z = absurd (omega (arith, h, e, z))
+over_falls _ n m k q q' h e f z = absurd e
+
 mul_mono : (a b c : ℕ) → a ≤ b → a * c ≤ b * c
 mul_mono a b c h = grind arith
 
@@ -90,13 +110,6 @@ same_or_less n m most q r f k (inr l) = less_by_one n m most q r l k
 -- a look or a turn outweighs all that is quiet
 pub nearer : (n m most q r : ℕ) → m ≤ n → (m ≡ n → r < q) → r ≤ most → m * (most + 1) + r < n * (most + 1) + q
 nearer n m most q r h f k = same_or_less n m most q r f k (eq-or-lt_of_le h)
-
--- where a step ends that goes on over all that is quiet, over looks, and over turns
-pub is_stop : (n : ℕ) (r : Step) → r ≢ step.Quiet → ((p : Place) → r ≢ step.Looked p) → ((p : Place) → r ≢ step.Turned p) → IsStop n r
-is_stop n step.Quiet a b c = absurd (a refl)
-is_stop n (step.Looked p) a b c = absurd (b p refl)
-is_stop n (step.Turned p) a b c = absurd (c p refl)
-is_stop n _ a b c = tt
 
 -- from further away
 pub falls_then : (r : Step) (a b c : ℕ) → b ≤ a → Falls r b c → Falls r a c

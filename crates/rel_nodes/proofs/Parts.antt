@@ -25,12 +25,12 @@ use Rattle.rel_nodes.specs.Nodes.{shape, rest}
 use Rattle.rel_nodes.specs.Steps.{Advances}
 use Rattle.rel_nodes.proofs.Passing.{false_true, advance_on, one_passes, first_passes, second_left, second_passes, test_passes, yes_passes, no_passes, Passes}
 
-pub second_went : (w : WorldState) (s : Scene) (state state' : Two) (first second second' : Node) (a a2 : Around) (l l' : Option (List Key)) (n n' : ℕ) (x r : Step) →
+pub second_advances : (w : WorldState) (s : Scene) (state state' : Two) (first second second' : Node) (a a2 : Around) (l l' : Option (List Key)) (n n' : ℕ) (x r : Step) →
     on_second state ≡ true →
     ((l l' : List Key) (t : Trace) (b b' f : Around → Trace) (a : Around) → Goes l (b (second_around state a)) x l' (b' (second_around state a)) → Goes l (two_left state t b f a) r l' (two_left state' t b' f a)) →
     a2 ≡ second_around state a → shape second' ≡ shape second → Advances l n (rest w s second a2) x l' n' (rest w s second' a2) →
     Advances l n (two_left state (rest w s first a) (rest w s second) (core w s (shape second)) a) r l' n' (two_left state' (rest w s first a) (rest w s second') (core w s (shape second')) a)
-second_went w s state state' first second second' a a2 l l' n n' x r on after e z h =
+second_advances w s state state' first second second' a a2 l l' n n' x r on after e z h =
     subst (λ (c : Core). Advances l n (two_left state (rest w s first a) (rest w s second) (core w s (shape second)) a) r l' n' (two_left state' (rest w s first a) (rest w s second') (core w s c) a)) (sym z)
     (advance_on l l' n n' (rest w s second (second_around state a)) (rest w s second' (second_around state a))
     (two_left state (rest w s first a) (rest w s second) (core w s (shape second)) a) (two_left state' (rest w s first a) (rest w s second') (core w s (shape second)) a) x r
@@ -38,12 +38,12 @@ second_went w s state state' first second second' a a2 l l' n n' x r on after e 
     (λ v m m'. after m m' (rest w s first a) (λ y. v) (rest w s second') (core w s (shape second)) a)
     (subst (λ (y : Around). Advances l n (rest w s second y) x l' n' (rest w s second' y)) e h))
 
-pub first_went : (w : WorldState) (s : Scene) (state state' : Two) (first first' second : Node) (a : Around) (l l' : Option (List Key)) (n n' : ℕ) (x r : Step) (begins : Bool) →
+pub first_advances : (w : WorldState) (s : Scene) (state state' : Two) (first first' second : Node) (a : Around) (l l' : Option (List Key)) (n n' : ℕ) (x r : Step) (begins : Bool) →
     on_second state ≡ false →
     ((l l' : List Key) (t t' : Trace) (b f : Around → Trace) (a : Around) → Goes l t x l' t' → Goes l (two_left state t b f a) r l' (two_left state' t' (begun begins b f) f a)) →
     Advances l n (rest w s first a) x l' n' (rest w s first' a) → begins ≡ false →
     Advances l n (two_left state (rest w s first a) (rest w s second) (core w s (shape second)) a) r l' n' (two_left state' (rest w s first' a) (rest w s second) (core w s (shape second)) a)
-first_went w s state state' first first' second a l l' n n' x r begins on after h e =
+first_advances w s state state' first first' second a l l' n n' x r begins on after h e =
     subst (λ (y : Bool). Advances l n (two_left state (rest w s first a) (rest w s second) (core w s (shape second)) a) r l' n' (two_left state' (rest w s first' a) (begun y (rest w s second) (core w s (shape second))) (core w s (shape second)) a)) e
     (advance_on l l' n n' (rest w s first a) (rest w s first' a)
     (two_left state (rest w s first a) (rest w s second) (core w s (shape second)) a) (two_left state' (rest w s first' a) (begun begins (rest w s second) (core w s (shape second))) (core w s (shape second)) a) x r
@@ -51,12 +51,12 @@ first_went w s state state' first first' second a l l' n n' x r begins on after 
     (λ v m m'. after m m' v (rest w s first' a) (rest w s second) (core w s (shape second)) a)
     h)
 
-pub begins_went : (w : WorldState) (s : Scene) (state state' : Two) (first first' second second' : Node) (a : Around) (l l' : Option (List Key)) (n n' : ℕ) (x r : Step) (begins : Bool) →
+pub begins_advances : (w : WorldState) (s : Scene) (state state' : Two) (first first' second second' : Node) (a : Around) (l l' : Option (List Key)) (n n' : ℕ) (x r : Step) (begins : Bool) →
     on_second state ≡ false →
     ((l l' : List Key) (t t' : Trace) (b f : Around → Trace) (a : Around) → Goes l t x l' t' → Goes l (two_left state t b f a) r l' (two_left state' t' (begun begins b f) f a)) →
     Advances l n (rest w s first a) x l' n' (rest w s first' a) → begins ≡ true → shape second' ≡ shape second → ((e : Around) → rest w s second' e ≡ core w s (shape second) e) →
     Advances l n (two_left state (rest w s first a) (rest w s second) (core w s (shape second)) a) r l' n' (two_left state' (rest w s first' a) (rest w s second') (core w s (shape second')) a)
-begins_went w s state state' first first' second second' a l l' n n' x r begins on after h e z whole =
+begins_advances w s state state' first first' second second' a l l' n n' x r begins on after h e z whole =
     let same : rest w s second' ≡ core w s (shape second) = λ i y. whole y i in
     subst (λ (c : Core). Advances l n (two_left state (rest w s first a) (rest w s second) (core w s (shape second)) a) r l' n' (two_left state' (rest w s first' a) (rest w s second') (core w s c) a)) (sym z)
     (subst (λ (b : Around → Trace). Advances l n (two_left state (rest w s first a) (rest w s second) (core w s (shape second)) a) r l' n' (two_left state' (rest w s first' a) b (core w s (shape second)) a)) (sym same)
@@ -68,13 +68,13 @@ begins_went w s state state' first first' second second' a l l' n n' x r begins 
     h)))
 
 -- the test of an `if` goes on
-pub test_went : (w : WorldState) (s : Scene) (state state' : Choice) (test test' chosen other : Node) (a : Around) (l l' : Option (List Key)) (n n' : ℕ) (x r : Step) (begins : Bool) →
+pub test_advances : (w : WorldState) (s : Scene) (state state' : Choice) (test test' chosen other : Node) (a : Around) (l l' : Option (List Key)) (n n' : ℕ) (x r : Step) (begins : Bool) →
     state ≡ Test →
     ((l l' : List Key) (t t' : Trace) (b c f g : Around → Trace) (a : Around) → Goes l t x l' t' → Goes l (choice_left state t b c f g a) r l' (choice_left state' t' (begun begins b f) (begun begins c g) f g a)) →
     Advances l n (rest w s test a) x l' n' (rest w s test' a) → begins ≡ false →
     Advances l n (choice_left state (rest w s test a) (rest w s chosen) (rest w s other) (core w s (shape chosen)) (core w s (shape other)) a) r
     l' n' (choice_left state' (rest w s test' a) (rest w s chosen) (rest w s other) (core w s (shape chosen)) (core w s (shape other)) a)
-test_went w s state state' test test' chosen other a l l' n n' x r begins i after h e =
+test_advances w s state state' test test' chosen other a l l' n n' x r begins i after h e =
     let old = choice_left state (rest w s test a) (rest w s chosen) (rest w s other) (core w s (shape chosen)) (core w s (shape other)) a in
     subst (λ (y : Bool). Advances l n old r l' n' (choice_left state' (rest w s test' a) (begun y (rest w s chosen) (core w s (shape chosen))) (begun y (rest w s other) (core w s (shape other))) (core w s (shape chosen)) (core w s (shape other)) a)) e
     (advance_on l l' n n' (rest w s test a) (rest w s test' a) old (choice_left state' (rest w s test' a) (begun begins (rest w s chosen) (core w s (shape chosen))) (begun begins (rest w s other) (core w s (shape other))) (core w s (shape chosen)) (core w s (shape other)) a) x r
@@ -88,14 +88,14 @@ pub fresh : (w : WorldState) (s : Scene) (n n' : Node) → ((e : Around) → res
 fresh w s n n' h = λ i y. h y i
 
 -- the test of an `if` was decided, and its branches begin anew
-pub decided_went : (w : WorldState) (s : Scene) (state state' : Choice) (test test' chosen chosen' other other' : Node) (a : Around) (l l' : Option (List Key)) (n n' : ℕ) (x r : Step) (begins : Bool) →
+pub decided_advances : (w : WorldState) (s : Scene) (state state' : Choice) (test test' chosen chosen' other other' : Node) (a : Around) (l l' : Option (List Key)) (n n' : ℕ) (x r : Step) (begins : Bool) →
     state ≡ Test →
     ((l l' : List Key) (t t' : Trace) (b c f g : Around → Trace) (a : Around) → Goes l t x l' t' → Goes l (choice_left state t b c f g a) r l' (choice_left state' t' (begun begins b f) (begun begins c g) f g a)) →
     Advances l n (rest w s test a) x l' n' (rest w s test' a) → begins ≡ true →
     shape chosen' ≡ shape chosen → rest w s chosen' ≡ core w s (shape chosen) → shape other' ≡ shape other → rest w s other' ≡ core w s (shape other) →
     Advances l n (choice_left state (rest w s test a) (rest w s chosen) (rest w s other) (core w s (shape chosen)) (core w s (shape other)) a) r
     l' n' (choice_left state' (rest w s test' a) (rest w s chosen') (rest w s other') (core w s (shape chosen')) (core w s (shape other')) a)
-decided_went w s state state' test test' chosen chosen' other other' a l l' n n' x r begins i after h e y1 y2 n1 n2 =
+decided_advances w s state state' test test' chosen chosen' other other' a l l' n n' x r begins i after h e y1 y2 n1 n2 =
     let old = choice_left state (rest w s test a) (rest w s chosen) (rest w s other) (core w s (shape chosen)) (core w s (shape other)) a in
     let f = core w s (shape chosen) in
     let g = core w s (shape other) in
@@ -111,12 +111,12 @@ decided_went w s state state' test test' chosen chosen' other other' a l l' n n'
     h)))))
 
 -- a branch of an `if` goes on
-pub yes_went : (w : WorldState) (s : Scene) (state state' : Choice) (test chosen chosen' other : Node) (a : Around) (l l' : Option (List Key)) (n n' : ℕ) (x r : Step) →
+pub yes_advances : (w : WorldState) (s : Scene) (state state' : Choice) (test chosen chosen' other : Node) (a : Around) (l l' : Option (List Key)) (n n' : ℕ) (x r : Step) →
     ((l l' : List Key) (t : Trace) (b c b' c' f g : Around → Trace) (a : Around) → Goes l (branch_left state b c a) x l' (branch_left state b' c' a) → Goes l (choice_left state t b c f g a) r l' (choice_left state' t b' c' f g a)) →
     state ≡ Yes → shape chosen' ≡ shape chosen → Advances l n (rest w s chosen a) x l' n' (rest w s chosen' a) →
     Advances l n (choice_left state (rest w s test a) (rest w s chosen) (rest w s other) (core w s (shape chosen)) (core w s (shape other)) a) r
     l' n' (choice_left state' (rest w s test a) (rest w s chosen') (rest w s other) (core w s (shape chosen')) (core w s (shape other)) a)
-yes_went w s state state' test chosen chosen' other a l l' n n' x r after i z h =
+yes_advances w s state state' test chosen chosen' other a l l' n n' x r after i z h =
     let old = choice_left state (rest w s test a) (rest w s chosen) (rest w s other) (core w s (shape chosen)) (core w s (shape other)) a in
     subst (λ (c : Core). Advances l n old r l' n' (choice_left state' (rest w s test a) (rest w s chosen') (rest w s other) (core w s c) (core w s (shape other)) a)) (sym z)
     (advance_on l l' n n' (branch_left state (rest w s chosen) (rest w s other) a) (branch_left state (rest w s chosen') (rest w s other) a)
@@ -129,12 +129,12 @@ yes_went w s state state' test chosen chosen' other a l l' n n' x r after i z h 
     (subst (λ (y : Choice). Advances l n (branch_left y (rest w s chosen) (rest w s other) a) x l' n' (branch_left y (rest w s chosen') (rest w s other) a)) (sym i)
     h))
 
-pub no_went : (w : WorldState) (s : Scene) (state state' : Choice) (test chosen other other' : Node) (a : Around) (l l' : Option (List Key)) (n n' : ℕ) (x r : Step) →
+pub no_advances : (w : WorldState) (s : Scene) (state state' : Choice) (test chosen other other' : Node) (a : Around) (l l' : Option (List Key)) (n n' : ℕ) (x r : Step) →
     ((l l' : List Key) (t : Trace) (b c b' c' f g : Around → Trace) (a : Around) → Goes l (branch_left state b c a) x l' (branch_left state b' c' a) → Goes l (choice_left state t b c f g a) r l' (choice_left state' t b' c' f g a)) →
     state ≡ No → shape other' ≡ shape other → Advances l n (rest w s other a) x l' n' (rest w s other' a) →
     Advances l n (choice_left state (rest w s test a) (rest w s chosen) (rest w s other) (core w s (shape chosen)) (core w s (shape other)) a) r
     l' n' (choice_left state' (rest w s test a) (rest w s chosen) (rest w s other') (core w s (shape chosen)) (core w s (shape other')) a)
-no_went w s state state' test chosen other other' a l l' n n' x r after i z h =
+no_advances w s state state' test chosen other other' a l l' n n' x r after i z h =
     let old = choice_left state (rest w s test a) (rest w s chosen) (rest w s other) (core w s (shape chosen)) (core w s (shape other)) a in
     subst (λ (c : Core). Advances l n old r l' n' (choice_left state' (rest w s test a) (rest w s chosen) (rest w s other') (core w s (shape chosen)) (core w s c) a)) (sym z)
     (advance_on l l' n n' (branch_left state (rest w s chosen) (rest w s other) a) (branch_left state (rest w s chosen) (rest w s other') a)
@@ -148,12 +148,12 @@ no_went w s state state' test chosen other other' a l l' n n' x r after i z h =
     h))
 
 -- a form with one part goes on
-pub one_went : (w : WorldState) (s : Scene) (state state' : One) (part part' : Node) (a : Around) (offset : ℤ) (l l' : Option (List Key)) (n n' : ℕ) (x r : Step) →
+pub one_advances : (w : WorldState) (s : Scene) (state state' : One) (part part' : Node) (a : Around) (offset : ℤ) (l l' : Option (List Key)) (n n' : ℕ) (x r : Step) →
     is_done state ≡ false →
     ((l l' : List Key) (t t' : Trace) → Goes l t x l' t' → Goes l (one_left state a offset t) r l' (one_left state' a offset t')) →
     Advances l n (rest w s part a) x l' n' (rest w s part' a) →
     Advances l n (one_left state a offset (rest w s part a)) r l' n' (one_left state' a offset (rest w s part' a))
-one_went w s state state' part part' a offset l l' n n' x r waits after h =
+one_advances w s state state' part part' a offset l l' n n' x r waits after h =
     advance_on l l' n n' (rest w s part a) (rest w s part' a) (one_left state a offset (rest w s part a)) (one_left state' a offset (rest w s part' a)) x r
     (one_left state a offset) refl (one_passes state a offset waits) (λ v m m'. after m m' v (rest w s part' a)) h
 

@@ -5,7 +5,6 @@ use Rattle.std.specs.declared.option.Option.TheVariants.{Some, None}
 use Rattle.bf_world.specs.declared.key.Key.{Key}
 use Rattle.rel_lexer.specs.declared.place.Place.{Place}
 use Rattle.rel_value.specs.Plain.{Plain}
-use Rattle.rel_trace.specs.declared.choice.Choice.{Choice}
 use Rattle.rel_trace.specs.declared.choice.Choice.TheVariants.{Test, Yes, No}
 use Rattle.rel_trace.specs.declared.draw.Draw.TheVariants.{Single, Exists}
 use Rattle.rel_trace.specs.declared.handing.Handing.TheVariants.{Each, Sift, Argument, Left, Turned}

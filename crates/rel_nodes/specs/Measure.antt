@@ -21,6 +21,10 @@ two_cap argument_kind a b = a * (b + 2) + (b + 1)
 two_cap left_kind a b = a * (b + 2) + (b + 1)
 two_cap (turned_kind p) a b = a + (b + 1)
 
+-- the same of a choice, whose test has at most a, and whose branches have at most b and c
+abbrev pub choice_cap : ℕ → ℕ → ℕ → ℕ
+choice_cap a b c = a * (b + c + 2) + (b + c + 1)
+
 -- at most so many for a plan
 abbrev pub cap : Core → ℕ
 cap nothing_core = 0
@@ -30,7 +34,7 @@ cap left_core = 1
 cap (property_core id argument object p) = 2
 cap (one_core k c) = cap c + 1
 cap (two_core k c d) = two_cap k (cap c) (cap d)
-cap (choice_core t y n) = cap t * (cap y + cap n + 2) + (cap y + cap n + 1)
+cap (choice_core t y n) = choice_cap (cap t) (cap y) (cap n)
 
 -- a property begins its walk in a quiet step, and gives at most one value before the walk's next look or turn
 abbrev pub property_quiet : Option Walking → ℕ

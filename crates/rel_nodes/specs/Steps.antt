@@ -5,7 +5,7 @@ use Rattle.bf_machine.specs.Told.{Grows}
 use Rattle.bf_world.specs.declared.key.Key.{Key}
 use Rattle.rel_value.specs.Plain.{Plain}
 use Rattle.rel_trace.specs.declared.step.Step.{Step}
-use Rattle.rel_trace.specs.declared.step.Step.TheVariants.{Quiet, Looked, Turned, Full, Failed}
+use Rattle.rel_trace.specs.declared.step.Step.TheVariants.{Quiet, Looked, Turned}
 use Rattle.rel_trace.specs.Steps.{Goes}
 use Rattle.rel_trace.specs.Trace.{Event, Look, Turn, Give, Trace, After}
 
@@ -56,11 +56,9 @@ IsStop n (Looked p) = ⊥
 IsStop n (Turned p) = n ≡ 0
 IsStop n _ = Unit {0}
 
--- one value, the end, an error or want of memory
-abbrev pub IsTold : Step → Type 0
-IsTold Quiet = ⊥
-IsTold (Looked p) = ⊥
-IsTold (Turned p) = ⊥
-IsTold (Full p) = ⊥
-IsTold (Failed p) = ⊥
-IsTold _ = Unit {0}
+-- a step is passed over: a quiet one, and a look or a turn, which is counted down
+abbrev pub PassedOver : ℕ → Step → ℕ → Type 0
+PassedOver n Quiet n' = n' ≡ n
+PassedOver n (Looked p) n' = n ≡ n' + 1
+PassedOver n (Turned p) n' = n ≡ n' + 1
+PassedOver n _ n' = ⊥

@@ -1,8 +1,9 @@
-//! What a question means, and its evaluation one event at a time, by a tree of nodes that know how far they have come.
+//! What a question means, and its evaluation value by value, by a tree of nodes that know how far they have come.
 #![tactic(auto)]
 
 mod arrows;
 mod beginning;
+mod counting;
 mod held_parts;
 mod laws;
 mod make;

@@ -125,7 +125,8 @@ fn with_left(
     )
 }
 
-/// The same as one pure part, where both parts are pure; they are taken then.
+/// The same as one pure part, where both parts are pure. They are taken then, and what stands in their places is dropped with the
+/// nodes.
 fn pure_joined(
     alloc: Global,
     first: &mut Node,

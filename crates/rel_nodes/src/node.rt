@@ -1,19 +1,19 @@
-ghost use Rattle.std.specs.Prelude.{◌≡◌, ◌≢◌, ◌≤◌, ℕ, Bool, List, Option, Some};
-ghost use Rattle.bf_world.specs.declared.key.Key.{Key};
+ghost use Rattle.std.specs.Prelude.{◌≡◌, ◌≤◌, Some, false};
 ghost use Rattle.bf_world.specs.Worlds.{WorldState};
 ghost use Rattle.desk_base.specs.Moments.{IsMoment};
 ghost use Rattle.line_forms.specs.Numbers.{IsOffset};
 ghost use Rattle.rel_sources.specs.declared.scene.Scene.{Scene};
 ghost use Rattle.rel_trace.specs.Choices.{choice_left, choice_quiet};
-ghost use Rattle.rel_trace.specs.Ones.{one_kind, one_left, one_quiet, unless, zero_if};
+ghost use Rattle.rel_trace.specs.Ones.{one_kind, one_left, one_quiet};
 ghost use Rattle.rel_trace.specs.Scopes.{Around, seen};
-ghost use Rattle.rel_trace.specs.Steps.{AsRoom, Falls, Goes, HasCause};
+ghost use Rattle.rel_trace.specs.Steps.{AsRoom, Falls, HasCause};
 ghost use Rattle.rel_trace.specs.Twos.{two_kind, two_left, two_quiet};
 ghost use Rattle.rel_nodes.specs.Core.{core};
 ghost use Rattle.rel_nodes.specs.Measure.{cap, quiet};
-ghost use Rattle.rel_nodes.specs.Nodes.{pure_shape, rest, shape};
-ghost use Rattle.rel_nodes.specs.Steps.{Advances, IsStop, IsTold, has_room};
+ghost use Rattle.rel_nodes.specs.Nodes.{rest, shape};
+ghost use Rattle.rel_nodes.specs.Steps.{Advances, IsStop, has_room};
 
+use crate::counting::pass_over;
 use crate::{Property, Pure};
 use bf_machine::Machine;
 use rel_inspect::Scene;
@@ -74,13 +74,14 @@ impl Node {
     }
 
     /// Goes on to the next value, the end or an error. Looks and turns on the way are made and counted down in `left`; where none
-    /// is left it stops before the next look (`Step::Full`) or behind the next turn (`Step::Turned`). After a failed look the next
-    /// step makes the same one. At want of memory it stops behind the looks that were made.
+    /// is left it stops before the next look (`Step::Full`), or behind the next turn, which is not counted then (`Step::Turned`).
+    /// After a failed look the next step makes the same one. At want of memory the looks that were made are counted; what the node
+    /// would give from then on is not told.
     #[cycle(step)]
     pub fn step<M: Machine>(
         &mut self,
         alloc: Global,
-        scope: Scope<'_>,
+        scope: &Scope<'_>,
         scene: &Scene,
         machine: &mut M,
         left: &mut u64,
@@ -90,48 +91,8 @@ impl Node {
         ensures stop { IsStop left.new result }
         ensures shape { shape self.new ≡ shape self.old }
         ensures goes { (w : WorldState) → M.world machine.old ≡ Some w
-            → Advances (M.looked machine.old) left.old (rest w scene.now self.old (seen scope.entry)) result
-            (M.looked machine.new) left.new (rest w scene.now self.new (seen scope.entry)) }
-        ensures cause { HasCause (M.faults machine.old) (M.faults machine.new) result }
-        ensures later { M.faults machine.old ≤ M.faults machine.new }
-        ensures room { AsRoom (has_room left.new) result }
-        ensures within { left.new ≤ left.old }
-        ensures falls { left.new ≡ left.old → Falls result (quiet self.old) (quiet self.new) }
-        ensures world { M.world machine.new ≡ M.world machine.old }
-        ensures acted { M.acted machine.new ≡ M.acted machine.old }
-        ensures started { M.started machine.new ≡ M.started machine.old }
-    {
-        loop {
-            match self.go_on(alloc, scope, scene, machine, left) {
-                Step::Quiet => {}
-                Step::Looked(_) => *left -= 1,
-                Step::Turned(place) => {
-                    if *left == 0 {
-                        return Step::Turned(place);
-                    }
-                    *left -= 1;
-                }
-                step => return step,
-            }
-        }
-    }
-
-    /// One event, or none, behind the looks and turns of its parts.
-    #[cycle(step)]
-    fn go_on<M: Machine>(
-        &mut self,
-        alloc: Global,
-        scope: Scope<'_>,
-        scene: &Scene,
-        machine: &mut M,
-        left: &mut u64,
-    ) -> Step
-        requires moment { IsMoment scene.now.moment }
-        requires offset { IsOffset scene.now.offset }
-        ensures shape { shape self.new ≡ shape self.old }
-        ensures goes { (w : WorldState) → M.world machine.old ≡ Some w
-            → Advances (M.looked machine.old) left.old (rest w scene.now self.old (seen scope.entry)) result
-            (M.looked machine.new) left.new (rest w scene.now self.new (seen scope.entry)) }
+            → Advances (M.looked machine.old) left.old (rest w scene.now self.old (seen scope.now)) result
+            (M.looked machine.new) left.new (rest w scene.now self.new (seen scope.now)) }
         ensures cause { HasCause (M.faults machine.old) (M.faults machine.new) result }
         ensures later { M.faults machine.old ≤ M.faults machine.new }
         ensures room { AsRoom (has_room left.new) result }
@@ -143,8 +104,8 @@ impl Node {
     {
         match self {
             Node::Nothing => Step::Over,
-            Node::Pure { pure, given } => step_pure(pure, given, alloc, scope, scene),
-            Node::Property(property) => property.step(alloc, scope, scene, machine, *left > 0),
+            Node::Pure { pure, given } => pure.tell_once(given, alloc, scope, scene),
+            Node::Property(property) => property.step(alloc, scope, scene, machine, left),
             Node::WithOne { part, state } => {
                 step_one(part, state, alloc, scope, scene, machine, left)
             }
@@ -163,14 +124,50 @@ impl Node {
     }
 }
 
-/// One event of a form with one part, or none, behind the looks and turns of the part.
+/// Goes on to the next value, the end or an error of a form with one part, as `Node::step` does.
 #[cycle(step)]
 #[inline(never)]
 fn step_one<M: Machine>(
     part: &mut Node,
     state: &mut One,
     alloc: Global,
-    scope: Scope<'_>,
+    scope: &Scope<'_>,
+    scene: &Scene,
+    machine: &mut M,
+    left: &mut u64,
+) -> Step
+    requires moment { IsMoment scene.now.moment }
+    requires offset { IsOffset scene.now.offset }
+    ensures stop { IsStop left.new result }
+    ensures part { shape part.new ≡ shape part.old }
+    ensures kind { one_kind state.new ≡ one_kind state.old }
+    ensures goes { (w : WorldState) → M.world machine.old ≡ Some w
+        → Advances (M.looked machine.old) left.old (one_left state.old (seen scope.now) scene.now.offset (rest w scene.now part.old (seen scope.now))) result
+        (M.looked machine.new) left.new (one_left state.new (seen scope.now) scene.now.offset (rest w scene.now part.new (seen scope.now))) }
+    ensures cause { HasCause (M.faults machine.old) (M.faults machine.new) result }
+    ensures later { M.faults machine.old ≤ M.faults machine.new }
+    ensures room { AsRoom (has_room left.new) result }
+    ensures within { left.new ≤ left.old }
+    ensures falls { left.new ≡ left.old → Falls result (one_quiet state.old (quiet part.old)) (one_quiet state.new (quiet part.new)) }
+    ensures world { M.world machine.new ≡ M.world machine.old }
+    ensures acted { M.acted machine.new ≡ M.acted machine.old }
+    ensures started { M.started machine.new ≡ M.started machine.old }
+{
+    loop {
+        let step = go_on_one(part, state, alloc, scope, scene, machine, left);
+        if !pass_over(&step, left) {
+            return step;
+        }
+    }
+}
+
+/// One event of a form with one part, or none, behind the looks and turns of the part.
+#[cycle(step)]
+fn go_on_one<M: Machine>(
+    part: &mut Node,
+    state: &mut One,
+    alloc: Global,
+    scope: &Scope<'_>,
     scene: &Scene,
     machine: &mut M,
     left: &mut u64,
@@ -180,8 +177,8 @@ fn step_one<M: Machine>(
     ensures part { shape part.new ≡ shape part.old }
     ensures kind { one_kind state.new ≡ one_kind state.old }
     ensures goes { (w : WorldState) → M.world machine.old ≡ Some w
-        → Advances (M.looked machine.old) left.old (one_left state.old (seen scope.entry) scene.now.offset (rest w scene.now part.old (seen scope.entry))) result
-        (M.looked machine.new) left.new (one_left state.new (seen scope.entry) scene.now.offset (rest w scene.now part.new (seen scope.entry))) }
+        → Advances (M.looked machine.old) left.old (one_left state.old (seen scope.now) scene.now.offset (rest w scene.now part.old (seen scope.now))) result
+        (M.looked machine.new) left.new (one_left state.new (seen scope.now) scene.now.offset (rest w scene.now part.new (seen scope.now))) }
     ensures cause { HasCause (M.faults machine.old) (M.faults machine.new) result }
     ensures later { M.faults machine.old ≤ M.faults machine.new }
     ensures room { AsRoom (has_room left.new) result }
@@ -195,10 +192,10 @@ fn step_one<M: Machine>(
         return Step::Over;
     }
     let step = part.step(alloc, scope, scene, machine, left);
-    state.after(alloc, step, scope, scene.offset)
+    state.after(alloc, step, *scope, scene.offset)
 }
 
-/// One event of a form with two parts, or none, behind the looks and turns of the parts.
+/// Goes on to the next value, the end or an error of a form with two parts, as `Node::step` does.
 #[cycle(step)]
 #[inline(never)]
 fn step_two<M: Machine>(
@@ -206,7 +203,45 @@ fn step_two<M: Machine>(
     second: &mut Node,
     state: &mut Two,
     alloc: Global,
-    scope: Scope<'_>,
+    scope: &Scope<'_>,
+    scene: &Scene,
+    machine: &mut M,
+    left: &mut u64,
+) -> Step
+    requires moment { IsMoment scene.now.moment }
+    requires offset { IsOffset scene.now.offset }
+    ensures stop { IsStop left.new result }
+    ensures first { shape first.new ≡ shape first.old }
+    ensures second { shape second.new ≡ shape second.old }
+    ensures kind { two_kind state.new ≡ two_kind state.old }
+    ensures goes { (w : WorldState) → M.world machine.old ≡ Some w
+        → Advances (M.looked machine.old) left.old (two_left state.old (rest w scene.now first.old (seen scope.now)) (rest w scene.now second.old) (core w scene.now (shape second.old)) (seen scope.now)) result
+        (M.looked machine.new) left.new (two_left state.new (rest w scene.now first.new (seen scope.now)) (rest w scene.now second.new) (core w scene.now (shape second.new)) (seen scope.now)) }
+    ensures cause { HasCause (M.faults machine.old) (M.faults machine.new) result }
+    ensures later { M.faults machine.old ≤ M.faults machine.new }
+    ensures room { AsRoom (has_room left.new) result }
+    ensures within { left.new ≤ left.old }
+    ensures falls { left.new ≡ left.old → Falls result (two_quiet state.old (quiet first.old) (quiet second.old) (cap (shape second.old))) (two_quiet state.new (quiet first.new) (quiet second.new) (cap (shape second.new))) }
+    ensures world { M.world machine.new ≡ M.world machine.old }
+    ensures acted { M.acted machine.new ≡ M.acted machine.old }
+    ensures started { M.started machine.new ≡ M.started machine.old }
+{
+    loop {
+        let step = go_on_two(first, second, state, alloc, scope, scene, machine, left);
+        if !pass_over(&step, left) {
+            return step;
+        }
+    }
+}
+
+/// One event of a form with two parts, or none, behind the looks and turns of the parts.
+#[cycle(step)]
+fn go_on_two<M: Machine>(
+    first: &mut Node,
+    second: &mut Node,
+    state: &mut Two,
+    alloc: Global,
+    scope: &Scope<'_>,
     scene: &Scene,
     machine: &mut M,
     left: &mut u64,
@@ -217,8 +252,8 @@ fn step_two<M: Machine>(
     ensures second { shape second.new ≡ shape second.old }
     ensures kind { two_kind state.new ≡ two_kind state.old }
     ensures goes { (w : WorldState) → M.world machine.old ≡ Some w
-        → Advances (M.looked machine.old) left.old (two_left state.old (rest w scene.now first.old (seen scope.entry)) (rest w scene.now second.old) (core w scene.now (shape second.old)) (seen scope.entry)) result
-        (M.looked machine.new) left.new (two_left state.new (rest w scene.now first.new (seen scope.entry)) (rest w scene.now second.new) (core w scene.now (shape second.new)) (seen scope.entry)) }
+        → Advances (M.looked machine.old) left.old (two_left state.old (rest w scene.now first.old (seen scope.now)) (rest w scene.now second.old) (core w scene.now (shape second.old)) (seen scope.now)) result
+        (M.looked machine.new) left.new (two_left state.new (rest w scene.now first.new (seen scope.now)) (rest w scene.now second.new) (core w scene.now (shape second.new)) (seen scope.now)) }
     ensures cause { HasCause (M.faults machine.old) (M.faults machine.new) result }
     ensures later { M.faults machine.old ≤ M.faults machine.new }
     ensures room { AsRoom (has_room left.new) result }
@@ -229,8 +264,8 @@ fn step_two<M: Machine>(
     ensures started { M.started machine.new ≡ M.started machine.old }
 {
     if state.on_second() {
-        let inner = state.second_scope(scope);
-        let step = second.step(alloc, inner, scene, machine, left);
+        let inner = state.second_scope(*scope);
+        let step = second.step(alloc, &inner, scene, machine, left);
         return state.after_second(step);
     }
     let step = first.step(alloc, scope, scene, machine, left);
@@ -241,7 +276,7 @@ fn step_two<M: Machine>(
     next.step
 }
 
-/// One event of a form with a test and two branches, or none, behind the looks and turns of the parts.
+/// Goes on to the next value, the end or an error of a form with a test and two branches, as `Node::step` does.
 #[cycle(step)]
 #[inline(never)]
 fn step_choice<M: Machine>(
@@ -250,7 +285,46 @@ fn step_choice<M: Machine>(
     no: &mut Node,
     state: &mut Choice,
     alloc: Global,
-    scope: Scope<'_>,
+    scope: &Scope<'_>,
+    scene: &Scene,
+    machine: &mut M,
+    left: &mut u64,
+) -> Step
+    requires moment { IsMoment scene.now.moment }
+    requires offset { IsOffset scene.now.offset }
+    ensures stop { IsStop left.new result }
+    ensures test { shape test.new ≡ shape test.old }
+    ensures yes { shape yes.new ≡ shape yes.old }
+    ensures no { shape no.new ≡ shape no.old }
+    ensures goes { (w : WorldState) → M.world machine.old ≡ Some w
+        → Advances (M.looked machine.old) left.old (choice_left state.old (rest w scene.now test.old (seen scope.now)) (rest w scene.now yes.old) (rest w scene.now no.old) (core w scene.now (shape yes.old)) (core w scene.now (shape no.old)) (seen scope.now)) result
+        (M.looked machine.new) left.new (choice_left state.new (rest w scene.now test.new (seen scope.now)) (rest w scene.now yes.new) (rest w scene.now no.new) (core w scene.now (shape yes.new)) (core w scene.now (shape no.new)) (seen scope.now)) }
+    ensures cause { HasCause (M.faults machine.old) (M.faults machine.new) result }
+    ensures later { M.faults machine.old ≤ M.faults machine.new }
+    ensures room { AsRoom (has_room left.new) result }
+    ensures within { left.new ≤ left.old }
+    ensures falls { left.new ≡ left.old → Falls result (choice_quiet state.old (quiet test.old) (quiet yes.old) (quiet no.old) (cap (shape yes.old)) (cap (shape no.old))) (choice_quiet state.new (quiet test.new) (quiet yes.new) (quiet no.new) (cap (shape yes.new)) (cap (shape no.new))) }
+    ensures world { M.world machine.new ≡ M.world machine.old }
+    ensures acted { M.acted machine.new ≡ M.acted machine.old }
+    ensures started { M.started machine.new ≡ M.started machine.old }
+{
+    loop {
+        let step = go_on_choice(test, yes, no, state, alloc, scope, scene, machine, left);
+        if !pass_over(&step, left) {
+            return step;
+        }
+    }
+}
+
+/// One event of a form with a test and two branches, or none, behind the looks and turns of the parts.
+#[cycle(step)]
+fn go_on_choice<M: Machine>(
+    test: &mut Node,
+    yes: &mut Node,
+    no: &mut Node,
+    state: &mut Choice,
+    alloc: Global,
+    scope: &Scope<'_>,
     scene: &Scene,
     machine: &mut M,
     left: &mut u64,
@@ -261,8 +335,8 @@ fn step_choice<M: Machine>(
     ensures yes { shape yes.new ≡ shape yes.old }
     ensures no { shape no.new ≡ shape no.old }
     ensures goes { (w : WorldState) → M.world machine.old ≡ Some w
-        → Advances (M.looked machine.old) left.old (choice_left state.old (rest w scene.now test.old (seen scope.entry)) (rest w scene.now yes.old) (rest w scene.now no.old) (core w scene.now (shape yes.old)) (core w scene.now (shape no.old)) (seen scope.entry)) result
-        (M.looked machine.new) left.new (choice_left state.new (rest w scene.now test.new (seen scope.entry)) (rest w scene.now yes.new) (rest w scene.now no.new) (core w scene.now (shape yes.new)) (core w scene.now (shape no.new)) (seen scope.entry)) }
+        → Advances (M.looked machine.old) left.old (choice_left state.old (rest w scene.now test.old (seen scope.now)) (rest w scene.now yes.old) (rest w scene.now no.old) (core w scene.now (shape yes.old)) (core w scene.now (shape no.old)) (seen scope.now)) result
+        (M.looked machine.new) left.new (choice_left state.new (rest w scene.now test.new (seen scope.now)) (rest w scene.now yes.new) (rest w scene.now no.new) (core w scene.now (shape yes.new)) (core w scene.now (shape no.new)) (seen scope.now)) }
     ensures cause { HasCause (M.faults machine.old) (M.faults machine.new) result }
     ensures later { M.faults machine.old ≤ M.faults machine.new }
     ensures room { AsRoom (has_room left.new) result }
@@ -291,25 +365,4 @@ fn step_choice<M: Machine>(
             state.after_branch(step)
         }
     }
-}
-
-/// All that a pure part gives, and nothing more from then on.
-#[inline(never)]
-fn step_pure(
-    pure: &Pure,
-    is_given: &mut bool,
-    alloc: Global,
-    scope: Scope<'_>,
-    scene: &Scene,
-) -> Step
-    requires { IsOffset scene.now.offset }
-    ensures goes { (w : WorldState) (l : List Key) → Goes l (unless is_given.old (core w scene.now (pure_shape pure.now) (seen scope.entry))) result l (unless is_given.new (core w scene.now (pure_shape pure.now) (seen scope.entry))) }
-    ensures told { IsTold result }
-    ensures falls { Falls result (zero_if is_given.old 1) (zero_if is_given.new 1) }
-{
-    if *is_given {
-        return Step::Over;
-    }
-    *is_given = true;
-    pure.tell(alloc, scope, scene)
 }

@@ -9,9 +9,10 @@ ghost use Rattle.rel_trace.specs.Steps.{AsRoom, Falls, HasCause};
 ghost use Rattle.rel_nodes.specs.Core.{asked_for, core};
 ghost use Rattle.rel_nodes.specs.Measure.{property_quiet};
 ghost use Rattle.rel_nodes.specs.Nodes.{property_left, row_core};
-ghost use Rattle.rel_nodes.specs.Steps.{Went};
+ghost use Rattle.rel_nodes.specs.Steps.{Advances, IsStop, Went, has_room};
 
 use crate::Walking;
+use crate::counting::pass_over;
 use bf_machine::Machine;
 use rel_inspect::{Scene, inspect};
 use rel_lexer::Place;
@@ -43,12 +44,44 @@ impl Property {
         put(&mut self.walk, None);
     }
 
-    /// One event, or none.
+    /// Goes on to the next value, the end or an error, as a node does.
     #[inline(never)]
     pub(crate) fn step<M: Machine>(
         &mut self,
         alloc: Global,
-        scope: Scope<'_>,
+        scope: &Scope<'_>,
+        scene: &Scene,
+        machine: &mut M,
+        left: &mut u64,
+    ) -> Step
+        requires { IsMoment scene.now.moment }
+        ensures stop { IsStop left.new result }
+        ensures row { row_core self.new ≡ row_core self.old }
+        ensures goes { (w : WorldState) → M.world machine.old ≡ Some w
+            → Advances (M.looked machine.old) left.old (property_left w scene.now self.old self.old.walk (seen scope.now)) result
+            (M.looked machine.new) left.new (property_left w scene.now self.new self.new.walk (seen scope.now)) }
+        ensures cause { HasCause (M.faults machine.old) (M.faults machine.new) result }
+        ensures later { M.faults machine.old ≤ M.faults machine.new }
+        ensures room { AsRoom (has_room left.new) result }
+        ensures within { left.new ≤ left.old }
+        ensures falls { left.new ≡ left.old → Falls result (property_quiet self.old.walk) (property_quiet self.new.walk) }
+        ensures world { M.world machine.new ≡ M.world machine.old }
+        ensures acted { M.acted machine.new ≡ M.acted machine.old }
+        ensures started { M.started machine.new ≡ M.started machine.old }
+    {
+        loop {
+            let step = self.go_on(alloc, scope, scene, machine, *left > 0);
+            if !pass_over(&step, left) {
+                return step;
+            }
+        }
+    }
+
+    /// One event, or none.
+    fn go_on<M: Machine>(
+        &mut self,
+        alloc: Global,
+        scope: &Scope<'_>,
         scene: &Scene,
         machine: &mut M,
         room: bool,
@@ -56,8 +89,8 @@ impl Property {
         requires moment { IsMoment scene.now.moment }
         ensures row { row_core self.new ≡ row_core self.old }
         ensures goes { (w : WorldState) → M.world machine.old ≡ Some w
-            → Went (M.looked machine.old) (property_left w scene.now self.old self.old.walk (seen scope.entry)) result
-            (M.looked machine.new) (property_left w scene.now self.new self.new.walk (seen scope.entry)) }
+            → Went (M.looked machine.old) (property_left w scene.now self.old self.old.walk (seen scope.now)) result
+            (M.looked machine.new) (property_left w scene.now self.new self.new.walk (seen scope.now)) }
         ensures cause { HasCause (M.faults machine.old) (M.faults machine.new) result }
         ensures later { M.faults machine.old ≤ M.faults machine.new }
         ensures room { AsRoom room result }
@@ -73,12 +106,12 @@ impl Property {
     }
 
     /// Begins the walk over what the scope hands down, in a step without an event.
-    fn begin(&mut self, alloc: Global, scope: Scope<'_>) -> Step
+    fn begin(&mut self, alloc: Global, scope: &Scope<'_>) -> Step
         requires { self.old.walk ≡ None }
         ensures row { row_core self.new ≡ row_core self.old }
         ensures goes { (w : WorldState) (s : Scene) (l : Option (List Key))
-            → Went l (core w s (row_core self.old) (seen scope.entry)) result
-            l (property_left w s self.new self.new.walk (seen scope.entry)) }
+            → Went l (core w s (row_core self.old) (seen scope.now)) result
+            l (property_left w s self.new self.new.walk (seen scope.now)) }
         ensures cause { (a b : ℕ) → HasCause a b result }
         ensures room { (r : Bool) → AsRoom r result }
         ensures falls { Falls result 2 (property_quiet self.new.walk) }

@@ -1,20 +1,20 @@
-ghost use Rattle.std.specs.Prelude.{List};
+ghost use Rattle.std.specs.Prelude.{◌≡◌, IfSome, List};
 ghost use Rattle.bf_world.specs.declared.key.Key.{Key};
 ghost use Rattle.bf_world.specs.Worlds.{WorldState};
 ghost use Rattle.line_forms.specs.Numbers.{IsOffset};
-ghost use Rattle.rel_trace.specs.Ones.{apply_kind, single_kind};
+ghost use Rattle.rel_sources.specs.declared.scene.Scene.{Scene};
+ghost use Rattle.rel_trace.specs.Ones.{apply_kind, single_kind, unless, zero_if};
 ghost use Rattle.rel_trace.specs.Scopes.{lent, seen};
-ghost use Rattle.rel_trace.specs.Steps.{Goes};
-ghost use Rattle.rel_trace.specs.Trace.{none};
+ghost use Rattle.rel_trace.specs.Steps.{Falls, Goes, IsTold};
+ghost use Rattle.rel_trace.specs.Trace.{none, one};
 ghost use Rattle.rel_trace.specs.Twos.{left_kind};
 ghost use Rattle.rel_nodes.specs.Core.{core, one_core, two_core};
 ghost use Rattle.rel_nodes.specs.Meaning.{given};
 ghost use Rattle.rel_nodes.specs.Nodes.{pure_shape};
-ghost use Rattle.rel_nodes.specs.Steps.{IsTold};
 
 use rel_inspect::Scene;
 use rel_lexer::Place;
-use rel_trace::{Apply, Held, One, RelKind, Scope, Step};
+use rel_trace::{Apply, Held, RelKind, Scope, Step};
 use std::alloc::Global;
 
 /// A part of a question that neither looks nor turns, and gives one value at most. It is told at once, and keeps no state.
@@ -34,11 +34,32 @@ pub enum Pure {
 }
 
 impl Pure {
+    /// All that it gives, and nothing more from then on.
+    #[inline(never)]
+    pub(crate) fn tell_once(
+        &self,
+        is_given: &mut bool,
+        alloc: Global,
+        scope: &Scope<'_>,
+        scene: &Scene,
+    ) -> Step
+        requires { IsOffset scene.now.offset }
+        ensures goes { (w : WorldState) (l : List Key) → Goes l (unless is_given.old (core w scene.now (pure_shape self.now) (seen scope.now))) result l (unless is_given.new (core w scene.now (pure_shape self.now) (seen scope.now))) }
+        ensures told { IsTold result }
+        ensures falls { Falls result (zero_if is_given.old 1) (zero_if is_given.new 1) }
+    {
+        if *is_given {
+            return Step::Over;
+        }
+        *is_given = true;
+        self.tell(alloc, scope, scene)
+    }
+
     /// Its one value, its error, or that it gives none.
     #[cycle(tell)]
-    pub(crate) fn tell(&self, alloc: Global, scope: Scope<'_>, scene: &Scene) -> Step
+    fn tell(&self, alloc: Global, scope: &Scope<'_>, scene: &Scene) -> Step
         requires { IsOffset scene.now.offset }
-        ensures goes { (w : WorldState) (l : List Key) → Goes l (core w scene.now (pure_shape self.now) (seen scope.entry)) result l none }
+        ensures goes { (w : WorldState) (l : List Key) → Goes l (core w scene.now (pure_shape self.now) (seen scope.now)) result l none }
         ensures told { IsTold result }
     {
         match self {
@@ -50,20 +71,34 @@ impl Pure {
             Pure::Joined { first, second } => joined(first, second, alloc, scope, scene),
         }
     }
+
+    /// The value that it gives, where it stands somewhere already and need not be made.
+    fn standing<'a>(&'a self, scope: &Scope<'a>) -> Option<&'a Held>
+        ensures { (w : WorldState) (s : Scene) → IfSome result (λ value. core w s (pure_shape self.now) (seen scope.now) ≡ one value.now) }
+    {
+        match self {
+            Pure::Constant(value) => Some(value),
+            Pure::It => scope.it,
+            Pure::Left => scope.left,
+            Pure::Applied { .. } | Pure::Single { .. } | Pure::Joined { .. } => None,
+        }
+    }
 }
 
 /// What a sign or a cast makes of a part.
 #[cycle(tell)]
 #[inline(never)]
-fn applied(part: &Pure, apply: Apply, alloc: Global, scope: Scope<'_>, scene: &Scene) -> Step
+fn applied(part: &Pure, apply: Apply, alloc: Global, scope: &Scope<'_>, scene: &Scene) -> Step
     requires { IsOffset scene.now.offset }
-    ensures goes { (w : WorldState) (l : List Key) → Goes l (core w scene.now (one_core (apply_kind apply) (pure_shape part.now)) (seen scope.entry)) result l none }
+    ensures goes { (w : WorldState) (l : List Key) → Goes l (core w scene.now (one_core (apply_kind apply) (pure_shape part.now)) (seen scope.now)) result l none }
     ensures told { IsTold result }
 {
-    let step = part.tell(alloc, scope, scene);
-    let mut state = One::Apply(apply);
-    match state.after(alloc, step, scope, scene.offset) {
-        Step::Quiet => Step::Over,
+    // Both are lent anew, for as long as the value is looked at.
+    if let Some(value) = (&*part).standing(&*scope) {
+        return apply.tell(alloc, scope.left, value, scene.offset);
+    }
+    match part.tell(alloc, scope, scene) {
+        Step::Given(value) => apply.tell(alloc, scope.left, &value, scene.offset),
         step => step,
     }
 }
@@ -71,9 +106,9 @@ fn applied(part: &Pure, apply: Apply, alloc: Global, scope: Scope<'_>, scene: &S
 /// The one value of a part. None is an error at this place.
 #[cycle(tell)]
 #[inline(never)]
-fn single(part: &Pure, place: Place, alloc: Global, scope: Scope<'_>, scene: &Scene) -> Step
+fn single(part: &Pure, place: Place, alloc: Global, scope: &Scope<'_>, scene: &Scene) -> Step
     requires { IsOffset scene.now.offset }
-    ensures goes { (w : WorldState) (l : List Key) → Goes l (core w scene.now (one_core (single_kind place) (pure_shape part.now)) (seen scope.entry)) result l none }
+    ensures goes { (w : WorldState) (l : List Key) → Goes l (core w scene.now (one_core (single_kind place) (pure_shape part.now)) (seen scope.now)) result l none }
     ensures told { IsTold result }
 {
     match part.tell(alloc, scope, scene) {
@@ -85,18 +120,26 @@ fn single(part: &Pure, place: Place, alloc: Global, scope: Scope<'_>, scene: &Sc
 /// The second part with the value of the first to its left.
 #[cycle(tell)]
 #[inline(never)]
-fn joined(first: &Pure, second: &Pure, alloc: Global, scope: Scope<'_>, scene: &Scene) -> Step
+fn joined(first: &Pure, second: &Pure, alloc: Global, scope: &Scope<'_>, scene: &Scene) -> Step
     requires { IsOffset scene.now.offset }
-    ensures goes { (w : WorldState) (l : List Key) → Goes l (core w scene.now (two_core left_kind (pure_shape first.now) (pure_shape second.now)) (seen scope.entry)) result l none }
+    ensures goes { (w : WorldState) (l : List Key) → Goes l (core w scene.now (two_core left_kind (pure_shape first.now) (pure_shape second.now)) (seen scope.now)) result l none }
     ensures told { IsTold result }
 {
+    // Both are lent anew, for as long as the value is looked at.
+    if let Some(value) = (&*first).standing(&*scope) {
+        let inner = Scope {
+            left: Some(value),
+            ..*scope
+        };
+        return second.tell(alloc, &inner, scene);
+    }
     match first.tell(alloc, scope, scene) {
         Step::Given(value) => {
             let inner = Scope {
                 left: Some(&value),
-                ..scope
+                ..*scope
             };
-            second.tell(alloc, inner, scene)
+            second.tell(alloc, &inner, scene)
         }
         step => step,
     }

@@ -35,6 +35,15 @@ AsRoom room (Full p) = room ≡ false
 AsRoom room (Failed p) = room ≡ true
 AsRoom room _ = Unit {0}
 
+-- one value, the end, an error or want of memory
+abbrev pub IsTold : Step → Type 0
+IsTold Quiet = ⊥
+IsTold (Looked p) = ⊥
+IsTold (Turned p) = ⊥
+IsTold (Full p) = ⊥
+IsTold (Failed p) = ⊥
+IsTold _ = Unit {0}
+
 -- a step without a look or a turn brings the next look, turn or end nearer
 abbrev pub Falls : Step → ℕ → ℕ → Type 0
 Falls Quiet old new = new < old

@@ -1,8 +1,8 @@
 ghost use Rattle.std.specs.Prelude.{◌≡◌, ℕ, List, Bool};
 ghost use Rattle.bf_world.specs.declared.key.Key.{Key};
 ghost use Rattle.line_forms.specs.Numbers.{IsOffset};
-ghost use Rattle.rel_trace.specs.Trace.{Trace, each};
-ghost use Rattle.rel_trace.specs.Steps.{Goes, HasCause, AsRoom, Falls};
+ghost use Rattle.rel_trace.specs.Trace.{Trace, each, none};
+ghost use Rattle.rel_trace.specs.Steps.{AsRoom, Falls, Goes, HasCause, IsTold};
 ghost use Rattle.rel_trace.specs.Ones.{applied, apply_place, made};
 ghost use Rattle.rel_trace.specs.Scopes.{lent};
 ghost use Rattle.rel_trace.specs.Works.{Works};
@@ -30,6 +30,16 @@ pub enum Apply {
 }
 
 impl Apply {
+    /// All that it makes of a value and of the left one. Times are written as a clock shows them that is `offset` minutes east of
+    /// UTC, -840 to 840.
+    pub fn tell(self, alloc: Global, left: Option<&Held>, value: &Held, offset: i64) -> Step
+        requires { IsOffset offset }
+        ensures goes { (l : List Key) → Goes l (applied self offset (lent left.entry) value.now) result l none }
+        ensures told { IsTold result }
+    {
+        self.of(alloc, left, value, offset).told(self.place())
+    }
+
     /// After a step of the part. Times are written as a clock shows them that is `offset` minutes east of UTC.
     pub(crate) fn after(self, alloc: Global, step: Step, left: Option<&Held>, offset: i64) -> Step
         requires { IsOffset offset }
@@ -39,21 +49,21 @@ impl Apply {
         ensures falls { (q q' : ℕ) → Falls step q q' → Falls result q q' }
     {
         match step {
-            Step::Given(value) => self.of(alloc, left, value, offset).at(self.place()),
+            Step::Given(value) => self.of(alloc, left, &value, offset).at(self.place()),
             other => other,
         }
     }
 
     /// What it makes of a value.
-    fn of(self, alloc: Global, left: Option<&Held>, value: Held, offset: i64) -> Worked
+    fn of(self, alloc: Global, left: Option<&Held>, value: &Held, offset: i64) -> Worked
         requires { IsOffset offset }
-        ensures { Works (made self offset (lent left.entry) value) result }
+        ensures { Works (made self offset (lent left.entry) value.now) result }
     {
         match self {
-            Apply::Negate { .. } => opposite(&value),
-            Apply::Not { .. } => inverse(&value),
-            Apply::Cast { to, .. } => cast_of(alloc, to, &value, offset),
-            Apply::Sign { sign, .. } => operate_left(alloc, sign, left, &value),
+            Apply::Negate { .. } => opposite(value),
+            Apply::Not { .. } => inverse(value),
+            Apply::Cast { to, .. } => cast_of(alloc, to, value, offset),
+            Apply::Sign { sign, .. } => operate_left(alloc, sign, left, value),
             Apply::Tuple { joining, .. } => joining.tie_left(alloc, left, value),
         }
     }

@@ -23,8 +23,8 @@ pub enum Joining {
 
 impl Joining {
     /// The tuple of the left value in scope and a later one.
-    pub(crate) fn tie_left(self, alloc: Global, left: Option<&Held>, later: Held) -> Worked
-        ensures { Works (tied_left self (lent left.entry) later) result }
+    pub(crate) fn tie_left(self, alloc: Global, left: Option<&Held>, later: &Held) -> Worked
+        ensures { Works (tied_left self (lent left.entry) later.now) result }
     {
         match left {
             Some(earlier) => self.tie(alloc, earlier, later),
@@ -33,12 +33,15 @@ impl Joining {
     }
 
     /// The tuple of an earlier value, or of the parts of an earlier tuple, and a later one.
-    fn tie(self, alloc: Global, earlier: &Held, later: Held) -> Worked
-        ensures { Works (tied self earlier.now later) result }
+    fn tie(self, alloc: Global, earlier: &Held, later: &Held) -> Worked
+        ensures { Works (tied self earlier.now later.now) result }
     {
-        match self {
-            Joining::Pair => paired(alloc, earlier, later),
-            Joining::Push => pushed(earlier.value(), later),
+        match later.copy() {
+            Ok(later) => match self {
+                Joining::Pair => paired(alloc, earlier, later),
+                Joining::Push => pushed(earlier.value(), later),
+            },
+            Err(_) => Worked::Memory,
         }
     }
 }

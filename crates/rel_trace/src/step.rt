@@ -22,7 +22,7 @@ pub enum Step {
     Full(Place),
     /// The look at this place failed. The next event is the same look.
     Failed(Place),
-    /// Memory ran out, and no look was made.
+    /// Memory ran out. What would follow is not told.
     Memory,
 }
 

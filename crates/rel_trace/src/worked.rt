@@ -3,8 +3,8 @@ ghost use Rattle.bf_world.specs.declared.key.Key.{Key};
 ghost use Rattle.rel_value.specs.Operands.{IsSound};
 ghost use Rattle.rel_value.specs.Outcomes.{Answers, Outcome};
 ghost use Rattle.rel_value.specs.Views.{shown};
-ghost use Rattle.rel_trace.specs.Steps.{AsRoom, Falls, Goes, HasCause};
-ghost use Rattle.rel_trace.specs.Trace.{Trace, follow, result_at};
+ghost use Rattle.rel_trace.specs.Steps.{AsRoom, Falls, Goes, HasCause, IsTold};
+ghost use Rattle.rel_trace.specs.Trace.{Trace, follow, none, result_at};
 ghost use Rattle.rel_trace.specs.Works.{HasRow, Works};
 
 use crate::{Held, RelKind, Step};
@@ -45,6 +45,19 @@ impl Worked {
             Worked::Given(value) => Step::Given(value),
             Worked::Failed(kind) => Step::Erred(kind, place),
             Worked::Without => Step::Quiet,
+            Worked::Memory => Step::Memory,
+        }
+    }
+
+    /// The one step that tells it, or its failure at a place. Where there is no row, nothing is left.
+    pub(crate) fn told(self, place: Place) -> Step
+        ensures goes { (o : Outcome) → Works o self → (l : List Key) → Goes l (result_at place o) result l none }
+        ensures told { IsTold result }
+    {
+        match self {
+            Worked::Given(value) => Step::Given(value),
+            Worked::Failed(kind) => Step::Erred(kind, place),
+            Worked::Without => Step::Over,
             Worked::Memory => Step::Memory,
         }
     }

@@ -1,5 +1,4 @@
 //! Questions with their events, worked out by hand from the meaning of each form.
-ghost use Rattle.std.specs.Prelude.{IfOk};
 ghost use Rattle.desk_base.specs.Moments.{IsMoment};
 ghost use Rattle.line_forms.specs.Numbers.{IsOffset};
 
@@ -105,7 +104,7 @@ fn events(alloc: Global, machine: &mut PlainMachine, plan: &Plan) -> Result<Stri
     let mut events = String::new(alloc);
     let mut left = 0;
     for _ in 0..1_000_000 {
-        match node.step(alloc, ALONE, &scene, machine, &mut left) {
+        match node.step(alloc, &ALONE, &scene, machine, &mut left) {
             Step::Turned(place) => placed(&mut events, "T", place)?,
             Step::Full(place) => {
                 placed(&mut events, "L", place)?;
@@ -132,4 +131,39 @@ fn has(alloc: Global, question: &str, wanted: &str) -> Result<bool, Fail> {
     let mut machine = machine(alloc)?;
     let events = events(alloc, &mut machine, &plan)?;
     Ok(events.as_str() == wanted)
+}
+
+/// Where the first step stops with so many looks and turns left: `T` at a turn, `L` before a look, `!` at an error; and how many are
+/// left then.
+fn first_stop(
+    alloc: Global,
+    machine: &mut PlainMachine,
+    plan: &Plan,
+    left: u64,
+) -> Result<(char, u64), Fail> {
+    let scene = scene(alloc);
+    let mut node = begin(alloc, plan.root())?;
+    node.reset();
+    let mut left = left;
+    let sign = match node.step(alloc, &ALONE, &scene, machine, &mut left) {
+        Step::Turned(_) => 'T',
+        Step::Full(_) => 'L',
+        Step::Erred(_, _) => '!',
+        _ => '?',
+    };
+    Ok((sign, left))
+}
+
+/// Whether the first step of a question stops so, with so many looks and turns left before it and behind it.
+fn stops(
+    alloc: Global,
+    question: &str,
+    before: u64,
+    sign: char,
+    behind: u64,
+) -> Result<bool, Fail> {
+    let plan = plan(alloc, question)?;
+    let mut machine = machine(alloc)?;
+    let (found, left) = first_stop(alloc, &mut machine, &plan, before)?;
+    Ok(found == sign && left == behind)
 }

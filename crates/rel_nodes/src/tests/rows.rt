@@ -79,3 +79,14 @@ fn tuples(rt: HostRuntime) -> Result<(), Fail> {
     assert!(rt; has(alloc, "now", "[Sun, 04 Mar 2007 16:04:08 -0800].")?);
     Ok(())
 }
+
+/// The events are `L8T0L0T0T0!16 0..4`.
+#[test]
+fn looks_and_turns_are_counted(rt: HostRuntime) -> Result<(), Fail> {
+    let alloc = rt.alloc();
+    let question = "file of folder \"/a\"";
+    assert!(rt; stops(alloc, question, 9, '!', 4)?);
+    assert!(rt; stops(alloc, question, 4, 'T', 0)?);
+    assert!(rt; stops(alloc, question, 2, 'L', 0)?);
+    Ok(())
+}

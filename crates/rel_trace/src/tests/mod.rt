@@ -8,6 +8,7 @@ mod hands;
 mod joins;
 mod kinds;
 mod sequences;
+mod told;
 
 const HERE: Place = Place { from: 3, to: 7 };
 

@@ -1,7 +1,7 @@
 use Rattle.std.proofs.Common.{subst}
 use Rattle.rel_value.specs.Views.{shown}
 use Rattle.rel_eval.specs.declared.one_value.OneValue.{OneValue}
-use Rattle.rel_eval.specs.Ones.{OneHasCause, TellsOne}
+use Rattle.rel_eval.specs.Ones.{TellsOne}
 use Rattle.rel_eval.specs.Singles.{judged}
 use Rattle.rel_eval.proofs.Singles.{truth_of_value, truth_of_error, truth_of_failed, truth_of_memory}
 use Rattle.rel_eval.proofs.truths.told.Goals as goal

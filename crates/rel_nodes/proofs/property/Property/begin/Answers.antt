@@ -19,8 +19,8 @@ returns-in-Ok-clause-goes c = λ w s l.
     let begun = ap (λ k. placed r.head (left k w s)) c.new.ensures
     ∙ ap (placed r.head) (c.in-Ok.ensures.left w s)
     ∙ ap (λ v. placed r.head (prop r.id v y w s)) c.asked_for-argument.ensures.same
-    ∙ ap (λ v. placed r.head (prop r.id (asked_for r.argument (lent c.args.scope.argument)) v w s)) c.asked_for-object.ensures.same in
-    rw c.put.ensures (went_same l l (property_whole w s r.id r.argument r.object r.head (seen c.args.scope)) (placed r.head (left c.new.result.walk w s)) Quiet refl (λ m. (sym begun, refl)))
+    ∙ ap (λ v. placed r.head (prop r.id (asked_for r.argument (lent c.args.scope.now.argument)) v w s)) c.asked_for-object.ensures.same in
+    rw c.put.ensures (went_same l l (property_whole w s r.id r.argument r.object r.head (seen c.args.scope.now)) (placed r.head (left c.new.result.walk w s)) Quiet refl (λ m. (sym begun, refl)))
 
 pub returns-in-Ok-clause-falls : goal.returns-in-Ok-clause-falls
 returns-in-Ok-clause-falls c = rw c.put.ensures (omega (arith, values_le c.new.result.walk))
