@@ -22,10 +22,6 @@ Asks words command = words ≡ words_of command
 abbrev pub AsksSome : List (List ℕ) → (Command → Type 0) → Type 0
 AsksSome words P = (command : Command) × Asks words command × P command
 
--- the words are those of a command
-abbrev pub IsCommand : List (List ℕ) → Type 0
-IsCommand words = (command : Command) × Asks words command
-
 -- the words are those of no command
 abbrev pub IsNoCommand : List (List ℕ) → Type 0
 IsNoCommand words = (command : Command) → ¬ Asks words command

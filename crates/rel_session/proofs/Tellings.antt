@@ -18,7 +18,7 @@ use Rattle.rel_eval.specs.Pulls.{Skips}
 use Rattle.rel_session.specs.declared.paused.Left.TheVariants as left
 use Rattle.rel_session.specs.declared.paused.Step.{Step}
 use Rattle.rel_session.specs.declared.paused.Step.TheVariants.{On, Out}
-use Rattle.rel_session.specs.Printed.{said_value, said_error, said_fault, said_more}
+use Rattle.rel_session.specs.Printed.{said_value, said_error, said_more}
 use Rattle.rel_session.specs.Tellings.{Telling, ended, faulted, paused, onto, GoesOn, Tells}
 use Rattle.rel_session.specs.Waiting.{Comes, TellsValue}
 
@@ -109,15 +109,9 @@ comes_of_long offset span room v t old new long said = record {
   appended = said;
 }
 
--- the room after a value
-pub comes_of_all : (offset : ℤ) (span : Place) (t : Trace) (old new : List ℕ) → new ≡ old → TellsValue offset span (GoesOn None t (λ left. Tells offset span left t)) (On None) t old new
-comes_of_all offset span t old new same = record { said = []; comes = (λ u told. told, refl); appended = same ∙ sym (append-nil old) }
-
+-- a page is full
 pub comes_of_full : (offset : ℤ) (span : Place) (t : Trace) (old new : List ℕ) → new ≡ old ++ said_more → TellsValue offset span (GoesOn (Some 0) t (λ left. Tells offset span left t)) (Out left.More) t old new
 comes_of_full offset span t old new said = record { said = said_more; comes = (paused t, refl, refl, refl, refl, refl); appended = said }
-
-pub comes_of_more : (offset : ℤ) (span : Place) (t : Trace) (more : ℕ) (old new : List ℕ) → new ≡ old → TellsValue offset span (GoesOn (Some (suc more)) t (λ left. Tells offset span left t)) (On (Some more)) t old new
-comes_of_more offset span t more old new same = record { said = []; comes = (λ u told. told, refl); appended = same ∙ sym (append-nil old) }
 
 -- a value was drawn, and this came of it
 pub comes_past_value : (offset : ℤ) (span : Place) (room : Option ℕ) (t : Trace) (looks : List Key) (v : Plain) (left : Trace) (step : Step) (said : List ℕ) → Skips t looks (After (Give v) left)

@@ -17,7 +17,7 @@ use Rattle.fix_site.specs.declared.piece.Piece.{Piece}
 use Rattle.fix_site.specs.declared.piece.Piece.TheVariants.{Relevance, Script}
 use Rattle.site_check.specs.declared.finding.Finding.{Finding}
 use Rattle.site_check.specs.declared.finding.Finding.TheVariants.{Good, BadLine, TwiceId, WrongDigest, TooLong, BadRelevance, BadScript, Memory}
-use Rattle.site_check.specs.Pieces.{IsNoTruth, IsTruth, IsGoodPiece, IsRefusedPiece, moved}
+use Rattle.site_check.specs.Pieces.{IsNoTruth, IsGoodPiece, IsRefusedPiece, moved}
 use Rattle.site_check.specs.Findings.{FirstRefused}
 use Rattle.site_check.specs.Judgements.{JudgesPiece, JudgesPieces}
 
@@ -29,9 +29,6 @@ undefined_is_judged line text place words h = (refl, (undefined place words, h, 
 
 pub no_truth_is_judged : (line : ℕ) (text : List ℕ) (plan : PlainNode) (kind : RelKind) (place : Place) → IsPlanOf text plan → IsNoTruth plan kind → place ≡ span_of_node plan → JudgesPiece (Relevance line text) (Some (BadRelevance line kind place))
 no_truth_is_judged line text plan kind place h wrong at = (refl, (question plan, h, (wrong, at)))
-
-pub truth_is_good : (line : ℕ) (text : List ℕ) (plan : PlainNode) → IsPlanOf text plan → IsTruth plan → IsGoodPiece (Relevance line text)
-truth_is_good line text plan h truth = (plan, h, truth)
 
 pub script_is_good : (first : ℕ) (lines : List (List ℕ)) (script : ScriptOfCode) → ReadsScript lines (Ok script) → IsGoodPiece (Script first lines)
 script_is_good first lines script h = (shown_script script, h)
