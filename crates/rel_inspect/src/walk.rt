@@ -155,6 +155,7 @@ impl State {
     }
 
     /// An event that is no look.
+    #[inline(always)]
     fn go(&mut self, alloc: Global, scene: &Scene) -> WalkEvent
         requires asks { asked self.old ≡ None }
         requires sound { IsSoundState self.old }

@@ -117,6 +117,12 @@ falls_then step.Quiet a b c h k = omega (arith, h, k)
 falls_then (step.Given v) a b c h k = omega (arith, h, k)
 falls_then _ a b c h k = tt
 
+-- to what is nearer still
+pub falls_to : (r : Step) (a b c : ℕ) → c ≤ b → Falls r a b → Falls r a c
+falls_to step.Quiet a b c h k = omega (arith, h, k)
+falls_to (step.Given v) a b c h k = omega (arith, h, k)
+falls_to _ a b c h k = tt
+
 rose_then : (a b c : ℕ) → a ≤ b → Rose b c → Rose a c
 rose_then a b c h r = omega (arith, h, r)
 

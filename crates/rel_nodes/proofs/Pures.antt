@@ -47,12 +47,13 @@ single_other (step.Erred k q) l t p h not go = (ap (single p) go.0, go.1)
 single_other step.Memory l t p h not go = go
 single_other _ l t p h not go = absurd h
 
--- a sign or a cast of the one value of its part
+-- a sign or a cast of the one value of its part is what it makes of that
+pub applied_one : (x : Apply) (a : Around) (offset : ℤ) (v : Plain) (t : Trace) → t ≡ only v → one_whole (apply_kind x) a offset t ≡ applied x offset a.left v
+applied_one x a offset v t e = sym (apply_whole x a offset t) ∙ ap (λ (u : Trace). each u (applied x offset a.left)) e ∙ follow_none (applied x offset a.left v)
+
+-- and so what is told of it is told of the whole
 pub applied_given : (x : Apply) (a : Around) (offset : ℤ) (v : Plain) (r : Step) (l : List Key) (t : Trace) → t ≡ only v → Goes l (applied x offset a.left v) r l none → Goes l (one_whole (apply_kind x) a offset t) r l none
-applied_given x a offset v r l t e h =
-    subst (λ (u : Trace). Goes l u r l none)
-    (sym (follow_none (applied x offset a.left v)) ∙ ap (λ u. each u (applied x offset a.left)) (sym e) ∙ apply_whole x a offset t)
-    h
+applied_given x a offset v r l t e h = subst (λ (u : Trace). Goes l u r l none) (sym (applied_one x a offset v t e)) h
 
 -- a part that gives no value is all that a sign or a cast makes of it
 pub applied_other : (x : Apply) (a : Around) (offset : ℤ) (r : Step) (l : List Key) (t : Trace) → IsTold r → ((v : Plain) → r ≡ step.Given v → ⊥) → Goes l t r l none → Goes l (one_whole (apply_kind x) a offset t) r l none

@@ -1,4 +1,4 @@
-ghost use Rattle.std.specs.Prelude.{◌≡◌, ◌≤◌, Some, false};
+ghost use Rattle.std.specs.Prelude.{◌≡◌, ◌≤◌, ℕ, Some, false, true};
 ghost use Rattle.bf_world.specs.Worlds.{WorldState};
 ghost use Rattle.desk_base.specs.Moments.{IsMoment};
 ghost use Rattle.line_forms.specs.Numbers.{IsOffset};
@@ -7,6 +7,7 @@ ghost use Rattle.rel_trace.specs.Choices.{choice_left, choice_quiet};
 ghost use Rattle.rel_trace.specs.Ones.{one_kind, one_left, one_quiet};
 ghost use Rattle.rel_trace.specs.Scopes.{Around, seen};
 ghost use Rattle.rel_trace.specs.Steps.{AsRoom, Falls, HasCause};
+ghost use Rattle.rel_trace.specs.Trace.{Trace, none};
 ghost use Rattle.rel_trace.specs.Twos.{two_kind, two_left, two_quiet};
 ghost use Rattle.rel_nodes.specs.Core.{core};
 ghost use Rattle.rel_nodes.specs.Measure.{cap, quiet};
@@ -70,6 +71,21 @@ impl Node {
                 test.reset();
                 state.reset();
             }
+        }
+    }
+
+    /// Whether nothing is left, as far as that shows without a step.
+    fn is_told(&self) -> bool
+        ensures { result ≡ true → (w : WorldState) (s : Scene) (a : Around) → rest w s self.now a ≡ none }
+    {
+        match self {
+            Node::Nothing => true,
+            Node::Pure { given, .. } => *given,
+            Node::WithOne { part, state } => {
+                state.is_done() || state.ends_with_part() && part.is_told()
+            }
+            Node::WithTwo { first, state, .. } => state.ends_with_first() && first.is_told(),
+            Node::Property(_) | Node::WithChoice { .. } => false,
         }
     }
 
@@ -264,9 +280,14 @@ fn go_on_two<M: Machine>(
     ensures started { M.started machine.new ≡ M.started machine.old }
 {
     if state.on_second() {
+        if second.is_told() {
+            return state.after_second(Step::Over);
+        }
         let inner = state.second_scope(*scope);
         let step = second.step(alloc, &inner, scene, machine, left);
-        return state.after_second(step);
+        let step = state.after_second(step);
+        release(second, state);
+        return step;
     }
     let step = first.step(alloc, scope, scene, machine, left);
     let next = state.after_first(step);
@@ -274,6 +295,17 @@ fn go_on_two<M: Machine>(
         second.reset();
     }
     next.step
+}
+
+/// Gives up what was handed to a second part that has nothing left: a long tuple would keep all its beginnings otherwise.
+fn release(second: &Node, state: &mut Two)
+    ensures kind { two_kind state.new ≡ two_kind state.old }
+    ensures left { (w : WorldState) (s : Scene) (t : Trace) (f : Around → Trace) (a : Around) → two_left state.new t (rest w s second.now) f a ≡ two_left state.old t (rest w s second.now) f a }
+    ensures falls { (q r c : ℕ) → two_quiet state.new q r c ≤ two_quiet state.old q r c }
+{
+    if second.is_told() {
+        state.release();
+    }
 }
 
 /// Goes on to the next value, the end or an error of a form with a test and two branches, as `Node::step` does.

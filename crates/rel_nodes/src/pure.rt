@@ -4,6 +4,7 @@ ghost use Rattle.bf_world.specs.Worlds.{WorldState};
 ghost use Rattle.line_forms.specs.Numbers.{IsOffset};
 ghost use Rattle.rel_sources.specs.declared.scene.Scene.{Scene};
 ghost use Rattle.rel_trace.specs.Ones.{apply_kind, single_kind, unless, zero_if};
+ghost use Rattle.rel_trace.specs.Scalars.{plain};
 ghost use Rattle.rel_trace.specs.Scopes.{lent, seen};
 ghost use Rattle.rel_trace.specs.Steps.{Falls, Goes, IsTold};
 ghost use Rattle.rel_trace.specs.Trace.{none, one};
@@ -14,7 +15,7 @@ ghost use Rattle.rel_nodes.specs.Nodes.{pure_shape};
 
 use rel_inspect::Scene;
 use rel_lexer::Place;
-use rel_trace::{Apply, Held, RelKind, Scope, Step};
+use rel_trace::{Apply, Held, RelKind, Scalar, Scope, Step};
 use std::alloc::Global;
 
 /// A part of a question that neither looks nor turns, and gives one value at most. It is told at once, and keeps no state.
@@ -52,7 +53,29 @@ impl Pure {
             return Step::Over;
         }
         *is_given = true;
-        self.tell(alloc, scope, scene)
+        match self.scalar(alloc, scope, scene) {
+            Some(scalar) => Step::Given(scalar.held()),
+            None => self.tell(alloc, scope, scene),
+        }
+    }
+
+    /// Its one value, where that and all that it is made of are scalars. It is told without a step for each part.
+    #[cycle(scalar)]
+    fn scalar(&self, alloc: Global, scope: &Scope<'_>, scene: &Scene) -> Option<Scalar>
+        requires { IsOffset scene.now.offset }
+        ensures { (w : WorldState) → IfSome result (λ scalar. core w scene.now (pure_shape self.now) (seen scope.now) ≡ one (plain scalar)) }
+    {
+        match self {
+            Pure::Constant(value) => Scalar::of(value),
+            Pure::It => Scalar::of(scope.it?),
+            Pure::Left => Scalar::of(scope.left?),
+            Pure::Applied { part, apply } => {
+                let value = scalar_of(part, alloc, scope, scene)?;
+                apply.tell_scalar(alloc, scope.left, value, scene.offset)
+            }
+            Pure::Single { part, .. } => part.scalar(alloc, scope, scene),
+            Pure::Joined { first, second } => scalar_joined(first, second, alloc, scope, scene),
+        }
     }
 
     /// Its one value, its error, or that it gives none.
@@ -143,6 +166,40 @@ fn joined(first: &Pure, second: &Pure, alloc: Global, scope: &Scope<'_>, scene: 
         }
         step => step,
     }
+}
+
+/// The scalar that a part gives, as `Pure::scalar` has it, with no call for what stands somewhere already.
+#[cycle(scalar)]
+#[inline(always)]
+fn scalar_of(part: &Pure, alloc: Global, scope: &Scope<'_>, scene: &Scene) -> Option<Scalar>
+    requires { IsOffset scene.now.offset }
+    ensures { (w : WorldState) → IfSome result (λ scalar. core w scene.now (pure_shape part.now) (seen scope.now) ≡ one (plain scalar)) }
+{
+    // Both are lent anew, for as long as the value is looked at.
+    match (&*part).standing(&*scope) {
+        Some(value) => Scalar::of(value),
+        None => part.scalar(alloc, scope, scene),
+    }
+}
+
+/// The scalar that the second part gives with that of the first to its left.
+#[cycle(scalar)]
+fn scalar_joined(
+    first: &Pure,
+    second: &Pure,
+    alloc: Global,
+    scope: &Scope<'_>,
+    scene: &Scene,
+) -> Option<Scalar>
+    requires { IsOffset scene.now.offset }
+    ensures { (w : WorldState) → IfSome result (λ scalar. core w scene.now (two_core left_kind (pure_shape first.now) (pure_shape second.now)) (seen scope.now) ≡ one (plain scalar)) }
+{
+    let left = scalar_of(first, alloc, scope, scene)?.held();
+    let inner = Scope {
+        left: Some(&left),
+        ..*scope
+    };
+    second.scalar(alloc, &inner, scene)
 }
 
 /// A copy of a value, if there is one.

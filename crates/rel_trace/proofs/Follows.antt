@@ -1,5 +1,5 @@
 -- What follows a row's result, and how a step of a part goes through it.
-use Rattle.std.proofs.Common.{◌≡◌, List, Option, Some, refl, sym, subst}
+use Rattle.std.proofs.Common.{◌≡◌, List, refl, sym, subst}
 use Rattle.rel_lexer.specs.declared.place.Place.{Place}
 use Rattle.bf_world.specs.declared.key.Key.{Key}
 use Rattle.rel_value.specs.Plain.{Plain}

@@ -1,4 +1,5 @@
 pub mod Kinds
+pub mod Scalars
 pub mod Trace
 pub mod Draws
 pub mod Folds

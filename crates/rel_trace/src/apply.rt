@@ -1,15 +1,16 @@
-ghost use Rattle.std.specs.Prelude.{◌≡◌, ℕ, List, Bool};
+ghost use Rattle.std.specs.Prelude.{◌≡◌, ℕ, List, Bool, IfSome};
 ghost use Rattle.bf_world.specs.declared.key.Key.{Key};
 ghost use Rattle.line_forms.specs.Numbers.{IsOffset};
-ghost use Rattle.rel_trace.specs.Trace.{Trace, each, none};
+ghost use Rattle.rel_trace.specs.Trace.{Trace, each, none, one};
 ghost use Rattle.rel_trace.specs.Steps.{AsRoom, Falls, Goes, HasCause, IsTold};
 ghost use Rattle.rel_trace.specs.Ones.{applied, apply_place, made};
+ghost use Rattle.rel_trace.specs.Scalars.{plain};
 ghost use Rattle.rel_trace.specs.Scopes.{lent};
 ghost use Rattle.rel_trace.specs.Works.{Works};
 
 use crate::operation::{cast_of, inverse, operate_left, opposite};
 use crate::worked::Worked;
-use crate::{Held, Joining, Step};
+use crate::{Held, Joining, Scalar, Step};
 use rel_lexer::{BinarySign, Place};
 use rel_value::Cast;
 use std::alloc::Global;
@@ -38,6 +39,23 @@ impl Apply {
         ensures told { IsTold result }
     {
         self.of(alloc, left, value, offset).told(self.place())
+    }
+
+    /// The scalar that it makes of a scalar and of the left value, where it makes one. Casts and tuples make none here.
+    pub fn tell_scalar(
+        self,
+        alloc: Global,
+        left: Option<&Held>,
+        value: Scalar,
+        offset: i64,
+    ) -> Option<Scalar>
+        requires { IsOffset offset }
+        ensures { IfSome result (λ scalar. applied self offset (lent left.entry) (plain value) ≡ one (plain scalar)) }
+    {
+        match self {
+            Apply::Cast { .. } | Apply::Tuple { .. } => None,
+            _ => self.of(alloc, left, &value.held(), offset).scalar(),
+        }
     }
 
     /// After a step of the part. Times are written as a clock shows them that is `offset` minutes east of UTC.

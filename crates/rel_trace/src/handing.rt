@@ -1,6 +1,6 @@
-ghost use Rattle.std.specs.Prelude.{◌≡◌, ℕ, List, Bool, true, false};
+ghost use Rattle.std.specs.Prelude.{◌≡◌, ◌≤◌, ℕ, List, Bool, true, false};
 ghost use Rattle.bf_world.specs.declared.key.Key.{Key};
-ghost use Rattle.rel_trace.specs.Trace.{Trace};
+ghost use Rattle.rel_trace.specs.Trace.{Trace, none};
 ghost use Rattle.rel_trace.specs.declared.step.Step.TheVariants.{Memory};
 ghost use Rattle.rel_trace.specs.Steps.{Goes, HasCause, AsRoom, Falls};
 ghost use Rattle.rel_trace.specs.Scopes.{Around, seen};
@@ -64,6 +64,21 @@ impl Handing {
         }
     }
 
+    /// Gives up what was handed to the second part, which has nothing left. A filter needs it until the second part says so.
+    pub(crate) fn release(&mut self)
+        ensures kind { handing_kind self.new ≡ handing_kind self.old }
+        ensures left { (a : Trace) (b f : Around → Trace) (s : Around) → b (handed_down self.old s) ≡ none → handing_left self.new a b f s ≡ handing_left self.old a b f s }
+        ensures falls { (q r c : ℕ) → handing_quiet self.new q r c ≤ handing_quiet self.old q r c }
+    {
+        match self {
+            Handing::Each { held, .. } => *held = None,
+            Handing::Sift { .. } => {}
+            Handing::Argument { held } => *held = None,
+            Handing::Left { held } => *held = None,
+            Handing::Turned { held, .. } => *held = None,
+        }
+    }
+
     /// What is handed down to the second part.
     pub(crate) fn hand_down<'a>(&'a self, scope: Scope<'a>) -> Scope<'a>
         ensures { seen result ≡ handed_down self.now (seen scope.entry) }
@@ -103,6 +118,7 @@ impl Handing {
     }
 
     /// After a step of the first part.
+    #[inline(always)]
     pub(crate) fn after_first(&mut self, step: Step) -> Next
         requires { handing_on self.old ≡ false }
         ensures kind { handing_kind self.new ≡ handing_kind self.old }
@@ -154,6 +170,7 @@ impl Handing {
     }
 
     /// After a step of the second part.
+    #[inline(always)]
     pub(crate) fn after_second(&mut self, step: Step) -> Step
         requires { handing_on self.old ≡ true }
         ensures kind { handing_kind self.new ≡ handing_kind self.old }

@@ -1,6 +1,6 @@
-ghost use Rattle.std.specs.Prelude.{◌≡◌, ℕ, List, Bool, true, false};
+ghost use Rattle.std.specs.Prelude.{◌≡◌, ◌≤◌, ℕ, List, Bool, true, false};
 ghost use Rattle.bf_world.specs.declared.key.Key.{Key};
-ghost use Rattle.rel_trace.specs.Trace.{Trace};
+ghost use Rattle.rel_trace.specs.Trace.{Trace, none};
 ghost use Rattle.rel_trace.specs.declared.step.Step.TheVariants.{Memory};
 ghost use Rattle.rel_trace.specs.Steps.{Goes, HasCause, AsRoom, Falls};
 ghost use Rattle.rel_trace.specs.Scopes.{Around, seen};
@@ -120,6 +120,7 @@ impl Two {
     }
 
     /// The step that follows from a step of the first part, and whether the second begins now.
+    #[inline(always)]
     pub fn after_first(&mut self, step: Step) -> Next
         requires { on_second self.old ≡ false }
         ensures kind { two_kind self.new ≡ two_kind self.old }
@@ -137,6 +138,7 @@ impl Two {
     }
 
     /// The step that follows from a step of the second part.
+    #[inline(always)]
     pub fn after_second(&mut self, step: Step) -> Step
         requires { on_second self.old ≡ true }
         ensures kind { two_kind self.new ≡ two_kind self.old }
@@ -149,6 +151,28 @@ impl Two {
         match self {
             Two::Sequence(sequence) => sequence.after_second(step),
             Two::Handing(handing) => handing.after_second(step),
+        }
+    }
+
+    /// Gives up what was handed to the second part, where nothing is left of that.
+    pub fn release(&mut self)
+        ensures kind { two_kind self.new ≡ two_kind self.old }
+        ensures left { (a : Trace) (b f : Around → Trace) (s : Around) → b (second_around self.old s) ≡ none → two_left self.new a b f s ≡ two_left self.old a b f s }
+        ensures falls { (q r c : ℕ) → two_quiet self.new q r c ≤ two_quiet self.old q r c }
+    {
+        match self {
+            Two::Sequence(_) => {}
+            Two::Handing(handing) => handing.release(),
+        }
+    }
+
+    /// Whether nothing is left where the first part has nothing left, or not even then.
+    pub fn ends_with_first(&self) -> bool
+        ensures { result ≡ true → (b f : Around → Trace) (s : Around) → two_left self.now none b f s ≡ none }
+    {
+        match self {
+            Two::Sequence(_) => false,
+            Two::Handing(handing) => !handing.on_second(),
         }
     }
 }

@@ -1,12 +1,14 @@
 -- A step goes on over quiet ones, and a form as its state says of the step of its part.
-use Rattle.std.proofs.Common.{◌∙◌, ◌-◌, SFits, w64, arith, refl, rules, sym}
+use Rattle.std.proofs.Common.{◌≡◌, ◌∙◌, SFits, w64, arith, refl, rules, sym}
 use Rattle.std.proofs.lemmas.Int.{to_z-of_z}
 use Rattle.rel_trace.specs.declared.step.Step.TheVariants.{Quiet, Over}
 use Rattle.rel_trace.specs.Ones.{one_left}
 use Rattle.rel_trace.specs.Scopes.{seen}
 use Rattle.rel_trace.specs.Trace.{none}
-use Rattle.rel_nodes.specs.Nodes.{rest}
-use Rattle.rel_nodes.proofs.Going.{advance_none, advance_over, advance_then, cause_then, falls_then, over_falls, over_within, went_once, went_same}
+use Rattle.rel_trace.specs.Twos.{second_around}
+use Rattle.rel_nodes.specs.Core.{core}
+use Rattle.rel_nodes.specs.Nodes.{rest, shape}
+use Rattle.rel_nodes.proofs.Going.{advance_none, advance_over, advance_then, cause_then, falls_then, falls_to, over_falls, over_within, went_once, went_same}
 use Rattle.rel_nodes.proofs.Measures.{one_nearer, two_nearer, choice_nearer, first_falls, begins_falls, second_falls, test_falls, decided_falls, yes_falls, no_falls}
 use Rattle.rel_nodes.proofs.Parts.{done_left, one_advances, first_advances, begins_advances, second_advances, test_advances, decided_advances, fresh, yes_advances, no_advances}
 use Rattle.rel_nodes.proofs.node.+step.Goals as goal
@@ -185,21 +187,45 @@ go_on_one-returns-clause-cause g t c = c.after.ensures.cause _ _ c.step-step.ens
 pub go_on_one-returns-clause-room : goal.go_on_one-returns-clause-room
 go_on_one-returns-clause-room g t c = c.after.ensures.room _ c.step-step.ensures.room
 
+pub go_on_two-returns-then-is_told-clause-goes : goal.go_on_two-returns-then-is_told-clause-goes
+go_on_two-returns-then-is_told-clause-goes g t c =
+    λ w h.
+    let inner = second_around c.args.state.now (seen c.args.scope.now) in
+    let left = rest w c.args.scene.now c.args.second.now inner in
+    let over : left ≡ none = c.is_told.ensures c.if-is_told.true w c.args.scene.now inner in
+    second_advances w c.args.scene.now c.args.state.now c.after_second.new.self c.args.first.now c.args.second.now c.args.second.now (seen c.args.scope.now) inner _ _ _ _ Over c.after_second.result (sym c.on_second.ensures ∙ c.if-on_second.true) c.after_second.ensures.goes refl refl
+    (went_once _ _ _ left left Over (went_same _ _ left left Over refl (λ m. (over, refl))))
+
+pub go_on_two-returns-then-is_told-clause-cause : goal.go_on_two-returns-then-is_told-clause-cause
+go_on_two-returns-then-is_told-clause-cause g t c = c.after_second.ensures.cause _ _ tt
+
+pub go_on_two-returns-then-is_told-clause-room : goal.go_on_two-returns-then-is_told-clause-room
+go_on_two-returns-then-is_told-clause-room g t c = c.after_second.ensures.room _ tt
+
+pub go_on_two-returns-then-is_told-clause-falls : goal.go_on_two-returns-then-is_told-clause-falls
+go_on_two-returns-then-is_told-clause-falls g t c =
+    λ e. second_falls c.args.state.now c.after_second.new.self c.args.first.now c.args.second.now c.args.second.now Over c.after_second.result c.after_second.ensures.falls refl tt
+
 pub go_on_two-returns-then-on_second-clause-goes : goal.go_on_two-returns-then-on_second-clause-goes
 go_on_two-returns-then-on_second-clause-goes g t c =
-    λ w h. (second_advances w c.args.scene.now c.args.state.now c.after_second.new.self c.args.first.now c.args.second.now c.step-step.new.self (seen c.args.scope.now) (seen c.second_scope-inner.result) _ _ _ _ c.step-step.result c.after_second.result (sym c.on_second.ensures ∙ c.if-on_second.true) c.after_second.ensures.goes c.second_scope-inner.ensures c.step-step.ensures.shape (c.step-step.ensures.goes w h))
+    λ w h.
+    let left = rest w c.args.scene.now c.args.first.now (seen c.args.scope.now) in
+    let whole = core w c.args.scene.now (shape c.step-step.new.self) in
+    let same = c.release.ensures.left w c.args.scene.now left whole (seen c.args.scope.now) in
+    rw same (second_advances w c.args.scene.now c.args.state.now c.after_second-step.new.self c.args.first.now c.args.second.now c.step-step.new.self (seen c.args.scope.now) (seen c.second_scope-inner.result) _ _ _ _ c.step-step.result c.after_second-step.result (sym c.on_second.ensures ∙ c.if-on_second.true) c.after_second-step.ensures.goes c.second_scope-inner.ensures c.step-step.ensures.shape (c.step-step.ensures.goes w h))
 
 pub go_on_two-returns-then-on_second-clause-cause : goal.go_on_two-returns-then-on_second-clause-cause
 go_on_two-returns-then-on_second-clause-cause g t c =
-    c.after_second.ensures.cause _ _ c.step-step.ensures.cause
+    c.after_second-step.ensures.cause _ _ c.step-step.ensures.cause
 
 pub go_on_two-returns-then-on_second-clause-room : goal.go_on_two-returns-then-on_second-clause-room
 go_on_two-returns-then-on_second-clause-room g t c =
-    c.after_second.ensures.room _ c.step-step.ensures.room
+    c.after_second-step.ensures.room _ c.step-step.ensures.room
 
 pub go_on_two-returns-then-on_second-clause-falls : goal.go_on_two-returns-then-on_second-clause-falls
 go_on_two-returns-then-on_second-clause-falls g t c =
-    λ e. (second_falls c.args.state.now c.after_second.new.self c.args.first.now c.args.second.now c.step-step.new.self c.step-step.result c.after_second.result c.after_second.ensures.falls c.step-step.ensures.shape (c.step-step.ensures.falls e))
+    λ e. falls_to c.after_second-step.result _ _ _ (c.release.ensures.falls _ _ _)
+    (second_falls c.args.state.now c.after_second-step.new.self c.args.first.now c.args.second.now c.step-step.new.self c.step-step.result c.after_second-step.result c.after_second-step.ensures.falls c.step-step.ensures.shape (c.step-step.ensures.falls e))
 
 pub go_on_two-returns-else-next-clause-goes : goal.go_on_two-returns-else-next-clause-goes
 go_on_two-returns-else-next-clause-goes g t c =
