@@ -1,11 +1,11 @@
-ghost use Rattle.std.specs.Prelude.{◌≡◌, IfSome, List};
+ghost use Rattle.std.specs.Prelude.{◌≡◌, IfSome, List, Some};
 ghost use Rattle.bf_world.specs.declared.key.Key.{Key};
 ghost use Rattle.bf_world.specs.Worlds.{WorldState};
 ghost use Rattle.line_forms.specs.Numbers.{IsOffset};
 ghost use Rattle.rel_sources.specs.declared.scene.Scene.{Scene};
 ghost use Rattle.rel_trace.specs.Ones.{apply_kind, single_kind, unless, zero_if};
 ghost use Rattle.rel_trace.specs.Scalars.{plain};
-ghost use Rattle.rel_trace.specs.Scopes.{lent, seen};
+ghost use Rattle.rel_trace.specs.Scopes.{Around, lent, seen};
 ghost use Rattle.rel_trace.specs.Steps.{Falls, Goes, IsTold};
 ghost use Rattle.rel_trace.specs.Trace.{none, one};
 ghost use Rattle.rel_trace.specs.Twos.{left_kind};
@@ -53,28 +53,30 @@ impl Pure {
             return Step::Over;
         }
         *is_given = true;
-        match self.scalar(alloc, scope, scene) {
+        match self.scalar(scalar_in(scope.it), scalar_in(scope.left)) {
             Some(scalar) => Step::Given(scalar.held()),
             None => self.tell(alloc, scope, scene),
         }
     }
 
-    /// Its one value, where that and all that it is made of are scalars. It is told without a step for each part.
-    #[cycle(scalar)]
-    fn scalar(&self, alloc: Global, scope: &Scope<'_>, scene: &Scene) -> Option<Scalar>
-        requires { IsOffset scene.now.offset }
-        ensures { (w : WorldState) → IfSome result (λ scalar. core w scene.now (pure_shape self.now) (seen scope.now) ≡ one (plain scalar)) }
+    /// Its one value, where that and all that it is made of are scalars. What `it` stands for and the value to the left are handed
+    /// down where they are scalars.
+    fn scalar(&self, it: Option<Scalar>, left: Option<Scalar>) -> Option<Scalar>
+        ensures { (w : WorldState) (s : Scene) (a : Around) → IfSome it (λ x. a.it ≡ Some (plain x)) → IfSome left (λ x. a.left ≡ Some (plain x)) → IfSome result (λ x. core w s (pure_shape self.now) a ≡ one (plain x)) }
     {
         match self {
             Pure::Constant(value) => Scalar::of(value),
-            Pure::It => Scalar::of(scope.it?),
-            Pure::Left => Scalar::of(scope.left?),
+            Pure::It => it,
+            Pure::Left => left,
             Pure::Applied { part, apply } => {
-                let value = scalar_of(part, alloc, scope, scene)?;
-                apply.tell_scalar(alloc, scope.left, value, scene.offset)
+                let value = part.scalar(it, left)?;
+                apply.tell_scalar(left, value)
             }
-            Pure::Single { part, .. } => part.scalar(alloc, scope, scene),
-            Pure::Joined { first, second } => scalar_joined(first, second, alloc, scope, scene),
+            Pure::Single { part, .. } => part.scalar(it, left),
+            Pure::Joined { first, second } => {
+                let value = first.scalar(it, left)?;
+                second.scalar(it, Some(value))
+            }
         }
     }
 
@@ -168,38 +170,11 @@ fn joined(first: &Pure, second: &Pure, alloc: Global, scope: &Scope<'_>, scene: 
     }
 }
 
-/// The scalar that a part gives, as `Pure::scalar` has it, with no call for what stands somewhere already.
-#[cycle(scalar)]
-#[inline(always)]
-fn scalar_of(part: &Pure, alloc: Global, scope: &Scope<'_>, scene: &Scene) -> Option<Scalar>
-    requires { IsOffset scene.now.offset }
-    ensures { (w : WorldState) → IfSome result (λ scalar. core w scene.now (pure_shape part.now) (seen scope.now) ≡ one (plain scalar)) }
+/// The value as a scalar, if there is one and it is one.
+fn scalar_in(value: Option<&Held>) -> Option<Scalar>
+    ensures { IfSome result (λ x. lent value.entry ≡ Some (plain x)) }
 {
-    // Both are lent anew, for as long as the value is looked at.
-    match (&*part).standing(&*scope) {
-        Some(value) => Scalar::of(value),
-        None => part.scalar(alloc, scope, scene),
-    }
-}
-
-/// The scalar that the second part gives with that of the first to its left.
-#[cycle(scalar)]
-fn scalar_joined(
-    first: &Pure,
-    second: &Pure,
-    alloc: Global,
-    scope: &Scope<'_>,
-    scene: &Scene,
-) -> Option<Scalar>
-    requires { IsOffset scene.now.offset }
-    ensures { (w : WorldState) → IfSome result (λ scalar. core w scene.now (two_core left_kind (pure_shape first.now) (pure_shape second.now)) (seen scope.now) ≡ one (plain scalar)) }
-{
-    let left = scalar_of(first, alloc, scope, scene)?.held();
-    let inner = Scope {
-        left: Some(&left),
-        ..*scope
-    };
-    second.scalar(alloc, &inner, scene)
+    Scalar::of(value?)
 }
 
 /// A copy of a value, if there is one.

@@ -114,6 +114,11 @@ is_done (form.Draw d) = draw_done d
 is_done (form.Fold f) = f.done
 is_done (form.Apply a) = false
 
+-- Nothing is left where its part has nothing left: it has nothing to sum up.
+abbrev pub ends_with_part : One → Bool
+ends_with_part (form.Apply a) = true
+ends_with_part _ = false
+
 abbrev pub zero_if : Bool → ℕ → ℕ
 zero_if true n = 0
 zero_if false n = n

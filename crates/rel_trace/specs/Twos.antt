@@ -1,5 +1,5 @@
 -- What the state of a form with two parts makes of the traces of its parts.
-use Rattle.std.specs.Prelude.{ℕ, ◌+◌, ◌*◌, Bool, true, false, Option, Some, None}
+use Rattle.std.specs.Prelude.{ℕ, ◌+◌, ◌*◌, Bool, true, false, not, Option, Some, None}
 use Rattle.rel_lexer.specs.declared.place.Place.{Place}
 use Rattle.rel_value.specs.Plain.{Plain}
 use Rattle.rel_trace.specs.declared.logic.Logic.{Logic}
@@ -109,6 +109,20 @@ two_left (form.Handing h) a b f s = handing_left h a b f s
 abbrev pub on_second : Two → Bool
 on_second (form.Sequence q) = sequence_on q
 on_second (form.Handing h) = handing_on h
+
+-- Nothing is left where the first part has nothing left. Not so of a sequence, which goes on to its second part, nor where the second
+-- part has begun.
+abbrev pub ends_with_first : Two → Bool
+ends_with_first (form.Sequence q) = false
+ends_with_first (form.Handing h) = not (handing_on h)
+
+-- it goes on with its second part until that is over: a filter decides only then
+abbrev pub waits_for_end : TwoKind → Bool
+waits_for_end then_kind = true
+waits_for_end bar_kind = true
+waits_for_end (logic_kind l) = true
+waits_for_end (sift_kind h) = true
+waits_for_end _ = false
 
 -- the scope of the second part
 abbrev pub second_around : Two → Around → Around

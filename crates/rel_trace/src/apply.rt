@@ -1,10 +1,11 @@
-ghost use Rattle.std.specs.Prelude.{◌≡◌, ℕ, List, Bool, IfSome};
+ghost use Rattle.std.specs.Prelude.{◌≡◌, ℕ, ℤ, List, Bool, Option, Some, IfSome};
 ghost use Rattle.bf_world.specs.declared.key.Key.{Key};
 ghost use Rattle.line_forms.specs.Numbers.{IsOffset};
+ghost use Rattle.rel_value.specs.Plain.{Plain};
 ghost use Rattle.rel_trace.specs.Trace.{Trace, each, none, one};
 ghost use Rattle.rel_trace.specs.Steps.{AsRoom, Falls, Goes, HasCause, IsTold};
 ghost use Rattle.rel_trace.specs.Ones.{applied, apply_place, made};
-ghost use Rattle.rel_trace.specs.Scalars.{plain};
+ghost use Rattle.rel_trace.specs.Scalars.{plain, scalar_made};
 ghost use Rattle.rel_trace.specs.Scopes.{lent};
 ghost use Rattle.rel_trace.specs.Works.{Works};
 
@@ -41,20 +42,17 @@ impl Apply {
         self.of(alloc, left, value, offset).told(self.place())
     }
 
-    /// The scalar that it makes of a scalar and of the left value, where it makes one. Casts and tuples make none here.
-    pub fn tell_scalar(
-        self,
-        alloc: Global,
-        left: Option<&Held>,
-        value: Scalar,
-        offset: i64,
-    ) -> Option<Scalar>
-        requires { IsOffset offset }
-        ensures { IfSome result (λ scalar. applied self offset (lent left.entry) (plain value) ≡ one (plain scalar)) }
+    /// The scalar that a sign, `-` or `not` makes of a scalar and of the one to its left, where it makes one. A cast and a tuple make
+    /// none here.
+    pub fn tell_scalar(self, left: Option<Scalar>, value: Scalar) -> Option<Scalar>
+        ensures made { result ≡ scalar_made self left value }
+        ensures told { (offset : ℤ) (x : Option Plain) → IfSome left (λ scalar. x ≡ Some (plain scalar)) → IfSome result (λ scalar. applied self offset x (plain value) ≡ one (plain scalar)) }
     {
         match self {
+            Apply::Negate { .. } => value.opposite(),
+            Apply::Not { .. } => value.inverse(),
+            Apply::Sign { sign, .. } => left?.operate(sign, value),
             Apply::Cast { .. } | Apply::Tuple { .. } => None,
-            _ => self.of(alloc, left, &value.held(), offset).scalar(),
         }
     }
 

@@ -1,10 +1,10 @@
-ghost use Rattle.std.specs.Prelude.{◌≡◌, ◌≤◌, ℕ, List, Bool, true, false};
+ghost use Rattle.std.specs.Prelude.{◌≡◌, ◌≤◌, ◌&&◌, ℕ, List, Bool, true, false};
 ghost use Rattle.bf_world.specs.declared.key.Key.{Key};
 ghost use Rattle.rel_trace.specs.Trace.{Trace, none};
 ghost use Rattle.rel_trace.specs.declared.step.Step.TheVariants.{Memory};
 ghost use Rattle.rel_trace.specs.Steps.{Goes, HasCause, AsRoom, Falls};
 ghost use Rattle.rel_trace.specs.Scopes.{Around, seen};
-ghost use Rattle.rel_trace.specs.Twos.{begun, begun_quiet, handed_down, handing_kind, handing_left, handing_on, handing_quiet, two_whole};
+ghost use Rattle.rel_trace.specs.Twos.{begun, begun_quiet, handed_down, handing_kind, handing_left, handing_on, handing_quiet, two_whole, waits_for_end};
 
 use crate::{Held, Next, Scope, Step};
 use rel_lexer::Place;
@@ -67,6 +67,7 @@ impl Handing {
     /// Gives up what was handed to the second part, which has nothing left. A filter needs it until the second part says so.
     pub(crate) fn release(&mut self)
         ensures kind { handing_kind self.new ≡ handing_kind self.old }
+        ensures given_up { handing_on self.new ≡ (waits_for_end (handing_kind self.old) && handing_on self.old) }
         ensures left { (a : Trace) (b f : Around → Trace) (s : Around) → b (handed_down self.old s) ≡ none → handing_left self.new a b f s ≡ handing_left self.old a b f s }
         ensures falls { (q r c : ℕ) → handing_quiet self.new q r c ≤ handing_quiet self.old q r c }
     {

@@ -3,7 +3,7 @@ ghost use Rattle.bf_world.specs.declared.key.Key.{Key};
 ghost use Rattle.line_forms.specs.Numbers.{IsOffset};
 ghost use Rattle.rel_trace.specs.Trace.{Trace, none};
 ghost use Rattle.rel_trace.specs.Steps.{Goes, HasCause, AsRoom, Falls};
-ghost use Rattle.rel_trace.specs.Ones.{cast_kind, exists_kind, fold_kind, is_done, negate_kind, not_kind, one_kind, one_left, one_quiet, one_whole, sign_kind, single_kind, tuple_kind};
+ghost use Rattle.rel_trace.specs.Ones.{cast_kind, ends_with_part, exists_kind, fold_kind, is_done, negate_kind, not_kind, one_kind, one_left, one_quiet, one_whole, sign_kind, single_kind, tuple_kind};
 ghost use Rattle.rel_trace.specs.Scopes.{Around, seen};
 
 use crate::{Apply, Draw, Fold, Folding, Joining, Scope, Step};
@@ -101,7 +101,8 @@ impl One {
 
     /// Whether nothing is left where its part has nothing left: it has nothing to sum up.
     pub fn ends_with_part(&self) -> bool
-        ensures { result ≡ true → (s : Around) (offset : ℤ) → one_left self.now s offset none ≡ none }
+        ensures exact { result ≡ ends_with_part self.now }
+        ensures none { result ≡ true → (s : Around) (offset : ℤ) → one_left self.now s offset none ≡ none }
     {
         match self {
             One::Apply(_) => true,

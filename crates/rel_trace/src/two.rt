@@ -1,10 +1,10 @@
-ghost use Rattle.std.specs.Prelude.{◌≡◌, ◌≤◌, ℕ, List, Bool, true, false};
+ghost use Rattle.std.specs.Prelude.{◌≡◌, ◌≤◌, ◌&&◌, ℕ, List, Bool, true, false};
 ghost use Rattle.bf_world.specs.declared.key.Key.{Key};
 ghost use Rattle.rel_trace.specs.Trace.{Trace, none};
 ghost use Rattle.rel_trace.specs.declared.step.Step.TheVariants.{Memory};
 ghost use Rattle.rel_trace.specs.Steps.{Goes, HasCause, AsRoom, Falls};
 ghost use Rattle.rel_trace.specs.Scopes.{Around, seen};
-ghost use Rattle.rel_trace.specs.Twos.{argument_kind, bar_kind, begun, begun_quiet, each_kind, left_kind, logic_kind, on_second, second_around, sift_kind, then_kind, turned_kind, two_kind, two_left, two_quiet, two_whole};
+ghost use Rattle.rel_trace.specs.Twos.{argument_kind, bar_kind, begun, begun_quiet, each_kind, ends_with_first, left_kind, logic_kind, on_second, second_around, sift_kind, then_kind, turned_kind, two_kind, two_left, two_quiet, two_whole, waits_for_end};
 
 use crate::{Handing, Logic, Next, Scope, Sequence, Step};
 use rel_lexer::Place;
@@ -154,9 +154,11 @@ impl Two {
         }
     }
 
-    /// Gives up what was handed to the second part, where nothing is left of that.
+    /// Gives up what was handed to the second part, where nothing is left of that: the next step is one of the first part, but in a
+    /// filter and in a sequence.
     pub fn release(&mut self)
         ensures kind { two_kind self.new ≡ two_kind self.old }
+        ensures given_up { on_second self.new ≡ (waits_for_end (two_kind self.old) && on_second self.old) }
         ensures left { (a : Trace) (b f : Around → Trace) (s : Around) → b (second_around self.old s) ≡ none → two_left self.new a b f s ≡ two_left self.old a b f s }
         ensures falls { (q r c : ℕ) → two_quiet self.new q r c ≤ two_quiet self.old q r c }
     {
@@ -168,7 +170,8 @@ impl Two {
 
     /// Whether nothing is left where the first part has nothing left, or not even then.
     pub fn ends_with_first(&self) -> bool
-        ensures { result ≡ true → (b f : Around → Trace) (s : Around) → two_left self.now none b f s ≡ none }
+        ensures exact { result ≡ ends_with_first self.now }
+        ensures none { result ≡ true → (b f : Around → Trace) (s : Around) → two_left self.now none b f s ≡ none }
     {
         match self {
             Two::Sequence(_) => false,

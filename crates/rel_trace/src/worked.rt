@@ -1,14 +1,13 @@
-ghost use Rattle.std.specs.Prelude.{◌≡◌, ℕ, ◌<◌, Bool, List, IfOk, IfSome};
+ghost use Rattle.std.specs.Prelude.{ℕ, ◌<◌, Bool, List, IfOk};
 ghost use Rattle.bf_world.specs.declared.key.Key.{Key};
 ghost use Rattle.rel_value.specs.Operands.{IsSound};
-ghost use Rattle.rel_value.specs.Outcomes.{Answers, Outcome, gives};
+ghost use Rattle.rel_value.specs.Outcomes.{Answers, Outcome};
 ghost use Rattle.rel_value.specs.Views.{shown};
-ghost use Rattle.rel_trace.specs.Scalars.{plain};
 ghost use Rattle.rel_trace.specs.Steps.{AsRoom, Falls, Goes, HasCause, IsTold};
 ghost use Rattle.rel_trace.specs.Trace.{Trace, follow, none, result_at};
 ghost use Rattle.rel_trace.specs.Works.{HasRow, Works};
 
-use crate::{Held, RelKind, Scalar, Step};
+use crate::{Held, RelKind, Step};
 use rel_lexer::Place;
 use rel_value::{Value, ValueFault};
 
@@ -60,16 +59,6 @@ impl Worked {
             Worked::Failed(kind) => Step::Erred(kind, place),
             Worked::Without => Step::Over,
             Worked::Memory => Step::Memory,
-        }
-    }
-
-    /// The value that is given, where it is a scalar.
-    pub(crate) fn scalar(self) -> Option<Scalar>
-        ensures { (o : Outcome) → Works o self → IfSome result (λ scalar. o ≡ gives (plain scalar)) }
-    {
-        match self {
-            Worked::Given(value) => Scalar::of(&value),
-            _ => None,
         }
     }
 }
