@@ -1,0 +1,2 @@
+//! Tests of the crates that read and write content, scripts, rules and reports, by public calls alone.
+#![tactic(auto)]

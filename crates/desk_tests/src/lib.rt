@@ -1,0 +1,2 @@
+//! Tests of the top call, and of the bytes and devices that it is handed, by public calls alone.
+#![tactic(auto)]

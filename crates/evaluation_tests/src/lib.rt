@@ -1,0 +1,2 @@
+//! Tests of the crates that evaluate questions and answer lines of them, by public calls alone.
+#![tactic(auto)]

@@ -1,0 +1,2 @@
+//! Tests of the crates that read, check and print questions and reckon with values, by public calls alone.
+#![tactic(auto)]

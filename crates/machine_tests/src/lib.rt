@@ -1,0 +1,2 @@
+//! Tests of the crates that describe machines and look at them, by public calls alone.
+#![tactic(auto)]
