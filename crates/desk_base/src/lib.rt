@@ -7,6 +7,7 @@ mod clock;
 mod memory_clock;
 mod memory_sink;
 mod memory_source;
+mod room;
 mod sink;
 mod source;
 mod whole;
@@ -17,9 +18,7 @@ pub use clock::{Clock, Told};
 pub use memory_clock::StepClock;
 pub use memory_sink::MemorySink;
 pub use memory_source::MemorySource;
+pub use room::Room;
 pub use sink::{Put, Sink};
 pub use source::{Got, Source};
 pub use whole::{Whole, read_all};
-
-#[cfg(test)]
-mod tests;
