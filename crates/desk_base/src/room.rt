@@ -1,4 +1,6 @@
-ghost use Rattle.std.specs.Prelude.{◌≡◌, ◌≤◌, [], ◌∷◌, length, IfOk, OnOk, OnErr, decimal};
+ghost use Rattle.std.specs.Prelude.{◌≡◌, ◌≤◌, [], ◌∷◌, length, IfOk, OnOk, OnErr, decimal, ℕ, ℤ, ◌<◌, ◌^◌, FitsSigned};
+ghost use Rattle.std.specs.Int.{w64};
+ghost use Rattle.std.specs.Fmt.{signed_decimal};
 ghost use Rattle.desk_base.specs.Rooms.{HasRoom, Fills};
 
 use crate::Bytes;
@@ -73,6 +75,15 @@ impl Room {
         self.extend(buffer.format(number).as_bytes())
     }
 
+    /// Appends a number in decimal digits, with a `-` before them where it is below 0. They are 20 bytes at most.
+    pub fn signed_decimal(&mut self, number: i64)
+        requires { HasRoom self.old (length (signed_decimal number)) }
+        ensures { Fills self.old self.new (signed_decimal number) }
+    {
+        let mut buffer = Buffer::new();
+        self.extend(buffer.format(number).as_bytes())
+    }
+
     /// Takes all bytes out. Their room is kept.
     pub fn clear(&mut self)
         ensures { self.new ≡ record { bytes = []; capacity = self.old.capacity } }
@@ -87,3 +98,9 @@ impl Room {
         Bytes::from_vec(self.items)
     }
 }
+
+/// The digits of a number of 64 bits, with the sign, are 20 bytes at most.
+pub fn numbers_are_short()
+    ensures unsigned { (number : ℕ) → number < 2 ^ 64 → length (decimal number) ≤ 20 }
+    ensures signed { (number : ℤ) → FitsSigned w64 number → length (signed_decimal number) ≤ 20 }
+{}
