@@ -1,2 +1,5 @@
 //! Tests of the crates that read and write content, scripts, rules and reports, by public calls alone.
 #![tactic(auto)]
+
+#[cfg(test)]
+mod line_forms;
