@@ -1,6 +1,7 @@
 ghost use Rattle.std.specs.Prelude.{◌≡◌, [], ◌∷◌, ◌++◌, List, ℕ, All, OnOk, OnErr};
 ghost use Rattle.line_forms.specs.LineStates.{LineState, before_lines, lines_of, unended_of};
 ghost use Rattle.line_forms.specs.Lines.{ended_line, lines_text, IsLine, IsBehindLines, IsAhead, Takes, TakesLine, StandsBehind};
+ghost use Rattle.line_forms.specs.Readers.{IsOver, Passes};
 
 use crate::around::write_around;
 use crate::cut::cut_at;
@@ -110,10 +111,13 @@ pub fn lines_are_read_again()
         → unended_of (lines_text lines ++ unended) ≡ unended }
 {}
 
-/// A cursor that begins and takes lines stands behind the lines that it took.
+/// A cursor that begins and takes lines stands behind the lines that it took. Where it passed these and nothing is left, the
+/// text is theirs.
 pub fn a_cursor_stands_behind_its_lines()
     ensures start { (text : List ℕ) → StandsBehind text [] (before_lines text) }
     ensures next { (text line : List ℕ) (before : List (List ℕ)) (old new : LineState)
         → StandsBehind text before old → TakesLine old new line
         → StandsBehind text (before ++ line ∷ []) new }
+    ensures whole { (text : List ℕ) (lines : List (List ℕ)) (cursor : LineState)
+        → Passes (before_lines text) cursor lines → IsOver cursor → text ≡ lines_text lines }
 {}
