@@ -243,12 +243,21 @@ pub(crate) fn conditional(
 ) -> Result<Tree, AllocError>
     ensures { IfOk result (λ t. shown t ≡ conditional place (shown test) (shown yes) (shown no)) }
 {
+    let (test, yes) = boxed(alloc, test, yes)?;
     Ok(Tree::If {
         place,
-        test: Box::new(alloc, test)?,
-        yes: Box::new(alloc, yes)?,
+        test,
+        yes,
         no: Box::new(alloc, no)?,
     })
+}
+
+fn boxed(alloc: Global, first: Tree, second: Tree) -> Result<(Box<Tree>, Box<Tree>), AllocError>
+    ensures { IfOk result (λ both. (both.0.value ≡ first) × (both.1.value ≡ second)) }
+{
+    let first = Box::new(alloc, first)?;
+    let second = Box::new(alloc, second)?;
+    Ok((first, second))
 }
 
 pub(crate) fn tuple(parts: TreeList) -> Tree
