@@ -2,4 +2,6 @@
 #![tactic(auto)]
 
 #[cfg(test)]
+mod act_rules;
+#[cfg(test)]
 mod line_forms;
