@@ -1,5 +1,5 @@
 -- What a command does to a world: its checks, in their order, and what it changes where none of them refuses.
-use Rattle.std.specs.Prelude.{◌≡◌, ℕ, ◌^◌, ◌-◌, ◌+◌, ℤ, Bool, true, false, if◌then◌else◌, not, ◌&&◌, ◌||◌, nat_lt, List, [], ◌∷◌, ◌++◌, length, codes, fold, is_some, int_lt, MatchResult, Some, None}
+use Rattle.std.specs.Prelude.{◌≡◌, ℕ, ◌^◌, ◌-◌, ◌+◌, ℤ, Bool, true, false, if◌then◌else◌, not, ◌&&◌, ◌||◌, nat_lt, List, [], ◌∷◌, ◌++◌, length, codes, fold, is_some, int_lt, MatchResult, ⊤, Some, None}
 use Rattle.std.specs.declared.option.Option.{Option}
 use Rattle.std.specs.declared.result.Result.{Result}
 use Rattle.std.specs.declared.alloc.AllocError.{AllocError}
@@ -152,6 +152,13 @@ done w command moment =
 abbrev pub Acts : WorldState → WorldState → Acted → Outcome → Type 0
 Acts old new acted.Memory outcome = new ≡ old
 Acts old new answer outcome = outcome ≡ record { answer = answer; after = new }
+
+-- Started is answered to a Start alone, and Done to any other command.
+abbrev pub FitsCommand : Command → Acted → Type 0
+FitsCommand (command.Start line hidden) acted.Done = ⊥
+FitsCommand (command.Start line hidden) _ = ⊤
+FitsCommand _ (acted.Started process) = ⊥
+FitsCommand _ _ = ⊤
 
 -- A program that is started gets the number of those before it.
 abbrev pub CountsStarted : ℕ → ℕ → Acted → Type 0
