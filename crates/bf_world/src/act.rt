@@ -6,7 +6,7 @@ ghost use Rattle.bf_world.specs.Maps.{at};
 ghost use Rattle.bf_world.specs.Worlds.{WorldState};
 ghost use Rattle.bf_world.specs.Paths.{joined};
 ghost use Rattle.bf_world.specs.Places.{content_at, is_file};
-ghost use Rattle.bf_world.specs.Done.{CountsStarted, FitsCommand, answer_of, refusal, checks, done, Acts, after, with_file, with_folder, with_started, with_setting, without_setting, is_older, download};
+ghost use Rattle.bf_world.specs.Done.{CountsStarted, FitsCommand, StartsByStart, answer_of, refusal, checks, done, Acts, after, with_file, with_folder, with_started, with_setting, without_setting, is_older, download};
 
 use crate::path::joined;
 use crate::{Acted, Command, Node, ProcessNo, Run, SettingValue, World};
@@ -19,11 +19,13 @@ pub(crate) const DOWNLOAD: &str = "__Download";
 
 impl World {
     /// Does a command at a moment. Want of memory changes nothing.
+    #[tactic(auto, using(crate::proofs::StartedLemmas::by_start))]
     pub fn act(&mut self, command: &Command, moment: i64) -> Acted
         requires moment { IsMoment moment }
         requires date { HasMoment command.now }
         ensures acts { Acts self.old self.new result (done self.old command.now moment) }
         ensures started { CountsStarted (length self.old.started) (length self.new.started) result }
+        ensures by_start { StartsByStart command.now (length self.old.started) (length self.new.started) }
         ensures fits { FitsCommand command.now result }
         ensures never { result ≢ Acted.Failed }
     {
