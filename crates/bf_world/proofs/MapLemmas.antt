@@ -1,7 +1,5 @@
 -- Maps from texts.
-use Rattle.std.proofs.Common.{◌≡◌, ℕ, Bool, true, false, cond, List, [], ◌∷◌, ◌++◌, map, String, Some, None, refl, ap, ◌∙◌, sym, subst, append_assoc}
-use Rattle.std.specs.declared.option.Option.{Option}
-use Rattle.std.specs.Option.{option_map}
+use Rattle.std.proofs.Common.{◌≡◌, ℕ, true, false, cond, List, [], ◌∷◌, ◌++◌, String, Some, None, refl, ap, ◌∙◌, sym, subst, append_assoc}
 use Rattle.std.specs.declared.cmp.Ordering.{Ordering}
 use Rattle.std.specs.declared.cmp.Ordering.TheVariants.{Less, Equal, Greater}
 use Rattle.std.specs.Ordering.{match_ordering, ordering_reverse, is_eq}

@@ -9,7 +9,7 @@ use Rattle.bf_world.specs.declared.command.Command.{Command}
 use Rattle.bf_world.specs.declared.command.Command.TheVariants as command
 use Rattle.bf_world.specs.declared.parts.Node.TheVariants.{Folder}
 use Rattle.bf_world.specs.declared.parts.Program.{Program}
-use Rattle.bf_world.specs.Done.{CountsStarted, FitsCommand, StartsByStart, refusal, checks, start_checks, answer_of, after, with_started, with_folder, with_setting, without_setting, is_older, download}
+use Rattle.bf_world.specs.Done.{CountsStarted, FitsCommand, StartsByStart, refusal, checks, start_checks, answer_of, after, with_started, with_folder, is_older, download}
 use Rattle.bf_world.specs.Maps.{at, put, without}
 use Rattle.bf_world.specs.Places.{is_folder, with_node}
 use Rattle.bf_world.specs.Worlds.{WorldState}

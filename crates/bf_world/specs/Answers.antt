@@ -1,5 +1,5 @@
 -- What holds of every answer of a look, whatever the machine.
-use Rattle.std.specs.Prelude.{ℤ, pos, ◌≤ℤ◌, ⊤, All, map}
+use Rattle.std.specs.Prelude.{pos, ◌≤ℤ◌, ⊤, All, map}
 use Rattle.std.specs.List.Sorted.{IsStrictlySortedBy}
 use Rattle.desk_base.specs.Moments.{IsMoment}
 use Rattle.line_forms.specs.Paths.{IsPart}

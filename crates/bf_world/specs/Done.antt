@@ -1,8 +1,6 @@
 -- What a command does to a world: its checks, in their order, and what it changes where none of them refuses.
-use Rattle.std.specs.Prelude.{◌≡◌, ◌≢◌, ℕ, ◌^◌, ◌-◌, ◌+◌, ℤ, Bool, true, false, if◌then◌else◌, not, ◌&&◌, ◌||◌, nat_lt, List, [], ◌∷◌, ◌++◌, length, codes, fold, is_some, int_lt, MatchResult, ⊤, Some, None}
+use Rattle.std.specs.Prelude.{◌≡◌, ◌≢◌, ℕ, ◌^◌, ◌-◌, ◌+◌, ℤ, Bool, true, false, if◌then◌else◌, not, ◌||◌, nat_lt, List, [], ◌∷◌, ◌++◌, length, codes, fold, is_some, int_lt, ⊤, Some, None}
 use Rattle.std.specs.declared.option.Option.{Option}
-use Rattle.std.specs.declared.result.Result.{Result}
-use Rattle.std.specs.declared.alloc.AllocError.{AllocError}
 use Rattle.bf_world.specs.declared.parts.Node.TheVariants.{Folder, File}
 use Rattle.bf_world.specs.declared.parts.SettingValue.{SettingValue}
 use Rattle.bf_world.specs.declared.parts.Program.{Program}

@@ -1,5 +1,5 @@
 -- What holds of every described machine that was read from a text, and of what commands and polls make of it.
-use Rattle.std.specs.Prelude.{ℕ, ◌^◌, ◌<◌, List, length, ⊤, All}
+use Rattle.std.specs.Prelude.{◌^◌, ◌<◌, length, ⊤, All}
 use Rattle.std.specs.Map.{keys_of, values_of}
 use Rattle.desk_base.specs.Moments.{IsMoment}
 use Rattle.line_forms.specs.Paths.{IsPath}

@@ -1,4 +1,4 @@
-use Rattle.std.proofs.Common.{◌≡◌, ◌++◌, ◌∷◌, ◌∙◌, sym, ap, string_bytes}
+use Rattle.std.proofs.Common.{◌++◌, ◌∙◌, sym, ap, string_bytes}
 use Rattle.std.proofs.lemmas.Map.Iter.{rest_more}
 use Rattle.std.specs.Map.Iter.{deref_pair}
 use Rattle.bf_world.specs.Maps.{put, by_bytes}
