@@ -5,3 +5,5 @@
 mod act_rules;
 #[cfg(test)]
 mod line_forms;
+#[cfg(test)]
+mod report_text;

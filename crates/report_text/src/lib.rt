@@ -16,14 +16,10 @@ mod writer;
 
 pub use answer::{Gathered, Verdict};
 pub use error::ReportError;
+pub use field::{read_attempt, read_end, read_exit, read_outcome, read_place};
 pub use form::Form;
 pub use law::{a_report_is_read_again, one_report};
-pub use reader::read_report;
+pub use reader::{ReportLines, read_report, take_report};
 pub use report::{Report, ReportRows};
 pub use report_row::ReportRow;
 pub use writer::{digest, write_report};
-
-#[cfg(test)]
-mod report_cases;
-#[cfg(test)]
-mod tests;

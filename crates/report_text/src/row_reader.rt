@@ -4,13 +4,14 @@ ghost use Rattle.report_text.specs.declared.report_row.ReportRow.{ReportRow};
 ghost use Rattle.line_forms.specs.FieldLists.{line_of};
 ghost use Rattle.report_text.specs.ReportRows.{IsExit, IsPlace, IsReportRow, IsNoteAt, IsNoteIn};
 ghost use Rattle.report_text.specs.RowLines.{row_line, row_fields, added_fields};
-ghost use Rattle.report_text.specs.Readings.{Spells, SpellsBareRow, SpellsNote, IsBareRow};
+ghost use Rattle.report_text.specs.Readings.{SpellsBareRow, SpellsNote, IsBareRow};
+ghost use Rattle.line_forms.specs.Readers.{Spells};
 
-use crate::field::{read_attempt, read_end, read_exit, read_id, read_place};
+use crate::field::{read_attempt, read_end, read_exit, read_place};
 use crate::form::Form;
 use crate::report_row::ReportRow;
 use act_rules::{Note, Outcome};
-use line_forms::{Fields, after_word, read_moment};
+use line_forms::{Fields, after_word, read_id, read_moment};
 
 /// The note of a row that has none.
 const NO_NOTE: Note = Note {
