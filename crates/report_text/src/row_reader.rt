@@ -37,30 +37,42 @@ struct NoteFields<'a> {
     line: &'a [u8],
 }
 
-/// Reads the line of a row in a report of this form.
-pub(crate) fn read_row(form: Form, line: &[u8]) -> Option<ReportRow>
+/// Reads the line of a row in a report of this form, its word `row` with it.
+pub fn read_row(form: Form, line: &[u8]) -> Option<ReportRow>
     ensures { Spells (IsReportRow form) (row_line form) line.now result }
 {
-    read_fields(form, after_word(line, b"row")?)
+    read_row_fields(form, after_word(line, b"row")?)
 }
 
-/// Reads what follows the word of the line.
-fn read_fields(form: Form, rest: &[u8]) -> Option<ReportRow>
+/// Reads the fields of a row, without the word before them.
+pub fn read_row_fields(form: Form, rest: &[u8]) -> Option<ReportRow>
     ensures { Spells (IsReportRow form) (λ row. line_of (row_fields form row)) rest.now result }
 {
     let mut fields = Fields::new(rest);
-    let Some(taken) = take_row_fields(&mut fields) else {
-        return None;
-    };
-    let Some(bare) = read_bare_row(taken) else {
-        return None;
-    };
-    let Some(note) = take_note(form, bare.end, &mut fields) else {
+    let Some(row) = take_row(form, &mut fields) else {
         return None;
     };
     if !fields.is_over() {
         return None;
     }
+    Some(row)
+}
+
+/// Takes the fields of a row, which others may follow. Where those ahead aren't a row's, some may have been taken.
+pub fn take_row(form: Form, fields: &mut Fields<'_>) -> Option<ReportRow>
+    ensures { MatchOption result
+        ((row : ReportRow) (more : List (List ℕ)) → IsReportRow form row → ¬ (fields.old ≡ row_fields form row ++ more))
+        (λ row. IsReportRow form row × (fields.old ≡ row_fields form row ++ fields.new)) }
+{
+    let Some(taken) = take_row_fields(fields) else {
+        return None;
+    };
+    let Some(bare) = read_bare_row(taken) else {
+        return None;
+    };
+    let Some(note) = take_note(form, bare.end, fields) else {
+        return None;
+    };
     Some(ReportRow { note, ..bare })
 }
 
