@@ -17,7 +17,7 @@ use Rattle.report_text.specs.declared.report_row.ReportRow.{ReportRow}
 use Rattle.report_text.specs.ReportRows.{IsExit, IsPlace, IsNoteIn, IsReportRow}
 use Rattle.report_text.specs.RowLines.{outcome_field, end_field, exit_field, component_field, line_field, row_line}
 use Rattle.report_text.specs.Reports.{IsReport, form_line, computer_line, seq_line, end_line, report_text}
-use Rattle.report_text.specs.Readings.{IsEnd}
+use Rattle.report_text.specs.FieldTexts.{IsEnd}
 use Rattle.report_text.specs.Writings.{added_text}
 use Rattle.report_text.proofs.RowLemmas.{note_exit, note_place}
 use Rattle.report_text.proofs.TextLemmas.{added_line}

@@ -18,7 +18,7 @@ pub(crate) fn write_row(form: Form, row: &ReportRow, out: &mut Bytes) -> Result<
     out.extend(b"row")?;
     add_number(row.action, out)?;
     add_number(u64::from(row.number), out)?;
-    add_word(word_of(row.end), out)?;
+    add_word(outcome_field(row.end), out)?;
     add_signed(row.begun, out)?;
     add_end(row.end, out)?;
     add_added(form, row.note, out)?;
@@ -35,7 +35,8 @@ fn add_added(form: Form, note: Note, out: &mut Bytes) -> Result<(), AllocError>
     }
 }
 
-fn word_of(end: Option<(i64, Outcome)>) -> &'static [u8]
+/// The word of an outcome, or `running` where there is no end.
+pub fn outcome_field(end: Option<(i64, Outcome)>) -> &'static [u8]
     ensures { result.now ≡ outcome_field end }
 {
     match end {
