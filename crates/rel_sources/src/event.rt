@@ -5,7 +5,7 @@ ghost use Rattle.rel_sources.specs.Steps.{IsStep, AsStep};
 use rel_value::Value;
 
 /// One event of a walk, or what kept it from making one.
-#[derive(Debug, Drop)]
+#[derive(Drop)]
 pub enum WalkEvent {
     /// A look was made.
     Looked,
@@ -26,7 +26,7 @@ pub enum WalkEvent {
 }
 
 /// What a walk does between its looks.
-#[derive(Debug, Drop)]
+#[derive(Drop)]
 pub enum Step {
     /// A turn.
     Turn,
