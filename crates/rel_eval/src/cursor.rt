@@ -28,7 +28,7 @@ const ALONE: Scope<'static> = Scope {
 };
 
 /// What a pull answers.
-#[derive(Debug, Drop)]
+#[derive(Drop)]
 pub enum Pulled {
     /// The next value.
     Value(Value),

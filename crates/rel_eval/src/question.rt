@@ -23,7 +23,7 @@ use rel_types::{Plan, check};
 use std::alloc::{AllocError, Global};
 
 /// A question that was prepared.
-#[derive(Debug, Drop)]
+#[derive(Drop)]
 pub struct Question {
     plan: Plan,
 }

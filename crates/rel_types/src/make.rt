@@ -44,7 +44,13 @@ fn singular(kind: Kind, form: Form) -> Node
 pub(crate) fn held(alloc: Global, node: Node) -> Result<Option<Box<Node>>, AllocError>
     ensures { IfOk result (λ h. shown_held h ≡ a_node (shown_node node)) }
 {
-    Ok(Some(Box::new(alloc, node)?))
+    Ok(Some(boxed(alloc, node)?))
+}
+
+fn boxed(alloc: Global, node: Node) -> Result<Box<Node>, AllocError>
+    ensures { IfOk result (λ b. shown_node b.value ≡ shown_node node) }
+{
+    Ok(Box::new(alloc, node)?)
 }
 
 pub(crate) fn named(
@@ -83,7 +89,7 @@ pub(crate) fn body(
         plural: body.plural || is_plural(&object),
         form: Form::Body {
             place,
-            body: Box::new(alloc, body)?,
+            body: boxed(alloc, body)?,
             filter,
             object,
         },
@@ -108,7 +114,7 @@ pub(crate) fn cast(
 ) -> Result<Node, AllocError>
     ensures { IfOk result (λ n. shown_node n ≡ node (shown_kind kind) false (cast (shown_node first) casts)) }
 {
-    let first = Box::new(alloc, first)?;
+    let first = boxed(alloc, first)?;
     Ok(singular(kind, Form::Cast { first, casts }))
 }
 
@@ -121,14 +127,14 @@ pub(crate) fn unary(
 ) -> Result<Node, AllocError>
     ensures { IfOk result (λ n. shown_node n ≡ node (shown_kind kind) false (unary place sign (shown_node right))) }
 {
-    let right = Box::new(alloc, right)?;
+    let right = boxed(alloc, right)?;
     Ok(singular(kind, Form::Unary { place, sign, right }))
 }
 
 pub(crate) fn chain(alloc: Global, kind: Kind, first: Node, rest: Links) -> Result<Node, AllocError>
     ensures { IfOk result (λ n. shown_node n ≡ node (shown_kind kind) false (chain (shown_node first) (shown_links rest))) }
 {
-    let first = Box::new(alloc, first)?;
+    let first = boxed(alloc, first)?;
     Ok(singular(kind, Form::Chain { first, rest }))
 }
 
@@ -141,14 +147,28 @@ pub(crate) fn choice(
 ) -> Result<Node, AllocError>
     ensures { IfOk result (λ n. shown_node n ≡ choice_node place (shown_node test) (shown_node yes) (shown_node no)) }
 {
+    let test = boxed(alloc, test)?;
+    let yes = boxed(alloc, yes)?;
+    let no = boxed(alloc, no)?;
+    conditional(place, test, yes, no)
+}
+
+fn conditional(
+    place: Place,
+    test: Box<Node>,
+    yes: Box<Node>,
+    no: Box<Node>,
+) -> Result<Node, AllocError>
+    ensures { IfOk result (λ n. shown_node n ≡ choice_node place (shown_node test.value) (shown_node yes.value) (shown_node no.value)) }
+{
     Ok(Node {
         kind: yes.kind.copy()?,
         plural: yes.plural || no.plural,
         form: Form::If {
             place,
-            test: Box::new(alloc, test)?,
-            yes: Box::new(alloc, yes)?,
-            no: Box::new(alloc, no)?,
+            test,
+            yes,
+            no,
         },
     })
 }
