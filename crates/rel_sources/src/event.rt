@@ -27,11 +27,7 @@ pub enum WalkEvent {
 
 /// What a walk does between its looks.
 #[derive(Drop)]
-<<<<<<< HEAD
 pub enum WalkStep {
-=======
-pub enum Step {
->>>>>>> 07de7749455018074638956ed638064e2f62333a
     /// A turn.
     Turn,
     /// A value.
