@@ -38,7 +38,7 @@ fn write_head(report: &Report, out: &mut Bytes) -> Result<(), AllocError>
     out.push(b'\n')
 }
 
-fn form_bytes(form: Form) -> &'static [u8]
+pub(crate) fn form_bytes(form: Form) -> &'static [u8]
     ensures { result.now ≡ ended_line (form_line form) }
 {
     match form {

@@ -1,0 +1,116 @@
+ghost use Rattle.std.specs.Prelude.{◌∷◌, length, decimal};
+ghost use Rattle.std.specs.Fmt.{signed_decimal};
+ghost use Rattle.desk_base.specs.Rooms.{HasRoom, Fills};
+ghost use Rattle.report_text.specs.Reports.{report_text};
+ghost use Rattle.report_text.specs.Writings.{added_text, head_text, note_text, numbers_text, place_text, row_text, times_text};
+
+use crate::field_writer::{fill_component, fill_end, fill_exit, fill_line};
+use crate::form::Form;
+use crate::report::Report;
+use crate::report_row::ReportRow;
+use crate::row_writer::outcome_field;
+use crate::writer::form_bytes;
+use act_rules::Note;
+use desk_base::Room;
+
+/// Appends the text of a report, for which there is room. It takes no memory.
+pub fn fill_report(report: &Report, room: &mut Room)
+    requires { HasRoom room.old (length (report_text report.now)) }
+    ensures { Fills room.old room.new (report_text report.now) }
+{
+    fill_head(report, room);
+    for row in report.rows.as_slice() {
+        fill_row(report.form, row, room);
+    }
+    room.extend(b"end\n")
+}
+
+/// Appends the first three lines, each with its LF.
+fn fill_head(report: &Report, room: &mut Room)
+    requires { HasRoom room.old (length (head_text report.now)) }
+    ensures { Fills room.old room.new (head_text report.now) }
+{
+    room.extend(form_bytes(report.form));
+    room.extend(b"computer ");
+    room.extend(report.computer.as_str().as_bytes());
+    room.extend(b"\nseq ");
+    room.decimal(report.seq);
+    room.push(b'\n')
+}
+
+/// Appends the line of a row, with its LF.
+fn fill_row(form: Form, row: &ReportRow, room: &mut Room)
+    requires { HasRoom room.old (length (row_text form row.now)) }
+    ensures { Fills room.old room.new (row_text form row.now) }
+{
+    fill_numbers(row, room);
+    fill_times(row, room);
+    fill_added(form, row.note, room);
+    room.push(b'\n')
+}
+
+fn fill_numbers(row: &ReportRow, room: &mut Room)
+    requires { HasRoom room.old (length (numbers_text row.now)) }
+    ensures { Fills room.old room.new (numbers_text row.now) }
+{
+    room.extend(b"row ");
+    room.decimal(row.action);
+    room.push(b' ');
+    room.decimal(u64::from(row.number))
+}
+
+fn fill_times(row: &ReportRow, room: &mut Room)
+    requires { HasRoom room.old (length (times_text row.now)) }
+    ensures { Fills room.old room.new (times_text row.now) }
+{
+    fill_word(outcome_field(row.end), room);
+    fill_signed(row.begun, room);
+    room.push(b' ');
+    fill_end(row.end, room)
+}
+
+/// Appends a space and a word.
+fn fill_word(word: &[u8], room: &mut Room)
+    requires { HasRoom room.old (length (32 ∷ word.now)) }
+    ensures { Fills room.old room.new (32 ∷ word.now) }
+{
+    room.push(b' ');
+    room.extend(word)
+}
+
+fn fill_signed(number: i64, room: &mut Room)
+    requires { HasRoom room.old (length (32 ∷ signed_decimal number)) }
+    ensures { Fills room.old room.new (32 ∷ signed_decimal number) }
+{
+    room.push(b' ');
+    room.signed_decimal(number)
+}
+
+/// Appends what a form adds.
+fn fill_added(form: Form, note: Note, room: &mut Room)
+    requires { HasRoom room.old (length (added_text form note)) }
+    ensures { Fills room.old room.new (added_text form note) }
+{
+    if let Form::Two = form {
+        fill_note(note, room);
+    }
+}
+
+fn fill_note(note: Note, room: &mut Room)
+    requires { HasRoom room.old (length (note_text note)) }
+    ensures { Fills room.old room.new (note_text note) }
+{
+    room.push(b' ');
+    fill_exit(note.exit, room);
+    fill_place(note.place, room)
+}
+
+fn fill_place(place: Option<(u32, u32)>, room: &mut Room)
+    requires { HasRoom room.old (length (place_text place)) }
+    ensures { Fills room.old room.new (place_text place) }
+{
+    room.push(b' ');
+    fill_component(place, room);
+    room.push(b' ');
+    fill_line(place, room)
+}
