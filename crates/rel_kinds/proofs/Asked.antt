@@ -10,6 +10,7 @@ use Rattle.rel_types.specs.Aggregates.{aggregate_rows}
 use Rattle.rel_kinds.proofs.Folds.{full_kind}
 use Rattle.rel_kinds.proofs.Basics.{false_true}
 
+infixr 3 ◌▹◌
 -- what is asked for by the row of this number
 abbrev pub object_at : ℕ → List Row → Asked
 object_at n [] = anything
@@ -25,6 +26,10 @@ argument_at (suc n) (row ∷ rows) = argument_at n rows
 abbrev pub Each : (Row → Type 0) → List Row → Type 0
 Each P [] = Unit {0}
 Each P (row ∷ rows) = P row × Each P rows
+
+-- what is said of a row, and then of those behind it
+pub ◌▹◌ : {A B : Type 0} → A → B → A × B
+a ▹ b = (a, b)
 
 pub each-all : (P Q : Row → Type 0) → ((row : Row) → P row → Q row) → (rows : List Row) → Each P rows → All Q rows
 each-all P Q f [] h = All-nil Q

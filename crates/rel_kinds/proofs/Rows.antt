@@ -26,140 +26,57 @@ use Rattle.rel_kinds.specs.Tables.{AggregateKeeps, HeadKeeps, RowKeeps}
 use Rattle.rel_kinds.proofs.Properties.{property-keeps, item-keeps, item-one}
 use Rattle.rel_kinds.proofs.Folds as folds
 use Rattle.rel_kinds.proofs.Folds.{full_kind}
-use Rattle.rel_kinds.proofs.Asked.{Each, each-all, asked-integers, asked-intervals, asked-times, asked-versions, asked-booleans, asked-texts}
+use Rattle.rel_kinds.proofs.Asked.{Each, ◌▹◌, each-all, asked-integers, asked-intervals, asked-times, asked-versions, asked-booleans, asked-texts}
 use Rattle.rel_kinds.proofs.Basics.{some_same, none_some, false_true, both}
 
 -- ---- the rows, one by one
 
 rows-keep : Each RowKeeps property_rows
 unfolding property_rows
-rows-keep = (
-  property-keeps id.True booleans refl,
-  (
-    property-keeps id.False booleans refl,
-    (
-      property-keeps id.Second intervals refl,
-      (
-        property-keeps id.Minute intervals refl,
-        (
-          property-keeps id.Hour intervals refl,
-          (
-            property-keeps id.Day intervals refl,
-            (
-              property-keeps id.Now times refl,
-              (
-                property-keeps id.FileAt files refl,
-                (
-                  property-keeps id.FolderAt folders refl,
-                  (
-                    property-keeps id.FileNamed files refl,
-                    (
-                      property-keeps id.FolderNamed folders refl,
-                      (
-                        property-keeps id.File files refl,
-                        (
-                          property-keeps id.Folder folders refl,
-                          (
-                            property-keeps id.Descendant files refl,
-                            (
-                              property-keeps id.Name texts refl,
-                              (
-                                property-keeps id.Pathname texts refl,
-                                (
-                                  property-keeps id.Size integers refl,
-                                  (
-                                    property-keeps id.ModificationTime times refl,
-                                    (
-                                      property-keeps id.Line texts refl,
-                                      (
-                                        property-keeps id.LineAt texts refl,
-                                        (
-                                          property-keeps id.LineContaining texts refl,
-                                          (
-                                            property-keeps id.Sha1 texts refl,
-                                            (
-                                              property-keeps id.Sha256 texts refl,
-                                              (
-                                                property-keeps id.OperatingSystem systems refl,
-                                                (
-                                                  property-keeps id.ComputerName texts refl,
-                                                  (
-                                                    property-keeps id.Process processes refl,
-                                                    (
-                                                      property-keeps id.Package packages refl,
-                                                      (
-                                                        property-keeps id.Version versions refl,
-                                                        (
-                                                          property-keeps id.Client clients refl,
-                                                          (
-                                                            property-keeps id.Action actions refl,
-                                                            (
-                                                              property-keeps id.Setting settings refl,
-                                                              (
-                                                                property-keeps id.Value texts refl,
-                                                                (
-                                                                  property-keeps id.EffectiveDate times refl,
-                                                                  (
-                                                                    property-keeps id.IntegerIn integers refl,
-                                                                    (
-                                                                      property-keeps id.Length integers refl,
-                                                                      (
-                                                                        property-keeps id.First text_parts refl,
-                                                                        (
-                                                                          property-keeps id.Last text_parts refl,
-                                                                          (
-                                                                            property-keeps id.PrecedingText texts refl,
-                                                                            (
-                                                                              property-keeps id.FollowingText texts refl,
-                                                                              (
-                                                                                property-keeps id.SubstringSeparatedBy texts refl,
-                                                                                (
-                                                                                  property-keeps id.Parameter texts refl,
-                                                                                  (
-                                                                                    property-keeps id.ExitCode integers refl,
-                                                                                    tt,
-                                                                                  ),
-                                                                                ),
-                                                                              ),
-                                                                            ),
-                                                                          ),
-                                                                        ),
-                                                                      ),
-                                                                    ),
-                                                                  ),
-                                                                ),
-                                                              ),
-                                                            ),
-                                                          ),
-                                                        ),
-                                                      ),
-                                                    ),
-                                                  ),
-                                                ),
-                                              ),
-                                            ),
-                                          ),
-                                        ),
-                                      ),
-                                    ),
-                                  ),
-                                ),
-                              ),
-                            ),
-                          ),
-                        ),
-                      ),
-                    ),
-                  ),
-                ),
-              ),
-            ),
-          ),
-        ),
-      ),
-    ),
-  ),
-)
+rows-keep =
+    property-keeps id.True booleans refl
+    ▹ property-keeps id.False booleans refl
+    ▹ property-keeps id.Second intervals refl
+    ▹ property-keeps id.Minute intervals refl
+    ▹ property-keeps id.Hour intervals refl
+    ▹ property-keeps id.Day intervals refl
+    ▹ property-keeps id.Now times refl
+    ▹ property-keeps id.FileAt files refl
+    ▹ property-keeps id.FolderAt folders refl
+    ▹ property-keeps id.FileNamed files refl
+    ▹ property-keeps id.FolderNamed folders refl
+    ▹ property-keeps id.File files refl
+    ▹ property-keeps id.Folder folders refl
+    ▹ property-keeps id.Descendant files refl
+    ▹ property-keeps id.Name texts refl
+    ▹ property-keeps id.Pathname texts refl
+    ▹ property-keeps id.Size integers refl
+    ▹ property-keeps id.ModificationTime times refl
+    ▹ property-keeps id.Line texts refl
+    ▹ property-keeps id.LineAt texts refl
+    ▹ property-keeps id.LineContaining texts refl
+    ▹ property-keeps id.Sha1 texts refl
+    ▹ property-keeps id.Sha256 texts refl
+    ▹ property-keeps id.OperatingSystem systems refl
+    ▹ property-keeps id.ComputerName texts refl
+    ▹ property-keeps id.Process processes refl
+    ▹ property-keeps id.Package packages refl
+    ▹ property-keeps id.Version versions refl
+    ▹ property-keeps id.Client clients refl
+    ▹ property-keeps id.Action actions refl
+    ▹ property-keeps id.Setting settings refl
+    ▹ property-keeps id.Value texts refl
+    ▹ property-keeps id.EffectiveDate times refl
+    ▹ property-keeps id.IntegerIn integers refl
+    ▹ property-keeps id.Length integers refl
+    ▹ property-keeps id.First text_parts refl
+    ▹ property-keeps id.Last text_parts refl
+    ▹ property-keeps id.PrecedingText texts refl
+    ▹ property-keeps id.FollowingText texts refl
+    ▹ property-keeps id.SubstringSeparatedBy texts refl
+    ▹ property-keeps id.Parameter texts refl
+    ▹ property-keeps id.ExitCode integers refl
+    ▹ tt
 
 pub properties-keep : All RowKeeps property_rows
 properties-keep = each-all RowKeeps RowKeeps (λ row h. h) property_rows rows-keep
@@ -180,55 +97,24 @@ least k l f argument separator p t e = of_kind (aggregated (fold_of aggregate.Mi
 
 sums-keep : Each RowKeeps aggregate_rows
 unfolding aggregate_rows
-sums-keep = (
-  (refl, λ l a argument separator p t e. folds.number-kind l separator p t e),
-  (
-    (refl, λ l a argument separator p t e. folds.integer_sum-kind separator p t (of_kind t l integers (asked-integers l a) e)),
-    (
-      (refl, λ l a argument separator p t e. folds.interval_sum-kind separator p t (of_kind t l intervals (asked-intervals l a) e)),
-      (
-        (refl, λ l a argument separator p t e. greatest integers l (ap full_kind (asked-integers l a)) argument separator p t e),
-        (
-          (refl, λ l a argument separator p t e. greatest intervals l (ap full_kind (asked-intervals l a)) argument separator p t e),
-          (
-            (refl, λ l a argument separator p t e. greatest times l (ap full_kind (asked-times l a)) argument separator p t e),
-            (
-              (refl, λ l a argument separator p t e. greatest versions l (ap full_kind (asked-versions l a)) argument separator p t e),
-              (
-                (refl, λ l a argument separator p t e. greatest texts l (asked-texts l a) argument separator p t e),
-                (
-                  (refl, λ l a argument separator p t e. least integers l (ap full_kind (asked-integers l a)) argument separator p t e),
-                  (
-                    (refl, λ l a argument separator p t e. least intervals l (ap full_kind (asked-intervals l a)) argument separator p t e),
-                    (
-                      (refl, λ l a argument separator p t e. least times l (ap full_kind (asked-times l a)) argument separator p t e),
-                      (
-                        (refl, λ l a argument separator p t e. least versions l (ap full_kind (asked-versions l a)) argument separator p t e),
-                        (
-                          (refl, λ l a argument separator p t e. least texts l (asked-texts l a) argument separator p t e),
-                          (
-                            (refl, λ l a argument separator p t e. folds.conjunction-kind separator p t (of_kind t l booleans (asked-booleans l a) e)),
-                            (
-                              (refl, λ l a argument separator p t e. folds.disjunction-kind separator p t (of_kind t l booleans (asked-booleans l a) e)),
-                              (
-                                (refl, λ l a argument separator p t e. concatenation-keeps argument separator p l t e),
-                                tt,
-                              ),
-                            ),
-                          ),
-                        ),
-                      ),
-                    ),
-                  ),
-                ),
-              ),
-            ),
-          ),
-        ),
-      ),
-    ),
-  ),
-)
+sums-keep =
+    (refl, λ l a argument separator p t e. folds.number-kind l separator p t e)
+    ▹ (refl, λ l a argument separator p t e. folds.integer_sum-kind separator p t (of_kind t l integers (asked-integers l a) e))
+    ▹ (refl, λ l a argument separator p t e. folds.interval_sum-kind separator p t (of_kind t l intervals (asked-intervals l a) e))
+    ▹ (refl, λ l a argument separator p t e. greatest integers l (ap full_kind (asked-integers l a)) argument separator p t e)
+    ▹ (refl, λ l a argument separator p t e. greatest intervals l (ap full_kind (asked-intervals l a)) argument separator p t e)
+    ▹ (refl, λ l a argument separator p t e. greatest times l (ap full_kind (asked-times l a)) argument separator p t e)
+    ▹ (refl, λ l a argument separator p t e. greatest versions l (ap full_kind (asked-versions l a)) argument separator p t e)
+    ▹ (refl, λ l a argument separator p t e. greatest texts l (asked-texts l a) argument separator p t e)
+    ▹ (refl, λ l a argument separator p t e. least integers l (ap full_kind (asked-integers l a)) argument separator p t e)
+    ▹ (refl, λ l a argument separator p t e. least intervals l (ap full_kind (asked-intervals l a)) argument separator p t e)
+    ▹ (refl, λ l a argument separator p t e. least times l (ap full_kind (asked-times l a)) argument separator p t e)
+    ▹ (refl, λ l a argument separator p t e. least versions l (ap full_kind (asked-versions l a)) argument separator p t e)
+    ▹ (refl, λ l a argument separator p t e. least texts l (asked-texts l a) argument separator p t e)
+    ▹ (refl, λ l a argument separator p t e. folds.conjunction-kind separator p t (of_kind t l booleans (asked-booleans l a) e))
+    ▹ (refl, λ l a argument separator p t e. folds.disjunction-kind separator p t (of_kind t l booleans (asked-booleans l a) e))
+    ▹ (refl, λ l a argument separator p t e. concatenation-keeps argument separator p l t e)
+    ▹ tt
 
 pub aggregates-keep : All RowKeeps aggregate_rows
 aggregates-keep = each-all RowKeeps RowKeeps (λ row h. h) aggregate_rows sums-keep

@@ -21,7 +21,7 @@ use Rattle.rel_kinds.specs.Giving.{IsThere}
 use Rattle.rel_kinds.specs.Running.{GoesOn, HaveOutcomes, RowGoesOn}
 use Rattle.rel_kinds.proofs.Outcomes.{op-kind}
 use Rattle.rel_kinds.proofs.Folds.{Holds}
-use Rattle.rel_kinds.proofs.Asked.{Each, each-all, argument_at, asked-integers, asked-intervals, asked-times, asked-versions, asked-booleans, ordered-texts, joined-texts, joined-separators}
+use Rattle.rel_kinds.proofs.Asked.{Each, ◌▹◌, each-all, argument_at, asked-integers, asked-intervals, asked-times, asked-versions, asked-booleans, ordered-texts, joined-texts, joined-separators}
 use Rattle.rel_kinds.proofs.Basics.{later-kind}
 
 -- a fold over values of one kind that holds values of another: with each further value there is a row, which gives such a value
@@ -91,55 +91,24 @@ less l k e h = ap (λ j. binary_kind sign.Less j j) e ∙ h
 
 rows-go-on : Each RowGoesOn aggregate_rows
 unfolding aggregate_rows
-rows-go-on = (
-  (λ argument separator fa there l fo vs e. runs fold.Number separator l integers (λ held v x g. signed-steps sign.Plus integers refl held (integer (pos 1)) x refl) (Some (integer (pos 0))) vs refl e),
-  (
-    (λ argument separator fa there l fo vs e. runs fold.IntegerSum separator l integers (λ held v x g. signed-steps sign.Plus integers refl held v x (g ∙ asked-integers l fo)) (Some (integer (pos 0))) vs refl e),
-    (
-      (λ argument separator fa there l fo vs e. runs fold.IntervalSum separator l intervals (λ held v x g. signed-steps sign.Plus intervals refl held v x (g ∙ asked-intervals l fo)) (Some (interval (pos 0))) vs refl e),
-      (
-        (λ argument separator fa there l fo vs e. greatest l (less l integers (asked-integers l fo) refl) separator vs e),
-        (
-          (λ argument separator fa there l fo vs e. greatest l (less l intervals (asked-intervals l fo) refl) separator vs e),
-          (
-            (λ argument separator fa there l fo vs e. greatest l (less l times (asked-times l fo) refl) separator vs e),
-            (
-              (λ argument separator fa there l fo vs e. greatest l (less l versions (asked-versions l fo) refl) separator vs e),
-              (
-                (λ argument separator fa there l fo vs e. greatest l (ordered-texts l fo) separator vs e),
-                (
-                  (λ argument separator fa there l fo vs e. least l (less l integers (asked-integers l fo) refl) separator vs e),
-                  (
-                    (λ argument separator fa there l fo vs e. least l (less l intervals (asked-intervals l fo) refl) separator vs e),
-                    (
-                      (λ argument separator fa there l fo vs e. least l (less l times (asked-times l fo) refl) separator vs e),
-                      (
-                        (λ argument separator fa there l fo vs e. least l (less l versions (asked-versions l fo) refl) separator vs e),
-                        (
-                          (λ argument separator fa there l fo vs e. least l (ordered-texts l fo) separator vs e),
-                          (
-                            (λ argument separator fa there l fo vs e. runs fold.Conjunction separator l booleans (λ held v x g. signed-steps sign.And booleans refl held v x (g ∙ asked-booleans l fo)) (Some (boolean true)) vs refl e),
-                            (
-                              (λ argument separator fa there l fo vs e. runs fold.Disjunction separator l booleans (λ held v x g. signed-steps sign.Or booleans refl held v x (g ∙ asked-booleans l fo)) (Some (boolean false)) vs refl e),
-                              (
-                                (λ argument separator fa there l fo vs e. concatenation-runs l argument separator vs fa there (joined-texts l fo) e),
-                                tt,
-                              ),
-                            ),
-                          ),
-                        ),
-                      ),
-                    ),
-                  ),
-                ),
-              ),
-            ),
-          ),
-        ),
-      ),
-    ),
-  ),
-)
+rows-go-on =
+    (λ argument separator fa there l fo vs e. runs fold.Number separator l integers (λ held v x g. signed-steps sign.Plus integers refl held (integer (pos 1)) x refl) (Some (integer (pos 0))) vs refl e)
+    ▹ (λ argument separator fa there l fo vs e. runs fold.IntegerSum separator l integers (λ held v x g. signed-steps sign.Plus integers refl held v x (g ∙ asked-integers l fo)) (Some (integer (pos 0))) vs refl e)
+    ▹ (λ argument separator fa there l fo vs e. runs fold.IntervalSum separator l intervals (λ held v x g. signed-steps sign.Plus intervals refl held v x (g ∙ asked-intervals l fo)) (Some (interval (pos 0))) vs refl e)
+    ▹ (λ argument separator fa there l fo vs e. greatest l (less l integers (asked-integers l fo) refl) separator vs e)
+    ▹ (λ argument separator fa there l fo vs e. greatest l (less l intervals (asked-intervals l fo) refl) separator vs e)
+    ▹ (λ argument separator fa there l fo vs e. greatest l (less l times (asked-times l fo) refl) separator vs e)
+    ▹ (λ argument separator fa there l fo vs e. greatest l (less l versions (asked-versions l fo) refl) separator vs e)
+    ▹ (λ argument separator fa there l fo vs e. greatest l (ordered-texts l fo) separator vs e)
+    ▹ (λ argument separator fa there l fo vs e. least l (less l integers (asked-integers l fo) refl) separator vs e)
+    ▹ (λ argument separator fa there l fo vs e. least l (less l intervals (asked-intervals l fo) refl) separator vs e)
+    ▹ (λ argument separator fa there l fo vs e. least l (less l times (asked-times l fo) refl) separator vs e)
+    ▹ (λ argument separator fa there l fo vs e. least l (less l versions (asked-versions l fo) refl) separator vs e)
+    ▹ (λ argument separator fa there l fo vs e. least l (ordered-texts l fo) separator vs e)
+    ▹ (λ argument separator fa there l fo vs e. runs fold.Conjunction separator l booleans (λ held v x g. signed-steps sign.And booleans refl held v x (g ∙ asked-booleans l fo)) (Some (boolean true)) vs refl e)
+    ▹ (λ argument separator fa there l fo vs e. runs fold.Disjunction separator l booleans (λ held v x g. signed-steps sign.Or booleans refl held v x (g ∙ asked-booleans l fo)) (Some (boolean false)) vs refl e)
+    ▹ (λ argument separator fa there l fo vs e. concatenation-runs l argument separator vs fa there (joined-texts l fo) e)
+    ▹ tt
 
 pub aggregates-run : All RowGoesOn aggregate_rows
 aggregates-run = each-all RowGoesOn RowGoesOn (λ row h. h) aggregate_rows rows-go-on

@@ -21,7 +21,7 @@ use Rattle.rel_inspect.specs.Offered.{text_in, integer_in, file_in, folder_in, p
 use Rattle.rel_inspect.specs.Props.{with, looking, prop}
 use Rattle.rel_kinds.specs.Speaking.{may_find_nothing, HeadSpeaks, RowSpeaks}
 use Rattle.rel_kinds.proofs.Basics.{false_true}
-use Rattle.rel_kinds.proofs.Asked.{Each, each-all, object_at, argument_at}
+use Rattle.rel_kinds.proofs.Asked.{Each, ◌▹◌, each-all, object_at, argument_at}
 use Rattle.rel_kinds.proofs.Reading.{Reads, text-reads, integer-reads, file-reads, folder-reads, path-reads, name-reads, version-reads, value-reads, date-reads, preceding-reads, following-reads}
 
 -- no event and no error
@@ -88,133 +88,50 @@ head-speaks (head.Aggregate g) for_argument for_object h = tt
 
 rows-speak : Each Spoken property_rows
 unfolding property_rows
-rows-speak = (
-  λ a o ha ho e w s. refl,
-  (
-    λ a o ha ho e w s. refl,
-    (
-      λ a o ha ho e w s. refl,
-      (
-        λ a o ha ho e w s. refl,
-        (
-          λ a o ha ho e w s. refl,
-          (
-            λ a o ha ho e w s. refl,
-            (
-              λ a o ha ho e w s. refl,
-              (
-                λ a o ha ho e w s. absurd (false_true (sym e)),
-                (
-                  λ a o ha ho e w s. absurd (false_true (sym e)),
-                  (
-                    λ a o ha ho e w s. absurd (false_true (sym e)),
-                    (
-                      λ a o ha ho e w s. absurd (false_true (sym e)),
-                      (
-                        λ a o ha ho e w s. with-speaks (folder_in o) (λ path. looking w (key.List path) (λ x. turns (entry_items false path (entries_of x)))) (there (object_at 11 property_rows) folder_in folder-reads refl o ho) (λ path. refl),
-                        (
-                          λ a o ha ho e w s. with-speaks (folder_in o) (λ path. looking w (key.List path) (λ x. turns (entry_items true path (entries_of x)))) (there (object_at 11 property_rows) folder_in folder-reads refl o ho) (λ path. refl),
-                          (
-                            λ a o ha ho e w s. with-speaks (folder_in o) (descendants w) (there (object_at 11 property_rows) folder_in folder-reads refl o ho) (below-speaks w 1023),
-                            (
-                              λ a o ha ho e w s. text-speaks (name_in o) (there (object_at 14 property_rows) name_in name-reads refl o ho),
-                              (
-                                λ a o ha ho e w s. text-speaks (path_in o) (there (object_at 15 property_rows) path_in path-reads refl o ho),
-                                (
-                                  λ a o ha ho e w s. with-speaks (file_in o) (λ path. looking w (key.Stat path) (λ x. once (size_item x))) (there (object_at 16 property_rows) file_in file-reads refl o ho) (λ path. refl),
-                                  (
-                                    λ a o ha ho e w s. with-speaks (file_in o) (λ path. looking w (key.Stat path) (λ x. once (modified_item x))) (there (object_at 16 property_rows) file_in file-reads refl o ho) (λ path. refl),
-                                    (
-                                      λ a o ha ho e w s. with-speaks (file_in o) (λ path. looking w (key.Read path) (λ x. turns (map (line_item None) (lines_of x)))) (there (object_at 16 property_rows) file_in file-reads refl o ho) (λ path. refl),
-                                      (
-                                        λ a o ha ho e w s. with-speaks (integer_in a) (λ n. with (file_in o) (λ path. looking w (key.Read path) (λ x. once (text_item_of (numbered n (lines_of x)))))) (there (argument_at 19 property_rows) integer_in integer-reads refl a ha) (λ n. with-speaks (file_in o) (λ path. looking w (key.Read path) (λ x. once (text_item_of (numbered n (lines_of x))))) (there (object_at 16 property_rows) file_in file-reads refl o ho) (λ path. refl)),
-                                        (
-                                          λ a o ha ho e w s. with-speaks (text_in a) (λ t. with (file_in o) (λ path. looking w (key.Read path) (λ x. turns (map (line_item (Some t)) (lines_of x))))) (there (argument_at 20 property_rows) text_in text-reads refl a ha) (λ t. with-speaks (file_in o) (λ path. looking w (key.Read path) (λ x. turns (map (line_item (Some t)) (lines_of x)))) (there (object_at 16 property_rows) file_in file-reads refl o ho) (λ path. refl)),
-                                          (
-                                            λ a o ha ho e w s. with-speaks (file_in o) (λ path. looking w (key.Read path) (λ x. once (digest_item sha1 x))) (there (object_at 16 property_rows) file_in file-reads refl o ho) (λ path. refl),
-                                            (
-                                              λ a o ha ho e w s. with-speaks (file_in o) (λ path. looking w (key.Read path) (λ x. once (digest_item sha256 x))) (there (object_at 16 property_rows) file_in file-reads refl o ho) (λ path. refl),
-                                              (
-                                                λ a o ha ho e w s. refl,
-                                                (
-                                                  λ a o ha ho e w s. refl,
-                                                  (
-                                                    λ a o ha ho e w s. refl,
-                                                    (
-                                                      λ a o ha ho e w s. refl,
-                                                      (
-                                                        λ a o ha ho e w s. made-speaks version (version_in o) (there (object_at 27 property_rows) version_in version-reads refl o ho),
-                                                        (
-                                                          λ a o ha ho e w s. refl,
-                                                          (
-                                                            λ a o ha ho e w s. refl,
-                                                            (
-                                                              λ a o ha ho e w s. refl,
-                                                              (
-                                                                λ a o ha ho e w s. text-speaks (value_in o) (there (object_at 31 property_rows) value_in value-reads refl o ho),
-                                                                (
-                                                                  λ a o ha ho e w s. made-speaks time (date_in o) (there (object_at 31 property_rows) date_in date-reads refl o ho),
-                                                                  (
-                                                                    λ a o ha ho e w s. absurd (false_true (sym e)),
-                                                                    (
-                                                                      λ a o ha ho e w s. with-speaks (text_in o) (λ t. walk.one (integer (pos (length (chars t))))) (there (argument_at 20 property_rows) text_in text-reads refl o ho) (λ t. refl),
-                                                                      (
-                                                                        λ a o ha ho e w s. absurd (false_true (sym e)),
-                                                                        (
-                                                                          λ a o ha ho e w s. absurd (false_true (sym e)),
-                                                                          (
-                                                                            λ a o ha ho e w s. text-speaks (preceding_in o) (there (object_at 37 property_rows) preceding_in preceding-reads refl o ho),
-                                                                            (
-                                                                              λ a o ha ho e w s. text-speaks (following_in o) (there (object_at 37 property_rows) following_in following-reads refl o ho),
-                                                                              (
-                                                                                λ a o ha ho e w s. with-speaks (text_in a) (λ x. with (text_in o) (λ t. turns (map text_item (pieces_by x t)))) (there (argument_at 20 property_rows) text_in text-reads refl a ha) (λ x. with-speaks (text_in o) (λ t. turns (map text_item (pieces_by x t))) (there (argument_at 20 property_rows) text_in text-reads refl o ho) (pieces-speak x)),
-                                                                                (
-                                                                                  λ a o ha ho e w s. absurd (false_true (sym e)),
-                                                                                  (
-                                                                                    λ a o ha ho e w s. absurd (false_true (sym e)),
-                                                                                    tt,
-                                                                                  ),
-                                                                                ),
-                                                                              ),
-                                                                            ),
-                                                                          ),
-                                                                        ),
-                                                                      ),
-                                                                    ),
-                                                                  ),
-                                                                ),
-                                                              ),
-                                                            ),
-                                                          ),
-                                                        ),
-                                                      ),
-                                                    ),
-                                                  ),
-                                                ),
-                                              ),
-                                            ),
-                                          ),
-                                        ),
-                                      ),
-                                    ),
-                                  ),
-                                ),
-                              ),
-                            ),
-                          ),
-                        ),
-                      ),
-                    ),
-                  ),
-                ),
-              ),
-            ),
-          ),
-        ),
-      ),
-    ),
-  ),
-)
+rows-speak =
+    (λ a o ha ho e w s. refl)
+    ▹ (λ a o ha ho e w s. refl)
+    ▹ (λ a o ha ho e w s. refl)
+    ▹ (λ a o ha ho e w s. refl)
+    ▹ (λ a o ha ho e w s. refl)
+    ▹ (λ a o ha ho e w s. refl)
+    ▹ (λ a o ha ho e w s. refl)
+    ▹ (λ a o ha ho e w s. absurd (false_true (sym e)))
+    ▹ (λ a o ha ho e w s. absurd (false_true (sym e)))
+    ▹ (λ a o ha ho e w s. absurd (false_true (sym e)))
+    ▹ (λ a o ha ho e w s. absurd (false_true (sym e)))
+    ▹ (λ a o ha ho e w s. with-speaks (folder_in o) (λ path. looking w (key.List path) (λ x. turns (entry_items false path (entries_of x)))) (there (object_at 11 property_rows) folder_in folder-reads refl o ho) (λ path. refl))
+    ▹ (λ a o ha ho e w s. with-speaks (folder_in o) (λ path. looking w (key.List path) (λ x. turns (entry_items true path (entries_of x)))) (there (object_at 11 property_rows) folder_in folder-reads refl o ho) (λ path. refl))
+    ▹ (λ a o ha ho e w s. with-speaks (folder_in o) (descendants w) (there (object_at 11 property_rows) folder_in folder-reads refl o ho) (below-speaks w 1023))
+    ▹ (λ a o ha ho e w s. text-speaks (name_in o) (there (object_at 14 property_rows) name_in name-reads refl o ho))
+    ▹ (λ a o ha ho e w s. text-speaks (path_in o) (there (object_at 15 property_rows) path_in path-reads refl o ho))
+    ▹ (λ a o ha ho e w s. with-speaks (file_in o) (λ path. looking w (key.Stat path) (λ x. once (size_item x))) (there (object_at 16 property_rows) file_in file-reads refl o ho) (λ path. refl))
+    ▹ (λ a o ha ho e w s. with-speaks (file_in o) (λ path. looking w (key.Stat path) (λ x. once (modified_item x))) (there (object_at 16 property_rows) file_in file-reads refl o ho) (λ path. refl))
+    ▹ (λ a o ha ho e w s. with-speaks (file_in o) (λ path. looking w (key.Read path) (λ x. turns (map (line_item None) (lines_of x)))) (there (object_at 16 property_rows) file_in file-reads refl o ho) (λ path. refl))
+    ▹ (λ a o ha ho e w s. with-speaks (integer_in a) (λ n. with (file_in o) (λ path. looking w (key.Read path) (λ x. once (text_item_of (numbered n (lines_of x)))))) (there (argument_at 19 property_rows) integer_in integer-reads refl a ha) (λ n. with-speaks (file_in o) (λ path. looking w (key.Read path) (λ x. once (text_item_of (numbered n (lines_of x))))) (there (object_at 16 property_rows) file_in file-reads refl o ho) (λ path. refl)))
+    ▹ (λ a o ha ho e w s. with-speaks (text_in a) (λ t. with (file_in o) (λ path. looking w (key.Read path) (λ x. turns (map (line_item (Some t)) (lines_of x))))) (there (argument_at 20 property_rows) text_in text-reads refl a ha) (λ t. with-speaks (file_in o) (λ path. looking w (key.Read path) (λ x. turns (map (line_item (Some t)) (lines_of x)))) (there (object_at 16 property_rows) file_in file-reads refl o ho) (λ path. refl)))
+    ▹ (λ a o ha ho e w s. with-speaks (file_in o) (λ path. looking w (key.Read path) (λ x. once (digest_item sha1 x))) (there (object_at 16 property_rows) file_in file-reads refl o ho) (λ path. refl))
+    ▹ (λ a o ha ho e w s. with-speaks (file_in o) (λ path. looking w (key.Read path) (λ x. once (digest_item sha256 x))) (there (object_at 16 property_rows) file_in file-reads refl o ho) (λ path. refl))
+    ▹ (λ a o ha ho e w s. refl)
+    ▹ (λ a o ha ho e w s. refl)
+    ▹ (λ a o ha ho e w s. refl)
+    ▹ (λ a o ha ho e w s. refl)
+    ▹ (λ a o ha ho e w s. made-speaks version (version_in o) (there (object_at 27 property_rows) version_in version-reads refl o ho))
+    ▹ (λ a o ha ho e w s. refl)
+    ▹ (λ a o ha ho e w s. refl)
+    ▹ (λ a o ha ho e w s. refl)
+    ▹ (λ a o ha ho e w s. text-speaks (value_in o) (there (object_at 31 property_rows) value_in value-reads refl o ho))
+    ▹ (λ a o ha ho e w s. made-speaks time (date_in o) (there (object_at 31 property_rows) date_in date-reads refl o ho))
+    ▹ (λ a o ha ho e w s. absurd (false_true (sym e)))
+    ▹ (λ a o ha ho e w s. with-speaks (text_in o) (λ t. walk.one (integer (pos (length (chars t))))) (there (argument_at 20 property_rows) text_in text-reads refl o ho) (λ t. refl))
+    ▹ (λ a o ha ho e w s. absurd (false_true (sym e)))
+    ▹ (λ a o ha ho e w s. absurd (false_true (sym e)))
+    ▹ (λ a o ha ho e w s. text-speaks (preceding_in o) (there (object_at 37 property_rows) preceding_in preceding-reads refl o ho))
+    ▹ (λ a o ha ho e w s. text-speaks (following_in o) (there (object_at 37 property_rows) following_in following-reads refl o ho))
+    ▹ (λ a o ha ho e w s. with-speaks (text_in a) (λ x. with (text_in o) (λ t. turns (map text_item (pieces_by x t)))) (there (argument_at 20 property_rows) text_in text-reads refl a ha) (λ x. with-speaks (text_in o) (λ t. turns (map text_item (pieces_by x t))) (there (argument_at 20 property_rows) text_in text-reads refl o ho) (pieces-speak x)))
+    ▹ (λ a o ha ho e w s. absurd (false_true (sym e)))
+    ▹ (λ a o ha ho e w s. absurd (false_true (sym e)))
+    ▹ tt
 
 pub properties-speak : All RowSpeaks property_rows
 properties-speak = each-all Spoken RowSpeaks (λ row. head-speaks row.head row.argument row.object) property_rows rows-speak
