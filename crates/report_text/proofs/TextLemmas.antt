@@ -1,7 +1,6 @@
 -- The texts that are written.
 use Rattle.std.proofs.Common.{ℕ, ◌≡◌, ◌+◌, ◌<◌, List, [], ◌∷◌, ◌++◌, length, Bool, false, refl, sym, ap, ◌∙◌, take, get_or, map, append_assoc, append-nil}
-use Rattle.std.specs.Prelude.{codes, decimal, IsTrue, ◌↔◌, OnOk, Ok, Err}
-use Rattle.std.specs.declared.result.Result.{Result}
+use Rattle.std.specs.Prelude.{codes, decimal, IsTrue, ◌↔◌}
 use Rattle.std.specs.Fmt.{signed_decimal}
 use Rattle.std.proofs.lemmas.List.{take_more}
 use Rattle.line_forms.specs.FieldLists.{line_of}
