@@ -1,5 +1,5 @@
 -- What the readers of rows do. Only private functions cite these definitions.
-use Rattle.std.specs.Prelude.{◌≡◌, ℕ, ◌<◌, ◌-◌, List, length, map, decimal, IfSome, slice_get}
+use Rattle.std.specs.Prelude.{◌≡◌, ◌<◌, ◌-◌, List, length, map, decimal, IfSome, slice_get}
 use Rattle.std.specs.Fmt.{signed_decimal}
 use Rattle.desk_base.specs.Moments.{IsMoment}
 use Rattle.line_forms.specs.LineStates.{LineState}

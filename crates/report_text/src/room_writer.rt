@@ -1,16 +1,16 @@
-ghost use Rattle.std.specs.Prelude.{◌∷◌, length, decimal};
+ghost use Rattle.std.specs.Prelude.{◌≡◌, ◌∷◌, length};
 ghost use Rattle.std.specs.Fmt.{signed_decimal};
 ghost use Rattle.desk_base.specs.Rooms.{HasRoom, Fills};
-ghost use Rattle.report_text.specs.Reports.{report_text};
+ghost use Rattle.line_forms.specs.Lines.{ended_line};
+ghost use Rattle.report_text.specs.Reports.{form_line, report_text};
+ghost use Rattle.report_text.specs.RowLines.{outcome_field};
 ghost use Rattle.report_text.specs.Writings.{added_text, head_text, note_text, numbers_text, place_text, row_text, times_text};
 
 use crate::field_writer::{fill_component, fill_end, fill_exit, fill_line};
 use crate::form::Form;
 use crate::report::Report;
 use crate::report_row::ReportRow;
-use crate::row_writer::outcome_field;
-use crate::writer::form_bytes;
-use act_rules::Note;
+use act_rules::{Note, Outcome};
 use desk_base::Room;
 
 /// Appends the text of a report, for which there is room. It takes no memory.
@@ -36,6 +36,15 @@ fn fill_head(report: &Report, room: &mut Room)
     room.extend(b"\nseq ");
     room.decimal(report.seq);
     room.push(b'\n')
+}
+
+fn form_bytes(form: Form) -> &'static [u8]
+    ensures { result.now ≡ ended_line (form_line form) }
+{
+    match form {
+        Form::One => b"report 1\n",
+        Form::Two => b"report 2\n",
+    }
 }
 
 /// Appends the line of a row, with its LF.
@@ -69,6 +78,18 @@ fn fill_times(row: &ReportRow, room: &mut Room)
     fill_end(row.end, room)
 }
 
+/// The word of an outcome, or `running` where there is no end.
+pub fn outcome_field(end: Option<(i64, Outcome)>) -> &'static [u8]
+    ensures { result.now ≡ outcome_field end }
+{
+    match end {
+        None => b"running",
+        Some((_, Outcome::Fixed)) => b"fixed",
+        Some((_, Outcome::Failed)) => b"failed",
+        Some((_, Outcome::Interrupted)) => b"interrupted",
+    }
+}
+
 /// Appends a space and a word.
 fn fill_word(word: &[u8], room: &mut Room)
     requires { HasRoom room.old (length (32 ∷ word.now)) }
@@ -91,8 +112,9 @@ fn fill_added(form: Form, note: Note, room: &mut Room)
     requires { HasRoom room.old (length (added_text form note)) }
     ensures { Fills room.old room.new (added_text form note) }
 {
-    if let Form::Two = form {
-        fill_note(note, room);
+    match form {
+        Form::One => {}
+        Form::Two => fill_note(note, room),
     }
 }
 

@@ -1,4 +1,4 @@
-use Rattle.std.proofs.Common.{ℕ, Option, Some, None, refl, sym, subst, arith, ◌≡◌}
+use Rattle.std.proofs.Common.{ℕ, Option, refl, sym, subst, arith}
 use Rattle.line_forms.specs.BadLines.{AnswersBadLine}
 use Rattle.line_forms.specs.LineStates.{LineState}
 use Rattle.line_forms.specs.Readers.{IsStuck, Passes, ReadsPart}
