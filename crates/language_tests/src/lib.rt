@@ -4,4 +4,10 @@
 #[cfg(test)]
 mod checking;
 #[cfg(test)]
+mod lexing;
+#[cfg(test)]
+mod parsing;
+#[cfg(test)]
+mod printing;
+#[cfg(test)]
 mod values;
