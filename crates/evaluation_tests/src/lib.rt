@@ -1,2 +1,5 @@
 //! Tests of the crates that evaluate questions and answer lines of them, by public calls alone.
 #![tactic(auto)]
+
+#[cfg(test)]
+mod sessions;
