@@ -1,2 +1,5 @@
 //! Tests of the crates that read, check and print questions and reckon with values, by public calls alone.
 #![tactic(auto)]
+
+#[cfg(test)]
+mod lexing;

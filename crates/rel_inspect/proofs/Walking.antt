@@ -10,7 +10,7 @@ use Rattle.rel_inspect.specs.declared.descent.Ahead.TheVariants as ahead
 use Rattle.rel_inspect.specs.declared.descent.Descent.{Descent}
 use Rattle.rel_sources.specs.declared.event.WalkEvent.{WalkEvent}
 use Rattle.rel_sources.specs.declared.event.WalkEvent.TheVariants as event
-use Rattle.rel_sources.specs.declared.event.Step.{Step}
+use Rattle.rel_sources.specs.declared.event.WalkStep.{WalkStep}
 use Rattle.rel_sources.specs.declared.scene.Scene.{Scene}
 use Rattle.rel_inspect.specs.declared.walk.State.{State}
 use Rattle.rel_inspect.specs.declared.walk.State.TheVariants as state
@@ -90,35 +90,35 @@ grows-from : {T : Type 0} (l l' : Option (List T)) → l' ≡ l → Grows l l' [
 grows-from l l' e = subst (λ k. Grows l k []) (sym e) (grows-same l)
 
 -- an event that is no look, as a step
-moves-as : (t t' : Trace) (e : WalkEvent) (s : Step) → Moves t e t' → AsStep e s → StepMoves t s t'
+moves-as : (t t' : Trace) (e : WalkEvent) (s : WalkStep) → Moves t e t' → AsStep e s → StepMoves t s t'
 moves-as t t' event.Looked s m same = absurd m
-moves-as t t' event.Turned s m same = subst (λ (x : Step). StepMoves t x t') (sym same) m
-moves-as t t' (event.Given v) s m same = subst (λ (x : Step). StepMoves t x t') (sym same) m
-moves-as t t' event.Over s m same = subst (λ (x : Step). StepMoves t x t') (sym same) m
-moves-as t t' event.TextTooLong s m same = subst (λ (x : Step). StepMoves t x t') (sym same) m
+moves-as t t' event.Turned s m same = subst (λ (x : WalkStep). StepMoves t x t') (sym same) m
+moves-as t t' (event.Given v) s m same = subst (λ (x : WalkStep). StepMoves t x t') (sym same) m
+moves-as t t' event.Over s m same = subst (λ (x : WalkStep). StepMoves t x t') (sym same) m
+moves-as t t' event.TextTooLong s m same = subst (λ (x : WalkStep). StepMoves t x t') (sym same) m
 moves-as t t' event.Full s m same = absurd m
 moves-as t t' event.Failed s m same = absurd m
-moves-as t t' event.Memory s m same = subst (λ (x : Step). StepMoves t x t') (sym same) m
+moves-as t t' event.Memory s m same = subst (λ (x : WalkStep). StepMoves t x t') (sym same) m
 
 -- a look, and then an event that is none
-pub look-then : (l l' : Option (List Key)) (t u t' : Trace) (e : WalkEvent) (s : Step) → Goes l t event.Looked l' u → Moves u e t' → AsStep e s → Steps l t s l' t'
+pub look-then : (l l' : Option (List Key)) (t u t' : Trace) (e : WalkEvent) (s : WalkStep) → Goes l t event.Looked l' u → Moves u e t' → AsStep e s → Steps l t s l' t'
 look-then l l' t u t' e s look m same = (look.0 ∷ [], u, look.1, look.2, moves-as u t' e s m same)
 
-plain-step : (l l' : Option (List Key)) (t t' : Trace) (e : WalkEvent) (s : Step) → Moves t e t' × (l' ≡ l) → AsStep e s → Steps l t s l' t'
+plain-step : (l l' : Option (List Key)) (t t' : Trace) (e : WalkEvent) (s : WalkStep) → Moves t e t' × (l' ≡ l) → AsStep e s → Steps l t s l' t'
 plain-step l l' t t' e s h same = ([], t, refl, grows-from l l' h.1, moves-as t t' e s h.0 same)
 
 -- an event of a step by itself
-pub event-then : (l l' : Option (List Key)) (t t' : Trace) (e : WalkEvent) (s : Step) → Goes l t e l' t' → IsStep e → AsStep e s → Steps l t s l' t'
+pub event-then : (l l' : Option (List Key)) (t t' : Trace) (e : WalkEvent) (s : WalkStep) → Goes l t e l' t' → IsStep e → AsStep e s → Steps l t s l' t'
 event-then l l' t t' event.Looked s h is same = absurd is
 event-then l l' t t' event.Turned s h is same = plain-step l l' t t' event.Turned s h same
 event-then l l' t t' (event.Given v) s h is same = plain-step l l' t t' (event.Given v) s h same
 event-then l l' t t' event.Over s h is same = plain-step l l' t t' event.Over s h same
 event-then l l' t t' event.TextTooLong s h is same = plain-step l l' t t' event.TextTooLong s h same
 event-then l l' t t' event.Full s h is same = absurd is
-event-then l l' t t' event.Failed s h is same = ([], t, refl, grows-from l l' h.2, subst (λ (x : Step). StepMoves t x t') (sym same) (h.0, h.1))
+event-then l l' t t' event.Failed s h is same = ([], t, refl, grows-from l l' h.2, subst (λ (x : WalkStep). StepMoves t x t') (sym same) (h.0, h.1))
 event-then l l' t t' event.Memory s h is same = plain-step l l' t t' event.Memory s h same
 
-pub cause-as : (a b : ℕ) (e : WalkEvent) (s : Step) → HasCause a b e → IsStep e → AsStep e s → StepHasCause a b s
+pub cause-as : (a b : ℕ) (e : WalkEvent) (s : WalkStep) → HasCause a b e → IsStep e → AsStep e s → StepHasCause a b s
 cause-as a b event.Looked s h is same = absurd is
 cause-as a b event.Turned s h is same = subst (StepHasCause a b) (sym same) h
 cause-as a b (event.Given v) s h is same = subst (StepHasCause a b) (sym same) h
@@ -128,7 +128,7 @@ cause-as a b event.Full s h is same = absurd is
 cause-as a b event.Failed s h is same = subst (StepHasCause a b) (sym same) h
 cause-as a b event.Memory s h is same = subst (StepHasCause a b) (sym same) h
 
-pub sound-as : (e : WalkEvent) (s : Step) → GivesSound e → IsStep e → AsStep e s → StepGivesSound s
+pub sound-as : (e : WalkEvent) (s : WalkStep) → GivesSound e → IsStep e → AsStep e s → StepGivesSound s
 sound-as event.Looked s h is same = absurd is
 sound-as event.Turned s h is same = subst StepGivesSound (sym same) tt
 sound-as (event.Given v) s h is same = subst StepGivesSound (sym same) h
@@ -154,6 +154,6 @@ with-room event.Failed room other = tt
 with-room event.Memory room other = tt
 
 -- a look and then an event that is none need no cause
-pub cause-then : (a b : ℕ) (t t' : Trace) (e : WalkEvent) (s : Step) → b ≡ a → Moves t e t' → AsStep e s → StepHasCause a b s
+pub cause-then : (a b : ℕ) (t t' : Trace) (e : WalkEvent) (s : WalkStep) → b ≡ a → Moves t e t' → AsStep e s → StepHasCause a b s
 cause-then a b t t' e s same m of_event =
     cause-as a b e s (subst (λ (n : ℕ). HasCause a n e) (sym same) (moves-cause a t t' e m)) (moves-step t t' e m) of_event

@@ -11,7 +11,7 @@ ghost use Rattle.rel_inspect.specs.Facets.{once_item, facet_item};
 use crate::once::{Once, Sought};
 use bf_world::Answer;
 use rel_lexer::Text;
-use rel_sources::Held;
+use rel_sources::HeldItem;
 use rel_value::{Value, Version};
 
 /// What is asked of one thing that a look shows.
@@ -52,67 +52,67 @@ impl Facet {
     }
 }
 
-fn file_held(path: Text, answer: Answer) -> Held
+fn file_held(path: Text, answer: Answer) -> HeldItem
     ensures item { item_in result ≡ file_item path answer }
     ensures sound { IsSoundItem (item_in result) }
 {
     match answer {
-        Answer::File { .. } => Held::Value(Value::File(path)),
-        _ => Held::Nothing,
+        Answer::File { .. } => HeldItem::Value(Value::File(path)),
+        _ => HeldItem::Nothing,
     }
 }
 
-fn folder_held(path: Text, answer: Answer) -> Held
+fn folder_held(path: Text, answer: Answer) -> HeldItem
     ensures item { item_in result ≡ folder_item path answer }
     ensures sound { IsSoundItem (item_in result) }
 {
     match answer {
-        Answer::Folder => Held::Value(Value::Folder(path)),
-        _ => Held::Nothing,
+        Answer::Folder => HeldItem::Value(Value::Folder(path)),
+        _ => HeldItem::Nothing,
     }
 }
 
-fn size_held(answer: Answer) -> Held
+fn size_held(answer: Answer) -> HeldItem
     ensures item { item_in result ≡ size_item answer }
     ensures sound { IsSoundItem (item_in result) }
 {
     match answer {
-        Answer::File { size, .. } => Held::Value(Value::Integer(size)),
-        _ => Held::Nothing,
+        Answer::File { size, .. } => HeldItem::Value(Value::Integer(size)),
+        _ => HeldItem::Nothing,
     }
 }
 
-fn modified_held(answer: Answer) -> Held
+fn modified_held(answer: Answer) -> HeldItem
     requires { IsGoodAnswer answer }
     ensures item { item_in result ≡ modified_item answer }
     ensures sound { IsSoundItem (item_in result) }
 {
     match answer {
-        Answer::File { modified, .. } => Held::Value(Value::Time(modified)),
-        _ => Held::Nothing,
+        Answer::File { modified, .. } => HeldItem::Value(Value::Time(modified)),
+        _ => HeldItem::Nothing,
     }
 }
 
-fn system_held(answer: Answer) -> Held
+fn system_held(answer: Answer) -> HeldItem
     ensures item { item_in result ≡ system_item answer }
     ensures sound { IsSoundItem (item_in result) }
 {
     match answer {
         Answer::System { name, version } => match Version::parse(&version) {
-            Some(version) => Held::Value(Value::System { name, version }),
-            None => Held::Nothing,
+            Some(version) => HeldItem::Value(Value::System { name, version }),
+            None => HeldItem::Nothing,
         },
-        _ => Held::Nothing,
+        _ => HeldItem::Nothing,
     }
 }
 
-fn name_held(answer: Answer) -> Held
+fn name_held(answer: Answer) -> HeldItem
     ensures item { item_in result ≡ name_item answer }
     ensures sound { IsSoundItem (item_in result) }
 {
     match answer {
-        Answer::Name(name) => Held::text(name),
-        _ => Held::Nothing,
+        Answer::Name(name) => HeldItem::text(name),
+        _ => HeldItem::Nothing,
     }
 }
 
@@ -122,7 +122,7 @@ fn line_once(number: i64, answer: Answer) -> Once
 {
     match answer {
         Answer::Content(content) => Once::Sought(Sought::LineAt { number, content }),
-        _ => Once::Held(Held::Nothing),
+        _ => Once::Held(HeldItem::Nothing),
     }
 }
 
@@ -132,7 +132,7 @@ fn sha1_once(answer: Answer) -> Once
 {
     match answer {
         Answer::Content(content) => Once::Sought(Sought::Sha1(content)),
-        _ => Once::Held(Held::Nothing),
+        _ => Once::Held(HeldItem::Nothing),
     }
 }
 
@@ -142,6 +142,6 @@ fn sha256_once(answer: Answer) -> Once
 {
     match answer {
         Answer::Content(content) => Once::Sought(Sought::Sha256(content)),
-        _ => Once::Held(Held::Nothing),
+        _ => Once::Held(HeldItem::Nothing),
     }
 }

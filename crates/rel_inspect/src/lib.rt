@@ -13,8 +13,5 @@ mod turns;
 mod walk;
 
 pub use begin::inspect;
-pub use rel_sources::{Pair, Pairs, Scene, Step, WalkEvent};
+pub use rel_sources::{Pair, Pairs, Scene, WalkEvent, WalkStep};
 pub use walk::Walk;
-
-#[cfg(test)]
-mod tests;

@@ -7,7 +7,7 @@ ghost use Rattle.rel_inspect.specs.Facets.{listed_items};
 
 use bf_world::Answer;
 use rel_lexer::Text;
-use rel_sources::{Entries, Lines, Members, Rows, Source};
+use rel_sources::{Entries, ItemSource, Lines, Members, Rows};
 
 /// Which of the things that a look shows are asked for.
 #[derive(Drop)]
@@ -26,7 +26,7 @@ pub(crate) enum Listing {
 
 impl Listing {
     /// What the answer of a look gives. It takes no memory.
-    pub(crate) fn of(self, answer: Answer) -> Source
+    pub(crate) fn of(self, answer: Answer) -> ItemSource
         requires { IsGoodAnswer answer }
         ensures items { items_in result ≡ listed_items self answer }
         ensures sound { All IsSoundItem (items_in result) }
@@ -41,47 +41,47 @@ impl Listing {
     }
 }
 
-fn entries_of(folders: bool, path: Text, answer: Answer) -> Source
+fn entries_of(folders: bool, path: Text, answer: Answer) -> ItemSource
     ensures { items_in result ≡ entry_items folders path (entries_of answer) }
 {
     match answer {
-        Answer::Entries(entries) => Source::Entries(Entries::new(folders, path, entries)),
-        _ => Source::Nothing,
+        Answer::Entries(entries) => ItemSource::Entries(Entries::new(folders, path, entries)),
+        _ => ItemSource::Nothing,
     }
 }
 
-fn lines_of(wanted: Option<Text>, answer: Answer) -> Source
+fn lines_of(wanted: Option<Text>, answer: Answer) -> ItemSource
     ensures { items_in result ≡ map (line_item wanted) (lines_of answer) }
 {
     match answer {
-        Answer::Content(content) => Source::Lines(Lines::new(wanted, content)),
-        _ => Source::Nothing,
+        Answer::Content(content) => ItemSource::Lines(Lines::new(wanted, content)),
+        _ => ItemSource::Nothing,
     }
 }
 
-fn processes_of(wanted: Option<Text>, answer: Answer) -> Source
+fn processes_of(wanted: Option<Text>, answer: Answer) -> ItemSource
     ensures { items_in result ≡ process_items wanted answer }
 {
     match answer {
-        Answer::Names(names) => Source::Members(Members::new(wanted, Rows::Processes(names))),
-        _ => Source::Nothing,
+        Answer::Names(names) => ItemSource::Members(Members::new(wanted, Rows::Processes(names))),
+        _ => ItemSource::Nothing,
     }
 }
 
-fn packages_of(wanted: Option<Text>, answer: Answer) -> Source
+fn packages_of(wanted: Option<Text>, answer: Answer) -> ItemSource
     ensures { items_in result ≡ package_items wanted answer }
 {
     match answer {
-        Answer::Packages(rows) => Source::Members(Members::new(wanted, Rows::Packages(rows))),
-        _ => Source::Nothing,
+        Answer::Packages(rows) => ItemSource::Members(Members::new(wanted, Rows::Packages(rows))),
+        _ => ItemSource::Nothing,
     }
 }
 
-fn settings_of(wanted: Option<Text>, answer: Answer) -> Source
+fn settings_of(wanted: Option<Text>, answer: Answer) -> ItemSource
     ensures { items_in result ≡ setting_items wanted answer }
 {
     match answer {
-        Answer::Settings(rows) => Source::Members(Members::new(wanted, Rows::Settings(rows))),
-        _ => Source::Nothing,
+        Answer::Settings(rows) => ItemSource::Members(Members::new(wanted, Rows::Settings(rows))),
+        _ => ItemSource::Nothing,
     }
 }

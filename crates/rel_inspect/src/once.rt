@@ -8,7 +8,7 @@ ghost use Rattle.rel_sources.specs.Steps.{Moves, Falls, GivesSound};
 
 use desk_base::Bytes;
 use rel_lexer::Text;
-use rel_sources::{Held, Scene, WalkEvent, numbered_line, readable};
+use rel_sources::{HeldItem, Scene, WalkEvent, numbered_line, readable};
 use rel_value::Value;
 use sha1::Sha1;
 use sha2::{Digest, Sha256};
@@ -17,7 +17,7 @@ use std::alloc::{AllocError, Global};
 /// What gives one value or none.
 #[derive(Drop)]
 pub(crate) enum Once {
-    Held(Held),
+    Held(HeldItem),
     Sought(Sought),
 }
 
@@ -60,7 +60,7 @@ impl Once {
 }
 
 /// Gives what is held. Where nothing is, nothing is left.
-fn given_or_over(held: &mut Held) -> WalkEvent
+fn given_or_over(held: &mut HeldItem) -> WalkEvent
     requires { IsSoundItem (item_in held.old) }
     ensures moves { Moves (once (item_in held.old)) result (once (item_in held.new)) }
     ensures falls { Falls (values_in (item_in held.old)) result (values_in (item_in held.new)) }
@@ -75,23 +75,23 @@ fn given_or_over(held: &mut Held) -> WalkEvent
 }
 
 impl Sought {
-    fn find(&self, alloc: Global, scene: &Scene) -> Result<Held, AllocError>
+    fn find(&self, alloc: Global, scene: &Scene) -> Result<HeldItem, AllocError>
         ensures { IfOk result (λ held. item_in held ≡ sought_item self.now scene.now) }
     {
         match self {
-            Sought::Now => Ok(Held::Value(Value::Time(scene.moment))),
+            Sought::Now => Ok(HeldItem::Value(Value::Time(scene.moment))),
             Sought::Parameter(name) => match scene.parameters.value_of(name.as_str()) {
-                Some(value) => Ok(Held::text(value.copy()?)),
-                None => Ok(Held::Nothing),
+                Some(value) => Ok(HeldItem::text(value.copy()?)),
+                None => Ok(HeldItem::Nothing),
             },
             Sought::ExitCode => match scene.exit {
-                Some(exit) => Ok(Held::Value(Value::Integer(exit))),
-                None => Ok(Held::Nothing),
+                Some(exit) => Ok(HeldItem::Value(Value::Integer(exit))),
+                None => Ok(HeldItem::Nothing),
             },
             Sought::LineAt { number, content } => {
                 match numbered_line(content.as_slice(), *number) {
-                    Some(line) => Ok(Held::text(readable(alloc, line)?)),
-                    None => Ok(Held::Nothing),
+                    Some(line) => Ok(HeldItem::text(readable(alloc, line)?)),
+                    None => Ok(HeldItem::Nothing),
                 }
             }
             Sought::Sha1(content) => hexadecimal(alloc, &Sha1::digest(content.as_slice())),
@@ -101,9 +101,9 @@ impl Sought {
 }
 
 /// A digest in hexadecimal digits.
-fn hexadecimal(alloc: Global, digest: &[u8]) -> Result<Held, AllocError>
+fn hexadecimal(alloc: Global, digest: &[u8]) -> Result<HeldItem, AllocError>
     ensures { IfOk result (λ held. item_in held ≡ text_item (encode_lower digest.now)) }
 {
     let digits = hex::encode(alloc, digest)?;
-    Ok(Held::text(Text::from_str(alloc, digits.as_str())?))
+    Ok(HeldItem::text(Text::from_str(alloc, digits.as_str())?))
 }

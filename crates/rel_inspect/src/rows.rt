@@ -20,17 +20,17 @@ use crate::once::{Once, Sought};
 use crate::turns::Turns;
 use crate::walk::State;
 use rel_lexer::Text;
-use rel_sources::{Held, Integers, Pieces, Source, first_part, last_part};
+use rel_sources::{HeldItem, Integers, ItemSource, Pieces, first_part, last_part};
 use rel_value::{Value, Version};
 use std::alloc::{AllocError, Global};
 
 pub(crate) fn nothing() -> State
     ensures { Begins result (λ w s. none) }
 {
-    held(Held::Nothing)
+    held(HeldItem::Nothing)
 }
 
-fn held(held: Held) -> State
+fn held(held: HeldItem) -> State
     requires { IsSoundItem (item_in held) }
     ensures { Begins result (λ w s. once (item_in held)) }
 {
@@ -41,7 +41,7 @@ pub(crate) fn given(value: Value) -> State
     requires { IsSound (shown value) }
     ensures { Begins result (λ w s. one (shown value)) }
 {
-    held(Held::Value(value))
+    held(HeldItem::Value(value))
 }
 
 pub(crate) fn sought(sought: Sought) -> State
@@ -50,7 +50,7 @@ pub(crate) fn sought(sought: Sought) -> State
     State::Once(Once::Sought(sought))
 }
 
-fn several(source: Source) -> State
+fn several(source: ItemSource) -> State
     requires { All IsSoundItem (items_in source) }
     ensures { Begins result (λ w s. turns (items_in source)) }
 {
@@ -64,7 +64,7 @@ pub(crate) fn text(alloc: Global, text: Option<&str>) -> Result<State, AllocErro
     let Some(text) = text else {
         return Ok(nothing());
     };
-    Ok(held(Held::text(Text::from_str(alloc, text)?)))
+    Ok(held(HeldItem::text(Text::from_str(alloc, text)?)))
 }
 
 /// The version where there is one.
@@ -93,7 +93,7 @@ pub(crate) fn integers(bounds: Option<Bounds>) -> State
     ensures { Begins result (λ w s. with bounds (λ b. turns (map integer_item (integers b.from b.to)))) }
 {
     match bounds {
-        Some(bounds) => several(Source::Integers(Integers::new(bounds.from, bounds.to))),
+        Some(bounds) => several(ItemSource::Integers(Integers::new(bounds.from, bounds.to))),
         None => nothing(),
     }
 }
@@ -162,7 +162,7 @@ pub(crate) fn pieces(
     };
     let separator = Text::from_str(alloc, separator)?;
     let text = Text::from_str(alloc, text)?;
-    Ok(several(Source::Pieces(Pieces::new(separator, text))))
+    Ok(several(ItemSource::Pieces(Pieces::new(separator, text))))
 }
 
 /// The parameter of this name.

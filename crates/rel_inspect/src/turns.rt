@@ -4,23 +4,23 @@ ghost use Rattle.rel_sources.specs.Draws.{item_in, IsSoundItem, values_in};
 ghost use Rattle.rel_sources.specs.Sources.{items_in};
 ghost use Rattle.rel_sources.specs.Steps.{Moves, Falls, GivesSound};
 
-use rel_sources::{Drawn, Held, Source, WalkEvent};
+use rel_sources::{Drawn, HeldItem, ItemSource, WalkEvent};
 use std::alloc::Global;
 
 /// A turn, and then the item: what a source with several values does. What is held had its turn.
 #[derive(Drop)]
 pub(crate) struct Turns {
-    pub(crate) held: Held,
-    pub(crate) source: Source,
+    pub(crate) held: HeldItem,
+    pub(crate) source: ItemSource,
 }
 
 impl Turns {
-    pub(crate) fn new(source: Source) -> Turns
+    pub(crate) fn new(source: ItemSource) -> Turns
         ensures held { item_in result.held ≡ Absent }
         ensures source { result.source ≡ source }
     {
         Turns {
-            held: Held::Nothing,
+            held: HeldItem::Nothing,
             source,
         }
     }

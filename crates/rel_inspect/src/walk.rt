@@ -18,7 +18,7 @@ use crate::once::Once;
 use crate::turns::Turns;
 use bf_machine::{Looked, Machine};
 use bf_world::{Answer, Key};
-use rel_sources::{Held, Scene, Step, WalkEvent};
+use rel_sources::{HeldItem, Scene, WalkEvent, WalkStep};
 use std::alloc::Global;
 use std::mem;
 
@@ -89,7 +89,7 @@ impl Walk {
     }
 
     /// The next event that is no look. A look that comes before it is made.
-    pub fn step<M: Machine>(&mut self, machine: &mut M, scene: &Scene) -> Step
+    pub fn step<M: Machine>(&mut self, machine: &mut M, scene: &Scene) -> WalkStep
         requires walk { IsSoundWalk self.old }
         requires moment { IsMoment scene.now.moment }
         ensures goes { (w : WorldState) → M.world machine.old ≡ Some w
@@ -117,7 +117,7 @@ impl Walk {
         ensures asks { asked self.new.state ≡ None }
         ensures sound { IsSoundState self.new.state }
     {
-        let state = mem::replace(&mut self.state, State::Once(Once::Held(Held::Nothing)));
+        let state = mem::replace(&mut self.state, State::Once(Once::Held(HeldItem::Nothing)));
         self.state = state.taken(self.alloc, answer);
     }
 }

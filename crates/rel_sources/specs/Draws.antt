@@ -2,13 +2,13 @@
 use Rattle.std.specs.Prelude.{◌≡◌, ℕ, List, [], ◌∷◌, ⊤}
 use Rattle.rel_value.specs.Operands.{IsSound}
 use Rattle.rel_value.specs.Views.{shown}
-use Rattle.rel_sources.specs.declared.held.Held.{Held}
-use Rattle.rel_sources.specs.declared.held.Held.TheVariants as held
+use Rattle.rel_sources.specs.declared.held.HeldItem.{HeldItem}
+use Rattle.rel_sources.specs.declared.held.HeldItem.TheVariants as held
 use Rattle.rel_sources.specs.declared.held.Drawn.{Drawn}
 use Rattle.rel_sources.specs.declared.held.Drawn.TheVariants as drawn
 use Rattle.rel_sources.specs.Traces.{Item, Absent, Present, Unfit}
 
-abbrev pub item_in : Held → Item
+abbrev pub item_in : HeldItem → Item
 item_in held.Nothing = Absent
 item_in (held.Value v) = Present (shown v)
 item_in held.TooLong = Unfit

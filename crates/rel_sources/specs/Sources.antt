@@ -5,8 +5,8 @@ use Rattle.rel_sources.specs.declared.members.Members.{Members}
 use Rattle.rel_sources.specs.declared.lines.Lines.{Lines}
 use Rattle.rel_sources.specs.declared.integers.Integers.{Integers}
 use Rattle.rel_sources.specs.declared.pieces.Pieces.{Pieces}
-use Rattle.rel_sources.specs.declared.source.Source.{Source}
-use Rattle.rel_sources.specs.declared.source.Source.TheVariants as source
+use Rattle.rel_sources.specs.declared.source.ItemSource.{ItemSource}
+use Rattle.rel_sources.specs.declared.source.ItemSource.TheVariants as source
 use Rattle.rel_sources.specs.Traces.{Item}
 use Rattle.rel_sources.specs.Words.{text_lines}
 use Rattle.rel_sources.specs.Rows.{entry_item, line_item, piece_items, integers, integer_item}
@@ -28,7 +28,7 @@ integers_left i = if i.over then [] else map integer_item (integers i.next i.las
 abbrev pub pieces_left : Pieces → List Item
 pieces_left p = piece_items p.separator p.text p.from
 
-abbrev pub items_in : Source → List Item
+abbrev pub items_in : ItemSource → List Item
 items_in source.Nothing = []
 items_in (source.Entries e) = entries_left e
 items_in (source.Members m) = members_left m

@@ -8,8 +8,8 @@ use Rattle.rel_value.specs.Operands.{IsSound}
 use Rattle.rel_value.specs.Views.{shown}
 use Rattle.rel_sources.specs.declared.event.WalkEvent.{WalkEvent}
 use Rattle.rel_sources.specs.declared.event.WalkEvent.TheVariants as event
-use Rattle.rel_sources.specs.declared.event.Step.{Step}
-use Rattle.rel_sources.specs.declared.event.Step.TheVariants as step
+use Rattle.rel_sources.specs.declared.event.WalkStep.{WalkStep}
+use Rattle.rel_sources.specs.declared.event.WalkStep.TheVariants as step
 use Rattle.rel_sources.specs.Traces.{Trace, Ends, After, Stop, TooLong, Look, Turn, Give}
 
 -- An event that is no look takes the trace that was left to the one that is left now. At its end it stays.
@@ -61,7 +61,7 @@ after_looks [] t = t
 after_looks (key ∷ keys) t = After (Look key) (after_looks keys t)
 
 -- What a step does behind its looks. At a failed look the trace stands before it.
-abbrev pub StepMoves : Trace → Step → Trace → Type 0
+abbrev pub StepMoves : Trace → WalkStep → Trace → Type 0
 StepMoves t step.Turn t' = t ≡ After Turn t'
 StepMoves t (step.Give v) t' = t ≡ After (Give (shown v)) t'
 StepMoves t step.End t' = (t ≡ Ends Stop) × (t' ≡ Ends Stop)
@@ -70,14 +70,14 @@ StepMoves t step.Failed t' = IsBeforeLook t × (t' ≡ t)
 StepMoves t step.Memory t' = ⊤
 
 -- A step makes the looks that come first, and adds their keys.
-abbrev pub Steps : Option (List Key) → Trace → Step → Option (List Key) → Trace → Type 0
+abbrev pub Steps : Option (List Key) → Trace → WalkStep → Option (List Key) → Trace → Type 0
 Steps l t s l' t' = (keys : List Key) × (u : Trace) × (t ≡ after_looks keys u) × Grows l l' keys × StepMoves u s t'
 
-abbrev pub StepHasCause : ℕ → ℕ → Step → Type 0
+abbrev pub StepHasCause : ℕ → ℕ → WalkStep → Type 0
 StepHasCause old new step.Failed = Rose old new
 StepHasCause old new _ = new ≡ old
 
-abbrev pub StepGivesSound : Step → Type 0
+abbrev pub StepGivesSound : WalkStep → Type 0
 StepGivesSound (step.Give v) = IsSound (shown v)
 StepGivesSound _ = ⊤
 
@@ -88,7 +88,7 @@ IsStep event.Full = ⊥
 IsStep _ = ⊤
 
 -- The step is that of the event.
-abbrev pub AsStep : WalkEvent → Step → Type 0
+abbrev pub AsStep : WalkEvent → WalkStep → Type 0
 AsStep event.Turned s = s ≡ step.Turn
 AsStep (event.Given v) s = s ≡ step.Give v
 AsStep event.Over s = s ≡ step.End

@@ -3,7 +3,7 @@ ghost use Rattle.rel_sources.specs.Rows.{is_of_sort, entry_items};
 ghost use Rattle.rel_sources.specs.Sources.{entries_left};
 ghost use Rattle.rel_sources.specs.Draws.{Draws};
 
-use crate::held::{Drawn, Held};
+use crate::held::{Drawn, HeldItem};
 use bf_world::{Entry, EntryList, joined};
 use rel_lexer::Text;
 use rel_value::Value;
@@ -44,9 +44,9 @@ impl Entries {
         };
         self.next += 1;
         if self.folders {
-            Drawn::Item(Held::Value(Value::Folder(path)))
+            Drawn::Item(HeldItem::Value(Value::Folder(path)))
         } else {
-            Drawn::Item(Held::Value(Value::File(path)))
+            Drawn::Item(HeldItem::Value(Value::File(path)))
         }
     }
 }

@@ -5,7 +5,7 @@ ghost use Rattle.rel_sources.specs.Steps.{IsStep, AsStep};
 use rel_value::Value;
 
 /// One event of a walk, or what kept it from making one.
-#[derive(Debug, Drop)]
+#[derive(Drop)]
 pub enum WalkEvent {
     /// A look was made.
     Looked,
@@ -26,8 +26,8 @@ pub enum WalkEvent {
 }
 
 /// What a walk does between its looks.
-#[derive(Debug, Drop)]
-pub enum Step {
+#[derive(Drop)]
+pub enum WalkStep {
     /// A turn.
     Turn,
     /// A value.
@@ -44,17 +44,17 @@ pub enum Step {
 
 impl WalkEvent {
     /// As a step, which makes its looks.
-    pub fn into_step(self) -> Step
+    pub fn into_step(self) -> WalkStep
         requires { IsStep self }
         ensures { AsStep self result }
     {
         match self {
-            WalkEvent::Turned => Step::Turn,
-            WalkEvent::Given(value) => Step::Give(value),
-            WalkEvent::Over => Step::End,
-            WalkEvent::TextTooLong => Step::TextTooLong,
-            WalkEvent::Failed => Step::Failed,
-            WalkEvent::Memory => Step::Memory,
+            WalkEvent::Turned => WalkStep::Turn,
+            WalkEvent::Given(value) => WalkStep::Give(value),
+            WalkEvent::Over => WalkStep::End,
+            WalkEvent::TextTooLong => WalkStep::TextTooLong,
+            WalkEvent::Failed => WalkStep::Failed,
+            WalkEvent::Memory => WalkStep::Memory,
             WalkEvent::Looked | WalkEvent::Full => unreachable!(),
         }
     }

@@ -13,7 +13,7 @@ const LONGEST: usize = 1_048_576;
 
 /// What is to be given next: no value, one, or a text that is too long.
 #[derive(Drop)]
-pub enum Held {
+pub enum HeldItem {
     Nothing,
     Value(Value),
     TooLong,
@@ -22,21 +22,21 @@ pub enum Held {
 /// What drawing the next item gives.
 #[derive(Drop)]
 pub enum Drawn {
-    Item(Held),
+    Item(HeldItem),
     End,
     Memory,
 }
 
-impl Held {
+impl HeldItem {
     /// A text, where it isn't too long.
-    pub fn text(text: Text) -> Held
+    pub fn text(text: Text) -> HeldItem
         ensures item { item_in result ≡ text_item text }
         ensures sound { IsSoundItem (item_in result) }
     {
         if text.as_str().len() > LONGEST {
-            Held::TooLong
+            HeldItem::TooLong
         } else {
-            Held::Value(Value::Text(text))
+            HeldItem::Value(Value::Text(text))
         }
     }
 
@@ -49,11 +49,11 @@ impl Held {
         ensures sound { IsSoundItem (item_in self.old) → IsSoundItem (item_in self.new) }
         ensures gives_sound { IsSoundItem (item_in self.old) → IfSome result GivesSound }
     {
-        match mem::replace(self, Held::Nothing) {
-            Held::Nothing => None,
-            Held::Value(value) => Some(WalkEvent::Given(value)),
-            Held::TooLong => {
-                *self = Held::TooLong;
+        match mem::replace(self, HeldItem::Nothing) {
+            HeldItem::Nothing => None,
+            HeldItem::Value(value) => Some(WalkEvent::Given(value)),
+            HeldItem::TooLong => {
+                *self = HeldItem::TooLong;
                 Some(WalkEvent::TextTooLong)
             }
         }

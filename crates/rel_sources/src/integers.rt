@@ -3,7 +3,7 @@ ghost use Rattle.rel_sources.specs.Rows.{integers, integer_item};
 ghost use Rattle.rel_sources.specs.Sources.{integers_left};
 ghost use Rattle.rel_sources.specs.Draws.{Draws};
 
-use crate::held::{Drawn, Held};
+use crate::held::{Drawn, HeldItem};
 use rel_value::Value;
 
 /// The integers from one to another.
@@ -37,6 +37,6 @@ impl Integers {
         } else {
             self.next = number + 1;
         }
-        Drawn::Item(Held::Value(Value::Integer(number)))
+        Drawn::Item(HeldItem::Value(Value::Integer(number)))
     }
 }

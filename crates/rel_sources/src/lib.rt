@@ -17,8 +17,8 @@ mod source;
 
 pub use content::{numbered_line, readable};
 pub use entries::Entries;
-pub use event::{Step, WalkEvent};
-pub use held::{Drawn, Held};
+pub use event::{WalkEvent, WalkStep};
+pub use held::{Drawn, HeldItem};
 pub use integers::Integers;
 pub use lines::Lines;
 pub use members::{Members, Rows};
@@ -26,7 +26,4 @@ pub use pair::{Pair, Pairs};
 pub use pieces::Pieces;
 pub use places::{first_part, last_part};
 pub use scene::Scene;
-pub use source::Source;
-
-#[cfg(test)]
-mod tests;
+pub use source::ItemSource;

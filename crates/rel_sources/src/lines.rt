@@ -5,7 +5,7 @@ ghost use Rattle.rel_sources.specs.Sources.{lines_left};
 ghost use Rattle.rel_sources.specs.Draws.{item_in, Draws};
 
 use crate::content::{first_line, readable};
-use crate::held::{Drawn, Held};
+use crate::held::{Drawn, HeldItem};
 use desk_base::Bytes;
 use rel_lexer::Text;
 use std::alloc::{AllocError, Global};
@@ -48,13 +48,13 @@ impl Lines {
 }
 
 /// A line that contains the wanted text, where one is wanted; one that is too long is so whether it contains it or not.
-fn line_item(alloc: Global, wanted: &Option<Text>, line: &[u8]) -> Result<Held, AllocError>
+fn line_item(alloc: Global, wanted: &Option<Text>, line: &[u8]) -> Result<HeldItem, AllocError>
     ensures { IfOk result (λ held. item_in held ≡ line_item wanted.now (readable line.now)) }
 {
     let line = readable(alloc, line)?;
     let asked = contains(wanted, line.as_str());
-    match Held::text(line) {
-        Held::Value(_) if !asked => Ok(Held::Nothing),
+    match HeldItem::text(line) {
+        HeldItem::Value(_) if !asked => Ok(HeldItem::Nothing),
         item => Ok(item),
     }
 }

@@ -4,7 +4,7 @@ ghost use Rattle.rel_sources.specs.Sources.{members_left};
 ghost use Rattle.rel_sources.specs.Draws.{item_in, Draws};
 ghost use Rattle.rel_sources.specs.Members.{row_items};
 
-use crate::held::{Drawn, Held};
+use crate::held::{Drawn, HeldItem};
 use bf_world::{NameList, PackageList, PackageRow, SettingList, SettingRow};
 use rel_lexer::Text;
 use rel_value::{Value, Version};
@@ -52,7 +52,7 @@ impl Members {
 
 impl Rows {
     /// The item of the member with this index.
-    fn item(&self, at: usize, wanted: &Option<Text>) -> Option<Result<Held, AllocError>>
+    fn item(&self, at: usize, wanted: &Option<Text>) -> Option<Result<HeldItem, AllocError>>
         ensures at { MatchOption result (drop at (row_items wanted.now self.now) ≡ [])
             (λ item. IfOk item (λ held. drop at (row_items wanted.now self.now)
             ≡ item_in held ∷ drop (at + 1) (row_items wanted.now self.now))) }
@@ -76,37 +76,37 @@ fn is_wanted(wanted: &Option<Text>, name: &Text) -> bool
     }
 }
 
-fn process_item(wanted: &Option<Text>, name: &Text) -> Result<Held, AllocError>
+fn process_item(wanted: &Option<Text>, name: &Text) -> Result<HeldItem, AllocError>
     ensures { IfOk result (λ held. item_in held ≡ process_item wanted.now name.now) }
 {
     if !is_wanted(wanted, name) {
-        return Ok(Held::Nothing);
+        return Ok(HeldItem::Nothing);
     }
-    Ok(Held::Value(Value::Process(name.copy()?)))
+    Ok(HeldItem::Value(Value::Process(name.copy()?)))
 }
 
-fn package_item(wanted: &Option<Text>, row: &PackageRow) -> Result<Held, AllocError>
+fn package_item(wanted: &Option<Text>, row: &PackageRow) -> Result<HeldItem, AllocError>
     ensures { IfOk result (λ held. item_in held ≡ package_item wanted.now row.now) }
 {
     if !is_wanted(wanted, &row.name) {
-        return Ok(Held::Nothing);
+        return Ok(HeldItem::Nothing);
     }
     let Some(version) = Version::parse(&row.version) else {
-        return Ok(Held::Nothing);
+        return Ok(HeldItem::Nothing);
     };
-    Ok(Held::Value(Value::Package {
+    Ok(HeldItem::Value(Value::Package {
         name: row.name.copy()?,
         version,
     }))
 }
 
-fn setting_item(wanted: &Option<Text>, row: &SettingRow) -> Result<Held, AllocError>
+fn setting_item(wanted: &Option<Text>, row: &SettingRow) -> Result<HeldItem, AllocError>
     ensures { IfOk result (λ held. item_in held ≡ setting_item wanted.now row.now) }
 {
     if !is_wanted(wanted, &row.name) {
-        return Ok(Held::Nothing);
+        return Ok(HeldItem::Nothing);
     }
-    Ok(Held::Value(Value::Setting {
+    Ok(HeldItem::Value(Value::Setting {
         name: row.name.copy()?,
         value: row.value.copy()?,
         date: row.date,

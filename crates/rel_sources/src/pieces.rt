@@ -4,7 +4,7 @@ ghost use Rattle.std.specs.Str.{IsCharBoundary};
 ghost use Rattle.rel_sources.specs.Words.{pieces_by, pieces_from};
 ghost use Rattle.rel_sources.specs.Draws.{Draws};
 
-use crate::held::{Drawn, Held};
+use crate::held::{Drawn, HeldItem};
 use rel_lexer::Text;
 use std::alloc::Global;
 
@@ -54,7 +54,7 @@ impl Pieces {
             return Drawn::Memory;
         };
         self.from = further(text, from, first.taken);
-        Drawn::Item(Held::text(piece))
+        Drawn::Item(HeldItem::text(piece))
     }
 }
 

@@ -4,7 +4,7 @@ use crate::Pairs;
 use std::alloc::AllocError;
 
 /// What a question knows beside the machine.
-#[derive(Debug, Drop)]
+#[derive(Drop)]
 pub struct Scene {
     /// Seconds since 1970-01-01 00:00:00 UTC, from 0 to 137,438,953,472 (2^37).
     pub moment: i64,

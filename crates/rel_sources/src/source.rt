@@ -12,7 +12,7 @@ use std::alloc::Global;
 
 /// What several values come from, a turn before each.
 #[derive(Drop)]
-pub enum Source {
+pub enum ItemSource {
     Nothing,
     Entries(Entries),
     Members(Members),
@@ -21,17 +21,17 @@ pub enum Source {
     Pieces(Pieces),
 }
 
-impl Source {
+impl ItemSource {
     pub fn draw(&mut self, alloc: Global) -> Drawn
         ensures { Draws (items_in self.old) result (items_in self.new) }
     {
         match self {
-            Source::Nothing => Drawn::End,
-            Source::Entries(entries) => entries.draw(alloc),
-            Source::Members(members) => members.draw(),
-            Source::Lines(lines) => lines.draw(alloc),
-            Source::Integers(integers) => integers.draw(),
-            Source::Pieces(pieces) => pieces.draw(alloc),
+            ItemSource::Nothing => Drawn::End,
+            ItemSource::Entries(entries) => entries.draw(alloc),
+            ItemSource::Members(members) => members.draw(),
+            ItemSource::Lines(lines) => lines.draw(alloc),
+            ItemSource::Integers(integers) => integers.draw(),
+            ItemSource::Pieces(pieces) => pieces.draw(alloc),
         }
     }
 }
