@@ -1,6 +1,9 @@
-use crate::report_cases::REPORTS;
-use crate::*;
-use desk_base::{Bytes, decimal};
+use act_rules::Outcome;
+use line_forms::Lines;
+use report_text::{
+    ReportError, ReportRows, a_report_is_read_again, digest, one_report, read_attempt, read_end,
+    read_exit, read_outcome, read_place, read_report, take_report, write_report,
+};
 use std::alloc::Global;
 use std::test::Fail;
 
@@ -10,135 +13,82 @@ const ONE: &[u8] = b"report 1\ncomputer pc1\nseq 1\nrow 7 1 fixed 1000 1010\nend
 /// A report of form Two.
 const TWO: &[u8] = b"report 2\ncomputer pc1\nseq 2\nrow 7 2 failed 1060 1060 3 0 9\nend\n";
 
-/// What a text is read as: 0 where it is a report, and its text is the same again, or the number of the first bad line.
-fn read(alloc: Global, text: &[u8]) -> Option<u32> {
+/// The number of the first bad line of a text, 0 where it is a report.
+fn bad_line(alloc: Global, text: &[u8]) -> Option<u32> {
     match read_report(alloc, text) {
-        Ok(report) => {
-            let written = write_report(alloc, &report).ok()?;
-            if written.as_slice() == text {
-                Some(0)
-            } else {
-                None
-            }
-        }
+        Ok(_) => Some(0),
         Err(ReportError::BadReport(line)) => Some(line),
         Err(_) => None,
     }
 }
 
 #[test]
-fn reports_are_read_and_written_again(rt: HostRuntime) {
-    assert_eq!(rt; read(rt.alloc(), ONE), Some(0));
-    assert_eq!(rt; read(rt.alloc(), TWO), Some(0));
-}
-
-#[test]
-fn reports_of_the_table(rt: HostRuntime) -> Result<(), Fail> {
-    let mut parts = REPORTS.split(|byte| *byte == 0);
-    for n in 0..150 {
-        let line = parts.next().ok_or("no line")?;
-        let text = parts.next().ok_or("no text")?;
-        let found = read(rt.alloc(), text).ok_or("no answer")?;
-        let digit = line.first().ok_or("no digit")?;
-        assert_eq!(rt; u32::from(*digit), found.saturating_add(48), "report {n}");
-    }
-    Ok(())
-}
-
-#[test]
-fn reports_of_form_one_have_no_notes(rt: HostRuntime) {
-    let rows = [
-        (
-            b"report 2\ncomputer pc1\nseq 2\nrow 7 2 fixed 1060 1060 3 0 9\nend\n".as_slice(),
-            4,
-        ),
-        (
-            b"report 1\ncomputer pc1\nseq 01\nrow 7 1 fixed 1000 1010\nend\n",
-            3,
-        ),
-        (
-            b"report 1\ncomputer pc1\nseq 1\nrow 7 1 fixed 1000 1010 - - -\nend\n",
-            4,
-        ),
-        (b"", 1),
-        (b"report 1\ncomputer pc1\nseq 1", 3),
-    ];
-    for (text, line) in rows {
-        assert_eq!(rt; read(rt.alloc(), text), Some(line));
-    }
-}
-
-/// A text of this many rows.
-fn text_of(alloc: Global, rows: u64) -> Result<Bytes, Fail> {
-    let mut text = Bytes::from_slice(alloc, b"report 1\ncomputer pc1\nseq 1\n")?;
-    for action in 1..=rows {
-        text.extend(b"row ")?;
-        decimal(action, &mut text)?;
-        text.extend(b" 1 running 0 -\n")?;
-    }
-    text.extend(b"end\n")?;
-    Ok(text)
-}
-
-#[test]
-fn reports_have_500_rows_at_most(rt: HostRuntime) -> Result<(), Fail> {
+fn reports_are_read_to_their_first_bad_line(rt: HostRuntime) {
+    let alloc = rt.alloc();
+    let form_one = b"report 1\ncomputer pc1\nseq 1\nrow 7 1 fixed 1000 1010 - - -\nend\n";
+    assert_eq!(rt; bad_line(alloc, form_one), Some(4));
     assert_eq!(rt;
-        read(rt.alloc(), text_of(rt.alloc(), 500)?.as_slice()),
-        Some(0)
+        bad_line(alloc, b"report 1\ncomputer pc1\nseq 01\nend\n"),
+        Some(3)
     );
     assert_eq!(rt;
-        read(rt.alloc(), text_of(rt.alloc(), 501)?.as_slice()),
-        Some(504)
+        bad_line(alloc, b"report 1\ncomputer pc1\nseq 1\nend\nend\n"),
+        Some(5)
     );
-    Ok(())
+    assert_eq!(rt; bad_line(alloc, b"report 1\ncomputer pc1\nseq 1"), Some(3));
+    assert_eq!(rt; bad_line(alloc, b""), Some(1));
 }
 
-#[test]
-fn texts_have_65536_bytes_at_most(rt: HostRuntime) -> Result<(), Fail> {
-    let long = vec![in rt.alloc(); b'a'; 65_537]?;
-    assert_eq!(rt;
-        matches!(read_report(rt.alloc(), &long), Err(ReportError::TooLong)),
-        true
-    );
-    let line = read(rt.alloc(), &long.as_slice()[1..]);
-    assert_eq!(rt; line, Some(1));
-    Ok(())
-}
-
-/// The SHA-256 of the text of form One.
+/// The SHA-256 of the text of form One, by another program.
 const DIGEST: [u8; 32] = [
     0xca, 0x8a, 0x73, 0x75, 0xb5, 0x60, 0xd8, 0xfb, 0x82, 0x20, 0x12, 0xab, 0x1e, 0x72, 0x14, 0x7b,
     0x17, 0x2b, 0x6f, 0x77, 0xad, 0xe2, 0xee, 0x68, 0xd8, 0xff, 0x63, 0xbf, 0xaf, 0x69, 0x80, 0x6e,
 ];
 
-/// The digest of a text, and that of a copy of the report that it spells.
-fn digests(alloc: Global, text: &[u8]) -> Option<([u8; 32], [u8; 32])> {
-    let Ok(report) = read_report(alloc, text) else {
-        return None;
-    };
-    let first = digest(alloc, &report).ok()?;
-    let copy = report.copy().ok()?;
-    Some((first, digest(alloc, &copy).ok()?))
-}
-
 #[test]
-fn a_digest_is_that_of_the_text(rt: HostRuntime) -> Result<(), Fail> {
-    let (first, second) = digests(rt.alloc(), ONE).ok_or("no digest")?;
-    assert_eq!(rt; first == DIGEST, true);
-    assert_eq!(rt; second == DIGEST, true);
-    Ok(())
-}
-
-#[test]
-fn rows_are_given_back(rt: HostRuntime) -> Result<(), Fail> {
-    let Ok(report) = read_report(rt.alloc(), TWO) else {
+fn a_report_is_written_as_it_was_read(rt: HostRuntime) -> Result<(), Fail> {
+    let Ok(report) = read_report(rt.alloc(), ONE) else {
         return Err("no report".into());
     };
+    let copy = report.copy()?;
+    assert_eq!(rt; write_report(rt.alloc(), &copy)?.as_slice(), ONE);
+    assert_eq!(rt; digest(rt.alloc(), &copy)? == DIGEST, true);
+    Ok(())
+}
+
+#[test]
+fn a_report_is_taken_from_a_longer_text(rt: HostRuntime) -> Result<(), Fail> {
+    let mut lines = Lines::new(TWO);
+    let Some(report) = take_report(rt.alloc(), &mut lines)? else {
+        return Err("no report".into());
+    };
+    assert_eq!(rt; lines.number(), 6);
+    assert_eq!(rt; take_report(rt.alloc(), &mut lines)?.is_none(), true);
     let rows = report.rows.into_vec();
-    let first = rows.as_slice().first().ok_or("no row")?;
-    assert_eq!(rt; first.note.place, Some((0, 9)));
+    assert_eq!(rt;
+        rows.as_slice().first().ok_or("no row")?.note.place,
+        Some((0, 9))
+    );
     assert_eq!(rt; ReportRows::from_vec(rows).as_slice().len(), 1);
     Ok(())
+}
+
+#[test]
+fn fields_of_a_row_are_read(rt: HostRuntime) {
+    assert_eq!(rt; read_attempt(b"0"), None);
+    assert_eq!(rt; read_attempt(b"4294967295"), Some(u32::MAX));
+    assert_eq!(rt;
+        matches!(read_outcome(b"failed"), Some(Outcome::Failed)),
+        true
+    );
+    assert_eq!(rt;
+        matches!(read_end(b"fixed", b"5"), Some(Some((5, Outcome::Fixed)))),
+        true
+    );
+    assert_eq!(rt; read_end(b"running", b"5").is_none(), true);
+    assert_eq!(rt; read_exit(b"-1"), Some(Some(-1)));
+    assert_eq!(rt; read_place(b"0", b"9"), Some(Some((0, 9))));
+    assert_eq!(rt; read_place(b"-", b"9"), None);
 }
 
 #[test]

@@ -3,3 +3,7 @@
 
 #[cfg(test)]
 mod lexing;
+#[cfg(test)]
+mod parsing;
+#[cfg(test)]
+mod printing;
