@@ -1,8 +1,11 @@
 use act_rules::Outcome;
-use line_forms::Lines;
+use desk_base::Room;
+use line_forms::{Fields, Lines};
 use report_text::{
-    ReportError, ReportRows, a_report_is_read_again, digest, one_report, read_attempt, read_end,
-    read_exit, read_outcome, read_place, read_report, take_report, write_report,
+    Form, ReportError, ReportRows, a_report_is_read_again, digest, fill_component, fill_end,
+    fill_exit, fill_line, one_report, outcome_field, read_attempt, read_end, read_exit,
+    read_outcome, read_place, read_report, read_row, read_row_fields, take_report, take_row,
+    write_report,
 };
 use std::alloc::Global;
 use std::test::Fail;
@@ -89,6 +92,41 @@ fn fields_of_a_row_are_read(rt: HostRuntime) {
     assert_eq!(rt; read_exit(b"-1"), Some(Some(-1)));
     assert_eq!(rt; read_place(b"0", b"9"), Some(Some((0, 9))));
     assert_eq!(rt; read_place(b"-", b"9"), None);
+}
+
+#[test]
+fn a_row_is_taken_from_its_fields(rt: HostRuntime) {
+    let mut fields = Fields::new(b"7 2 failed 1060 1060 3 0 9 2");
+    let row = take_row(Form::Two, &mut fields);
+    assert_eq!(rt; row.map(|row| row.action), Some(7));
+    assert_eq!(rt; fields.take_field(), Some(b"2".as_slice()));
+    assert_eq!(rt; read_row(Form::One, b"row 7 1 running 0 -").is_some(), true);
+    assert_eq!(rt;
+        read_row_fields(Form::One, b"7 1 running 0 - -").is_none(),
+        true
+    );
+    assert_eq!(rt; outcome_field(None), b"running".as_slice());
+}
+
+/// Appends the end of an attempt and its note as they are spelled, where there is room for them.
+fn fill_note(room: &mut Room) -> Result<(), Fail> {
+    room.reserve(100)?;
+    fill_end(Some((5, Outcome::Failed)), room);
+    room.reserve(100)?;
+    fill_exit(Some(-1), room);
+    room.reserve(100)?;
+    fill_component(None, room);
+    room.reserve(100)?;
+    fill_line(Some((0, 9)), room);
+    Ok(())
+}
+
+#[test]
+fn fields_are_written_into_given_room(rt: HostRuntime) -> Result<(), Fail> {
+    let mut room = Room::with_capacity(rt.alloc(), 4)?;
+    fill_note(&mut room)?;
+    assert_eq!(rt; room.as_slice(), b"5-1-9".as_slice());
+    Ok(())
 }
 
 #[test]

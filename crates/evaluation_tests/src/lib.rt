@@ -7,3 +7,5 @@ mod described;
 mod drawing;
 #[cfg(test)]
 mod events;
+#[cfg(test)]
+mod forms;

@@ -2,8 +2,12 @@
 #![tactic(auto)]
 
 #[cfg(test)]
+mod checking;
+#[cfg(test)]
 mod lexing;
 #[cfg(test)]
 mod parsing;
 #[cfg(test)]
 mod printing;
+#[cfg(test)]
+mod values;

@@ -9,4 +9,4 @@ pub mod Evaluations
 pub mod Reading
 pub mod Running
 pub mod Checked
-pub mod Speaking
+pub mod Taking

@@ -105,6 +105,6 @@ list-bounds (a ∷ []) h = absurd (false_true h)
 list-bounds (a ∷ b ∷ []) h = let p = both-integers (admits two_integers) (is_integer (kind_of a)) (is_integer (kind_of b)) (given_list (integers ∷ integers ∷ [])) (given_list []) refl h in two-bounds a b p.0 p.1
 list-bounds (a ∷ b ∷ c ∷ vs) h = absurd (false_true h)
 
-pub bounds-reads : (v : Plain) → admits two_integers (given_kind (kind_of v)) ≡ true → IsSome (bounds_in (Some v))
+pub bounds-reads : Reads two_integers bounds_in
 bounds-reads (tuple ps) h = list-bounds (part_list ps) (subst (λ ks. admits two_integers (given_list ks) ≡ true) (parts-kinds ps) h)
 bounds-reads _ h = absurd (false_true h)

@@ -6,4 +6,4 @@ mod evaluating;
 mod tables;
 
 pub use evaluating::{evaluations_keep_kinds, singular_plans_give_one};
-pub use tables::{aggregates_have_outcomes, properties_speak, tables_keep_kinds};
+pub use tables::{aggregates_have_outcomes, properties_take_what_they_ask_for, tables_keep_kinds};

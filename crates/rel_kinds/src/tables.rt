@@ -1,5 +1,5 @@
 // What the rows of the tables of names promise.
-ghost use Rattle.std.specs.Prelude.{◌≡◌, ℤ, true, All, IsSome, Option, Some};
+ghost use Rattle.std.specs.Prelude.{◌≡◌, ℤ, All, Option, Some};
 ghost use Rattle.rel_lexer.specs.declared.place.Place.{Place};
 ghost use Rattle.bf_world.specs.Worlds.{WorldState};
 ghost use Rattle.rel_value.specs.declared.property.PropertyId.TheVariants.{Item};
@@ -7,15 +7,13 @@ ghost use Rattle.rel_value.specs.Plain.{Plain, PlainKind, integer, kind_of};
 ghost use Rattle.rel_types.specs.Aggregates.{aggregate_rows};
 ghost use Rattle.rel_types.specs.Heads.{item_kind};
 ghost use Rattle.rel_types.specs.Properties.{property_rows};
-ghost use Rattle.rel_types.specs.Rows.{admits, given_kind, two_integers};
 ghost use Rattle.rel_sources.specs.declared.scene.Scene.{Scene};
-ghost use Rattle.rel_inspect.specs.Offered.{bounds_in};
 ghost use Rattle.rel_inspect.specs.Props.{prop};
 ghost use Rattle.rel_nodes.specs.Meaning.{placed};
 ghost use Rattle.rel_kinds.specs.Giving.{GivesKind, GivesOne};
 ghost use Rattle.rel_kinds.specs.Running.{RowGoesOn};
-ghost use Rattle.rel_kinds.specs.Speaking.{RowSpeaks};
 ghost use Rattle.rel_kinds.specs.Tables.{RowKeeps};
+ghost use Rattle.rel_kinds.specs.Taking.{RowTakes};
 
 /// What a row of the tables names gives values of the kind that the row says, in every world and scene. `item`, which has no row,
 /// gives one value, of the kind of the part that its number names.
@@ -31,9 +29,8 @@ pub fn aggregates_have_outcomes()
     ensures { All RowGoesOn aggregate_rows }
 {}
 
-/// A property that is given what its row asks for looks at the machine, makes a turn, gives a value or finds it too long; but for
-/// those that may find nothing it never passes over what it is given.
-pub fn properties_speak()
-    ensures rows { All RowSpeaks property_rows }
-    ensures integers { (v : Plain) → admits two_integers (given_kind (kind_of v)) ≡ true → IsSome (bounds_in (Some v)) }
+/// A property takes each argument and each object of the kinds that its row asks for; it never passes one over as a value of another
+/// kind.
+pub fn properties_take_what_they_ask_for()
+    ensures { All RowTakes property_rows }
 {}

@@ -2,19 +2,19 @@
 use Rattle.std.proofs.Common.{ℕ, ◌≡◌, ◌∙◌, ◌+◌, ◌*◌, ◌≤◌, ◌<◌, ap, arith, refl, sym, subst, Bool, true, false, Option, Some, None}
 use Rattle.rel_trace.specs.declared.choice.Choice.{Choice}
 use Rattle.rel_trace.specs.declared.choice.Choice.TheVariants as choice
-use Rattle.rel_trace.specs.declared.handing.Handing.{Handing}
-use Rattle.rel_trace.specs.declared.handing.Handing.TheVariants.{Each, Sift, Argument, Left, Turned}
+use Rattle.rel_trace.specs.declared.handing.Hand.{Hand}
+use Rattle.rel_trace.specs.declared.handing.Hand.TheVariants.{Each, Argument, Left, Turned}
 use Rattle.rel_trace.specs.declared.one.One.{One}
 use Rattle.rel_trace.specs.declared.one.One.TheVariants as one
-use Rattle.rel_trace.specs.declared.sequence.Sequence.{Sequence}
-use Rattle.rel_trace.specs.declared.sequence.Sequence.TheVariants.{Then, Bar, Logical}
+use Rattle.rel_trace.specs.declared.sequence.Order.{Order}
+use Rattle.rel_trace.specs.declared.sequence.Order.TheVariants.{Then, Bar, Logical}
 use Rattle.rel_trace.specs.declared.step.Step.{Step}
 use Rattle.rel_trace.specs.declared.step.Step.TheVariants as step
 use Rattle.rel_trace.specs.declared.two.Two.{Two}
 use Rattle.rel_trace.specs.declared.two.Two.TheVariants as two
 use Rattle.rel_trace.specs.Steps.{Falls}
 use Rattle.rel_trace.specs.Ones.{draw_done, one_quiet, zero_if}
-use Rattle.rel_trace.specs.Twos.{begun_quiet, half_quiet, handing_quiet, holds, sequence_quiet, then_quiet, two_kind, two_quiet}
+use Rattle.rel_trace.specs.Twos.{begun_quiet, first_quiet, half_quiet, hand_kind, holds, order_kind, ordered_quiet, then_quiet, two_kind, two_quiet}
 use Rattle.rel_trace.specs.Choices.{branch_quiet, choice_quiet}
 use Rattle.rel_nodes.specs.declared.walking.Walking.{Walking}
 use Rattle.rel_nodes.specs.declared.pure.Pure.{Pure}
@@ -47,21 +47,15 @@ half_mono : (on : Bool) (q r r' : ℕ) → r ≤ r' → half_quiet on q r ≤ ha
 half_mono true q r r' h = omega arith
 half_mono false q r r' h = omega arith
 
-sequence_mono : (s : Sequence) (q r r' c : ℕ) → r ≤ r' → sequence_quiet s q r c ≤ sequence_quiet s q r' c
-sequence_mono (Then on) q r r' c h = then_mono on q r r' c h
-sequence_mono (Bar on) q r r' c h = then_mono on q r r' c h
-sequence_mono (Logical l on) q r r' c h = half_mono on (q * (c + 2)) r r' h
-
-handing_mono : (s : Handing) (q r r' c : ℕ) → r ≤ r' → handing_quiet s q r c ≤ handing_quiet s q r' c
-handing_mono (Each p held) q r r' c h = half_mono (holds held) q r r' h
-handing_mono (Sift p held seen) q r r' c h = half_mono (holds held) q r r' h
-handing_mono (Argument held) q r r' c h = half_mono (holds held) (q * (c + 2)) r r' h
-handing_mono (Left held) q r r' c h = half_mono (holds held) (q * (c + 2)) r r' h
-handing_mono (Turned p held) q r r' c h = half_mono (holds held) q r r' h
+ordered_mono : (o : Order) (on : Bool) (q r r' c : ℕ) → r ≤ r' → ordered_quiet o on q r c ≤ ordered_quiet o on q r' c
+ordered_mono Then on q r r' c h = then_mono on q r r' c h
+ordered_mono Bar on q r r' c h = then_mono on q r r' c h
+ordered_mono (Logical l) on q r r' c h = half_mono on (q * (c + 2)) r r' h
 
 two_mono : (s : Two) (q r r' c : ℕ) → r ≤ r' → two_quiet s q r c ≤ two_quiet s q r' c
-two_mono (two.Sequence s) q r r' c h = sequence_mono s q r r' c h
-two_mono (two.Handing s) q r r' c h = handing_mono s q r r' c h
+two_mono (two.Sequence s) q r r' c h = ordered_mono s.order s.on_second q r r' c h
+two_mono (two.Handing s) q r r' c h = half_mono (holds s.held) (first_quiet s.hand q c) r r' h
+two_mono (two.Filter s) q r r' c h = half_mono (holds s.held) q r r' h
 
 -- at most as much as the parts' caps allow
 then_le : (on : Bool) (q r a c : ℕ) → q ≤ a → r ≤ c → then_quiet on q r c ≤ a + (c + 1)
@@ -72,15 +66,21 @@ half_le : (on : Bool) (q r a c : ℕ) → q ≤ a → r ≤ c → half_quiet on 
 half_le true q r a c h k = omega arith
 half_le false q r a c h k = omega arith
 
+ordered_le : (o : Order) (on : Bool) (q r a c : ℕ) → q ≤ a → r ≤ c → ordered_quiet o on q r c ≤ two_cap (order_kind o) a c
+ordered_le Then on q r a c h k = then_le on q r a c h k
+ordered_le Bar on q r a c h k = then_le on q r a c h k
+ordered_le (Logical l) on q r a c h k = half_le on (q * (c + 2)) r (a * (c + 2)) c (mul_mono q a (c + 2) h) k
+
+handed_le : (way : Hand) (on : Bool) (q r a c : ℕ) → q ≤ a → r ≤ c → half_quiet on (first_quiet way q c) r ≤ two_cap (hand_kind way) a c
+handed_le (Each p) on q r a c h k = half_le on q r a c h k
+handed_le Argument on q r a c h k = half_le on (q * (c + 2)) r (a * (c + 2)) c (mul_mono q a (c + 2) h) k
+handed_le Left on q r a c h k = half_le on (q * (c + 2)) r (a * (c + 2)) c (mul_mono q a (c + 2) h) k
+handed_le (Turned p) on q r a c h k = half_le on q r a c h k
+
 two_le : (s : Two) (q r a c : ℕ) → q ≤ a → r ≤ c → two_quiet s q r c ≤ two_cap (two_kind s) a c
-two_le (two.Sequence (Then on)) q r a c h k = then_le on q r a c h k
-two_le (two.Sequence (Bar on)) q r a c h k = then_le on q r a c h k
-two_le (two.Sequence (Logical l on)) q r a c h k = half_le on (q * (c + 2)) r (a * (c + 2)) c (mul_mono q a (c + 2) h) k
-two_le (two.Handing (Each p held)) q r a c h k = half_le (holds held) q r a c h k
-two_le (two.Handing (Sift p held seen)) q r a c h k = half_le (holds held) q r a c h k
-two_le (two.Handing (Argument held)) q r a c h k = half_le (holds held) (q * (c + 2)) r (a * (c + 2)) c (mul_mono q a (c + 2) h) k
-two_le (two.Handing (Left held)) q r a c h k = half_le (holds held) (q * (c + 2)) r (a * (c + 2)) c (mul_mono q a (c + 2) h) k
-two_le (two.Handing (Turned p held)) q r a c h k = half_le (holds held) q r a c h k
+two_le (two.Sequence s) q r a c h k = ordered_le s.order s.on_second q r a c h k
+two_le (two.Handing s) q r a c h k = handed_le s.hand (holds s.held) q r a c h k
+two_le (two.Filter s) q r a c h k = half_le (holds s.held) q r a c h k
 
 choice_mono : (s : Choice) (q r r' w w' c d : ℕ) → r ≤ r' → w ≤ w' → choice_quiet s q r w c d ≤ choice_quiet s q r' w' c d
 choice_mono choice.Test q r r' w w' c d h k = omega arith

@@ -10,7 +10,7 @@ ghost use Rattle.rel_nodes.specs.Nodes.{boxed_shape, pure_shape, shape};
 
 use crate::{Node, Property, Pure};
 use rel_lexer::{Place, UnarySign};
-use rel_trace::{Apply, Choice, Draw, Fold, Handing, One, Two};
+use rel_trace::{Apply, Choice, Draw, Fold, Hand, Handing, One, Two};
 use rel_types::Aggregate;
 use rel_value::{Kind, PropertyId};
 use std::alloc::{AllocError, Global};
@@ -91,7 +91,12 @@ pub(crate) fn with_two(
     ensures { IfOk result (λ n. boxed_shape n ≡ two_core (two_kind state) (boxed_shape first) (boxed_shape second)) }
 {
     match state {
-        Two::Handing(Handing::Left { .. }) => with_left(alloc, first, second),
+        Two::Handing(
+            Handing {
+                hand: Hand::Left,
+                ..
+            },
+        ) => with_left(alloc, first, second),
         state => on_heap(
             alloc,
             Node::WithTwo {

@@ -3,3 +3,4 @@ pub mod Rows
 pub mod Follows
 pub mod Measures
 pub mod Folds
+pub mod Hands

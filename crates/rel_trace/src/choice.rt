@@ -44,7 +44,9 @@ impl Choice {
     {
         match step {
             Step::Given(value) => {
-                if value.is_true() {
+                let is_yes = value.is_true();
+                drop(value);
+                if is_yes {
                     *self = Choice::Yes;
                     Next::beginning(Step::Quiet)
                 } else {

@@ -39,7 +39,7 @@ impl Draw {
     {
         match self {
             Draw::Single { held, done, .. } => {
-                *held = None;
+                drop(held.take());
                 *done = false;
             }
             Draw::Exists { done } => {

@@ -91,7 +91,12 @@ pub(crate) fn signed(alloc: Global, sign: BinarySign, held: Option<Held>, value:
 {
     match held {
         None => Worked::Given(value),
-        Some(held) => operate(alloc, sign, &held, &value),
+        Some(held) => {
+            let worked = operate(alloc, sign, &held, &value);
+            drop(held);
+            drop(value);
+            worked
+        }
     }
 }
 
@@ -111,12 +116,20 @@ fn later_where(compared: Worked, earlier: Held, later: Held) -> Worked
 {
     match compared {
         Worked::Given(holds) => {
-            if holds.is_true() {
+            let is_later = holds.is_true();
+            drop(holds);
+            if is_later {
+                drop(earlier);
                 Worked::Given(later)
             } else {
+                drop(later);
                 Worked::Given(earlier)
             }
         }
-        other => other,
+        other => {
+            drop(earlier);
+            drop(later);
+            other
+        }
     }
 }

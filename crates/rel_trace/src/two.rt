@@ -6,7 +6,7 @@ ghost use Rattle.rel_trace.specs.Steps.{Goes, HasCause, AsRoom, Falls};
 ghost use Rattle.rel_trace.specs.Scopes.{Around, seen};
 ghost use Rattle.rel_trace.specs.Twos.{argument_kind, bar_kind, begun, begun_quiet, each_kind, ends_with_first, left_kind, logic_kind, on_second, second_around, sift_kind, then_kind, turned_kind, two_kind, two_left, two_quiet, two_whole, waits_for_end};
 
-use crate::{Handing, Logic, Next, Scope, Sequence, Step};
+use crate::{Filter, Hand, Handing, Logic, Next, Order, Scope, Sequence, Step};
 use rel_lexer::Place;
 
 /// The state of a form with two parts.
@@ -14,6 +14,7 @@ use rel_lexer::Place;
 pub enum Two {
     Sequence(Sequence),
     Handing(Handing),
+    Filter(Filter),
 }
 
 impl Two {
@@ -22,7 +23,7 @@ impl Two {
         ensures kind { two_kind result ≡ then_kind }
         ensures left { (a : Trace) (b f : Around → Trace) (s : Around) → two_left result a b f s ≡ two_whole (then_kind) a f s }
     {
-        Two::Sequence(Sequence::Then { on_second: false })
+        Two::Sequence(Sequence::new(Order::Then))
     }
 
     /// `|`
@@ -30,7 +31,7 @@ impl Two {
         ensures kind { two_kind result ≡ bar_kind }
         ensures left { (a : Trace) (b f : Around → Trace) (s : Around) → two_left result a b f s ≡ two_whole (bar_kind) a f s }
     {
-        Two::Sequence(Sequence::Bar { on_second: false })
+        Two::Sequence(Sequence::new(Order::Bar))
     }
 
     /// `and` and `or`
@@ -38,10 +39,7 @@ impl Two {
         ensures kind { two_kind result ≡ logic_kind logic }
         ensures left { (a : Trace) (b f : Around → Trace) (s : Around) → two_left result a b f s ≡ two_whole (logic_kind logic) a f s }
     {
-        Two::Sequence(Sequence::Logical {
-            logic,
-            on_second: false,
-        })
+        Two::Sequence(Sequence::new(Order::Logical(logic)))
     }
 
     /// The second part for each value of the first as `it`, with the head at this place.
@@ -49,7 +47,7 @@ impl Two {
         ensures kind { two_kind result ≡ each_kind head }
         ensures left { (a : Trace) (b f : Around → Trace) (s : Around) → two_left result a b f s ≡ two_whole (each_kind head) a f s }
     {
-        Two::Handing(Handing::Each { head, held: None })
+        Two::Handing(Handing::new(Hand::Each { head }))
     }
 
     /// The values of the first part that the second keeps, which sees each as `it`. The head is at this place.
@@ -57,11 +55,7 @@ impl Two {
         ensures kind { two_kind result ≡ sift_kind head }
         ensures left { (a : Trace) (b f : Around → Trace) (s : Around) → two_left result a b f s ≡ two_whole (sift_kind head) a f s }
     {
-        Two::Handing(Handing::Sift {
-            head,
-            held: None,
-            seen: false,
-        })
+        Two::Filter(Filter::new(head))
     }
 
     /// The second part with the value of the first as argument.
@@ -69,7 +63,7 @@ impl Two {
         ensures kind { two_kind result ≡ argument_kind }
         ensures left { (a : Trace) (b f : Around → Trace) (s : Around) → two_left result a b f s ≡ two_whole (argument_kind) a f s }
     {
-        Two::Handing(Handing::Argument { held: None })
+        Two::Handing(Handing::new(Hand::Argument))
     }
 
     /// The second part with the value of the first to its left.
@@ -77,7 +71,7 @@ impl Two {
         ensures kind { two_kind result ≡ left_kind }
         ensures left { (a : Trace) (b f : Around → Trace) (s : Around) → two_left result a b f s ≡ two_whole (left_kind) a f s }
     {
-        Two::Handing(Handing::Left { held: None })
+        Two::Handing(Handing::new(Hand::Left))
     }
 
     /// A turn at the first part's span, and then the second part with the value of the first to its left.
@@ -85,7 +79,7 @@ impl Two {
         ensures kind { two_kind result ≡ turned_kind span }
         ensures left { (a : Trace) (b f : Around → Trace) (s : Around) → two_left result a b f s ≡ two_whole (turned_kind span) a f s }
     {
-        Two::Handing(Handing::Turned { span, held: None })
+        Two::Handing(Handing::new(Hand::Turned { span }))
     }
 
     /// Whether the next step is one of the second part.
@@ -93,8 +87,9 @@ impl Two {
         ensures { result ≡ on_second self.now }
     {
         match self {
-            Two::Sequence(sequence) => sequence.on_second(),
+            Two::Sequence(sequence) => sequence.on_second,
             Two::Handing(handing) => handing.on_second(),
+            Two::Filter(filter) => filter.on_second(),
         }
     }
 
@@ -106,6 +101,7 @@ impl Two {
         match self {
             Two::Sequence(sequence) => sequence.reset(),
             Two::Handing(handing) => handing.reset(),
+            Two::Filter(filter) => filter.reset(),
         }
     }
 
@@ -115,6 +111,7 @@ impl Two {
     {
         match self {
             Two::Handing(handing) => handing.hand_down(scope),
+            Two::Filter(filter) => filter.hand_down(scope),
             Two::Sequence(_) => scope,
         }
     }
@@ -134,6 +131,7 @@ impl Two {
         match self {
             Two::Sequence(sequence) => sequence.after_first(step),
             Two::Handing(handing) => handing.after_first(step),
+            Two::Filter(filter) => filter.after_first(step),
         }
     }
 
@@ -151,6 +149,7 @@ impl Two {
         match self {
             Two::Sequence(sequence) => sequence.after_second(step),
             Two::Handing(handing) => handing.after_second(step),
+            Two::Filter(filter) => filter.after_second(step),
         }
     }
 
@@ -163,8 +162,8 @@ impl Two {
         ensures falls { (q r c : ℕ) → two_quiet self.new q r c ≤ two_quiet self.old q r c }
     {
         match self {
-            Two::Sequence(_) => {}
             Two::Handing(handing) => handing.release(),
+            Two::Sequence(_) | Two::Filter(_) => {}
         }
     }
 
@@ -176,6 +175,7 @@ impl Two {
         match self {
             Two::Sequence(_) => false,
             Two::Handing(handing) => !handing.on_second(),
+            Two::Filter(filter) => !filter.on_second(),
         }
     }
 }

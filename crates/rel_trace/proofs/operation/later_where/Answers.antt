@@ -18,8 +18,8 @@ chosen (gives x) earlier later holds w t e h k =
 chosen (fails why) earlier later holds w t e h k = absurd (subst (λ (y : Worked). Works (fails why) y) e h)
 chosen no_row earlier later holds w t e h k = absurd (subst (λ (y : Worked). Works no_row y) e h)
 
-pub returns-then-is_true : goal.returns-then-is_true
-returns-then-is_true c = λ o h. chosen o c.args.earlier c.args.later c.in-Given.holds c.args.compared true c.in-Given.is h (sym c.is_true.ensures ∙ c.if-is_true.true)
+pub returns-then-is_later : goal.returns-then-is_later
+returns-then-is_later c = λ o h. chosen o c.args.earlier c.args.later c.in-Given.holds c.args.compared true c.in-Given.is h (sym c.is_true-is_later.ensures ∙ c.if-is_later.true)
 
-pub returns-else-is_true : goal.returns-else-is_true
-returns-else-is_true c = λ o h. chosen o c.args.earlier c.args.later c.in-Given.holds c.args.compared false c.in-Given.is h (sym c.is_true.ensures ∙ c.if-is_true.false)
+pub returns-else-is_later : goal.returns-else-is_later
+returns-else-is_later c = λ o h. chosen o c.args.earlier c.args.later c.in-Given.holds c.args.compared false c.in-Given.is h (sym c.is_true-is_later.ensures ∙ c.if-is_later.false)

@@ -1,0 +1,11 @@
+-- The second part begins as its kind does.
+use Rattle.rel_trace.proofs.handing.Handing.after_first.Goals as goal
+
+pub returns-in-Given-clause-cause : goal.returns-in-Given-clause-cause
+returns-in-Given-clause-cause c = λ a b h. rw c.beginning.ensures (c.opening.ensures.cause a b)
+
+pub returns-in-Given-clause-room : goal.returns-in-Given-clause-room
+returns-in-Given-clause-room c = λ r h. rw c.beginning.ensures (c.opening.ensures.room r)
+
+pub returns-in-Given-clause-memory : goal.returns-in-Given-clause-memory
+returns-in-Given-clause-memory c = λ e. absurd (c.opening.ensures.memory (rw c.beginning.ensures at e))
