@@ -24,7 +24,7 @@ fn a_room_is_filled(rt: HostRuntime) -> Result<(), Fail> {
     room.push(b'a');
     room.extend(b" b");
     room.reserve(2)?;
-    room.decimal(42);
+    room.extend(b"42");
     assert_eq!(rt; room.into_bytes().as_slice(), b"a b42".as_slice());
     Ok(())
 }
