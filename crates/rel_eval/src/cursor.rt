@@ -45,7 +45,7 @@ pub enum Pulled {
 }
 
 /// Whether a cursor can go on.
-#[derive(Clone, Copy, Debug)]
+#[derive(Clone, Copy)]
 pub enum State {
     Open,
     /// It was drawn to its end.

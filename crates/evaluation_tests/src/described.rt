@@ -1,18 +1,11 @@
-//! Questions over a described machine, worked out by hand.
+//! A described machine, and a moment at which it is asked.
 ghost use Rattle.desk_base.specs.Moments.{IsMoment};
 ghost use Rattle.line_forms.specs.Numbers.{IsOffset};
 
-use super::*;
 use bf_machine::{Key, PlainMachine, read_world};
 use rel_inspect::{Pairs, Scene};
-use rel_lexer::Place;
-use rel_value::{Value, text as text_of};
 use std::alloc::Global;
 use std::test::Fail;
-
-mod asking;
-mod drawing;
-mod preparing;
 
 const WORLD: &[u8] = b"world
 name pc1
@@ -27,7 +20,7 @@ end
 ";
 
 /// A machine with the folder `/a`, and in it the files `empty` and `one`. The looks with these numbers fail.
-fn machine(alloc: Global, fails: &[u32]) -> Result<PlainMachine, Fail> {
+pub(crate) fn machine(alloc: Global, fails: &[u32]) -> Result<PlainMachine, Fail> {
     let world = read_world(alloc, WORLD)?;
     Ok(PlainMachine::new(
         alloc,
@@ -38,7 +31,8 @@ fn machine(alloc: Global, fails: &[u32]) -> Result<PlainMachine, Fail> {
     ))
 }
 
-fn scene(alloc: Global) -> Scene
+/// Its own moment and offset, with no parameters and no exit code.
+pub(crate) fn scene(alloc: Global) -> Scene
     ensures moment { IsMoment result.moment }
     ensures offset { IsOffset result.offset }
 {
@@ -50,22 +44,16 @@ fn scene(alloc: Global) -> Scene
     }
 }
 
-/// Appends a look as its key.
-fn push_key(text: &mut String, key: &Key) -> Result<(), Fail> {
-    match key {
-        Key::Stat(path) => write!(text, "stat {};", path.as_str())?,
-        Key::List(path) => write!(text, "list {};", path.as_str())?,
-        Key::Read(path) => write!(text, "read {};", path.as_str())?,
-        _ => text.push_str("other;")?,
-    }
-    Ok(())
-}
-
 /// The looks that were made.
-fn looks(alloc: Global, machine: &PlainMachine) -> Result<String, Fail> {
+pub(crate) fn looks(alloc: Global, machine: &PlainMachine) -> Result<String, Fail> {
     let mut text = String::new(alloc);
     for key in machine.looked() {
-        push_key(&mut text, key)?;
+        match key {
+            Key::Stat(path) => write!(text, "stat {};", path.as_str())?,
+            Key::List(path) => write!(text, "list {};", path.as_str())?,
+            Key::Read(path) => write!(text, "read {};", path.as_str())?,
+            _ => text.push_str("other;")?,
+        }
     }
     Ok(text)
 }
