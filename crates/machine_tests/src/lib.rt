@@ -2,6 +2,14 @@
 #![tactic(auto)]
 
 #[cfg(test)]
+mod judged_worlds;
+#[cfg(test)]
+mod machines;
+#[cfg(test)]
 mod sources;
 #[cfg(test)]
 mod walks;
+#[cfg(test)]
+mod world_texts;
+#[cfg(test)]
+mod worlds;
