@@ -2,8 +2,14 @@
 #![tactic(auto)]
 
 #[cfg(test)]
+mod findings;
+#[cfg(test)]
 mod lines;
 #[cfg(test)]
 mod reports;
 #[cfg(test)]
 mod rules;
+#[cfg(test)]
+mod scripts;
+#[cfg(test)]
+mod sites;

@@ -187,8 +187,7 @@ checked_refused input (finding.BadLine line) status Written found ends is writte
 checked_refused input (finding.TwiceId line) status Written found ends is written = (_, (finding.TwiceId line, found, tt, refl), written)
 checked_refused input (finding.WrongDigest stated right) status Written found ends is written = (_, (finding.WrongDigest stated right, found, tt, refl), written)
 checked_refused input finding.TooLong status Written found ends is written = (_, (finding.TooLong, found, tt, refl), written)
-checked_refused input (finding.BadRelevance line kind place) status Written found ends is written = (_, (finding.BadRelevance line kind place, found, tt, refl), written)
-checked_refused input (finding.BadScript error) status Written found ends is written = (_, (finding.BadScript error, found, tt, refl), written)
+checked_refused input (finding.BadPiece refusal) status Written found ends is written = (_, (finding.BadPiece refusal, found, tt, refl), written)
 checked_refused input finding.Memory status Written found ends is written = absurd (let x = ends in cc)
 
 pub checked_apart : OneFinding → (input : List ℕ) (f : Finding) (status : Status) → Finds input f → Some status ≡ status_of_finding f → status ≡ Refused → IsGoodInput Check input → ⊥

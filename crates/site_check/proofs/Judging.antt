@@ -1,5 +1,5 @@
 -- What a piece is refused for, and which of several pieces.
-use Rattle.std.proofs.Common.{◌≡◌, ◌≢◌, ℕ, ◌<◌, suc, List, [], ◌∷◌, length, take, drop, get_or, All, Some, Ok, Err, refl, sym, subst, ◌+◌}
+use Rattle.std.proofs.Common.{◌≡◌, ℕ, ◌<◌, suc, List, [], ◌∷◌, length, take, drop, get_or, All, Some, Ok, Err, refl, sym, subst, ◌+◌}
 use Rattle.std.proofs.Math.Seq.{split_at}
 use Rattle.std.proofs.lemmas.List.{take_more}
 use Rattle.std.proofs.lemmas.List.Elements.{All-nil, All-cons, All-append}
@@ -10,36 +10,39 @@ use Rattle.rel_trace.specs.declared.kind.RelKind.{RelKind}
 use Rattle.rel_trace.specs.declared.kind.RelKind.TheVariants.{NotDefined}
 use Rattle.rel_eval.specs.Questions.{IsPlanOf, IsRefusedAs, IsUndefined, question, refused, undefined}
 use Rattle.script_text.specs.declared.error.ScriptError.{ScriptError}
-use Rattle.script_text.specs.declared.error.ScriptError.TheVariants as error
-use Rattle.script_text.specs.declared.script.Script.{Script as ScriptOfCode}
-use Rattle.script_text.specs.Readings.{ReadsScript, shown_script}
+use Rattle.script_text.specs.Readings.{ReadsScript}
+use Rattle.script_text.specs.Scripts.{IsVerdict}
 use Rattle.fix_site.specs.declared.piece.Piece.{Piece}
-use Rattle.fix_site.specs.declared.piece.Piece.TheVariants.{Relevance, Script}
-use Rattle.site_check.specs.declared.finding.Finding.{Finding}
-use Rattle.site_check.specs.declared.finding.Finding.TheVariants.{Good, BadLine, TwiceId, WrongDigest, TooLong, BadRelevance, BadScript, Memory}
-use Rattle.site_check.specs.Pieces.{IsNoTruth, IsGoodPiece, IsRefusedPiece, moved}
+use Rattle.fix_site.specs.declared.piece.Piece.TheVariants.{Script}
+use Rattle.site_check.specs.declared.refusal.PieceRefusal.{PieceRefusal}
+use Rattle.site_check.specs.declared.refusal.PieceRefusal.TheVariants as refusal
+use Rattle.site_check.specs.declared.refusal.QuestionFault.{QuestionFault}
+use Rattle.site_check.specs.declared.refusal.ScriptFault.{ScriptFault}
+use Rattle.site_check.specs.declared.refusal.ScriptFault.TheVariants as script
+use Rattle.site_check.specs.Pieces.{IsNoTruth, IsGoodPiece, IsRefusedPiece, IsWrongQuestion, JudgesQuestion, line_in_text, script_error}
 use Rattle.site_check.specs.Findings.{FirstRefused}
-use Rattle.site_check.specs.Judgements.{JudgesPiece, JudgesPieces}
 
-pub refused_is_judged : (line : ℕ) (text : List ℕ) (kind : RelKind) (place : Place) → IsRefusedAs text kind place → JudgesPiece (Relevance line text) (Some (BadRelevance line kind place))
-refused_is_judged line text kind place h = (refl, (refused kind place, h, (refl, refl)))
+pub refused_is_judged : (text : List ℕ) (fault : QuestionFault) → IsRefusedAs text fault.kind fault.place → JudgesQuestion text (Some fault)
+refused_is_judged text fault h = (refused fault.kind fault.place, h, (refl, refl))
 
-pub undefined_is_judged : (line : ℕ) (text : List ℕ) (place : Place) (words : List ℕ) → IsUndefined text place words → JudgesPiece (Relevance line text) (Some (BadRelevance line NotDefined place))
-undefined_is_judged line text place words h = (refl, (undefined place words, h, (refl, refl)))
+pub undefined_is_judged : (text : List ℕ) (place : Place) (words : List ℕ) → IsUndefined text place words → IsWrongQuestion text NotDefined place
+undefined_is_judged text place words h = (undefined place words, h, (refl, refl))
 
-pub no_truth_is_judged : (line : ℕ) (text : List ℕ) (plan : PlainNode) (kind : RelKind) (place : Place) → IsPlanOf text plan → IsNoTruth plan kind → place ≡ span_of_node plan → JudgesPiece (Relevance line text) (Some (BadRelevance line kind place))
-no_truth_is_judged line text plan kind place h wrong at = (refl, (question plan, h, (wrong, at)))
+pub no_truth_is_judged : (text : List ℕ) (plan : PlainNode) (kind : RelKind) (place : Place) → IsPlanOf text plan → IsNoTruth plan kind → place ≡ span_of_node plan → IsWrongQuestion text kind place
+no_truth_is_judged text plan kind place h wrong at = (question plan, h, (wrong, at))
 
-pub script_is_good : (first : ℕ) (lines : List (List ℕ)) (script : ScriptOfCode) → ReadsScript lines (Ok script) → IsGoodPiece (Script first lines)
-script_is_good first lines script h = (shown_script script, h)
+-- a script that isn't read is refused
+verdict_of : (lines : List (List ℕ)) (fault : ScriptFault) (line : ℕ) → ReadsScript lines (Err (script_error fault line)) → IsVerdict lines (Err (script_error fault line))
+verdict_of lines script.NoCommand line h = h
+verdict_of lines script.IfNotClosed line h = h
+verdict_of lines script.StrayElse line h = h
+verdict_of lines script.BraceNotClosed line h = h
+verdict_of lines script.CreateNotClosed line h = h
 
-pub script_is_judged : (first : ℕ) (lines : List (List ℕ)) (own told : ScriptError) → own ≢ error.Memory → told ≡ moved first own → ReadsScript lines (Err own) → JudgesPiece (Script first lines) (Some (BadScript told))
-script_is_judged first lines (error.NoCommand line) told some is h = (error.NoCommand line, h, is)
-script_is_judged first lines (error.IfNotClosed line) told some is h = (error.IfNotClosed line, h, is)
-script_is_judged first lines (error.StrayElse line) told some is h = (error.StrayElse line, h, is)
-script_is_judged first lines (error.BraceNotClosed line) told some is h = (error.BraceNotClosed line, h, is)
-script_is_judged first lines (error.CreateNotClosed line) told some is h = (error.CreateNotClosed line, h, is)
-script_is_judged first lines error.Memory told some is h = absurd (some refl)
+pub script_is_refused : (first at line : ℕ) (lines : List (List ℕ)) (fault : ScriptFault) (e : ScriptError) → e ≡ script_error fault line → at ≡ line_in_text first line → ReadsScript lines (Err e) → IsRefusedPiece (Script first lines) (refusal.Script at fault)
+script_is_refused first at line lines fault e is moved h =
+    let P : ScriptError → Type 0 = λ x. ReadsScript lines (Err x) in
+    (line, verdict_of lines fault line (subst P is h), moved)
 
 -- one more good piece
 pub good_more : (pieces : List Piece) (i : ℕ) (piece : Piece) → i < length pieces → All IsGoodPiece (take i pieces) → IsGoodPiece (get_or pieces i piece) → All IsGoodPiece (take (i + 1) pieces)
@@ -49,8 +52,8 @@ good_more pieces i piece inside good one =
     (All-append IsGoodPiece (take i pieces) (get_or pieces i piece ∷ []) good (All-cons IsGoodPiece (get_or pieces i piece) [] one (All-nil IsGoodPiece)))
 
 -- the first of some pieces that is refused
-first_is_refused : (pieces : List Piece) (i : ℕ) (piece : Piece) (finding : Finding) → i < length pieces → All IsGoodPiece (take i pieces) → IsRefusedPiece (get_or pieces i piece) finding → FirstRefused pieces finding
-first_is_refused pieces i piece finding inside good wrong = record {
+pub first_is_refused : (pieces : List Piece) (i : ℕ) (piece : Piece) (why : PieceRefusal) → i < length pieces → All IsGoodPiece (take i pieces) → IsRefusedPiece (get_or pieces i piece) why → FirstRefused pieces why
+first_is_refused pieces i piece why inside good wrong = record {
   before = take i pieces;
   piece = get_or pieces i piece;
   behind = drop (suc i) pieces;
@@ -58,13 +61,3 @@ first_is_refused pieces i piece finding inside good wrong = record {
   good = good;
   wrong = wrong;
 }
-
-pub first_is_judged : (pieces : List Piece) (i : ℕ) (piece : Piece) (finding : Finding) → i < length pieces → All IsGoodPiece (take i pieces) → JudgesPiece (get_or pieces i piece) (Some finding) → JudgesPieces pieces (Some finding)
-first_is_judged pieces i piece Memory inside good h = tt
-first_is_judged pieces i piece (Good fixlets baselines) inside good h = first_is_refused pieces i piece (Good fixlets baselines) inside good h
-first_is_judged pieces i piece (BadLine line) inside good h = first_is_refused pieces i piece (BadLine line) inside good h
-first_is_judged pieces i piece (TwiceId line) inside good h = first_is_refused pieces i piece (TwiceId line) inside good h
-first_is_judged pieces i piece (WrongDigest stated found) inside good h = first_is_refused pieces i piece (WrongDigest stated found) inside good h
-first_is_judged pieces i piece TooLong inside good h = first_is_refused pieces i piece TooLong inside good h
-first_is_judged pieces i piece (BadRelevance line kind place) inside good h = first_is_refused pieces i piece (BadRelevance line kind place) inside good h
-first_is_judged pieces i piece (BadScript error) inside good h = first_is_refused pieces i piece (BadScript error) inside good h

@@ -1,4 +1,3 @@
 pub mod Judging
 pub mod Numbers
-pub mod OneReading
 pub mod OneFinding

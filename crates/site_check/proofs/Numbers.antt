@@ -3,27 +3,15 @@ use Rattle.std.proofs.Common.{◌≡◌, ℕ, ◌+◌, ◌-◌, ◌^◌, ◌≤�
 use Rattle.std.proofs.lemmas.List.{length-map}
 use Rattle.std.proofs.lemmas.List.Elements.{All-nil, All-cons, All-head, All-tail}
 use Rattle.line_forms.specs.Contents.{content_line}
-use Rattle.line_forms.specs.Lines.{lines_text}
 use Rattle.script_text.specs.declared.error.ScriptError.{ScriptError}
 use Rattle.script_text.specs.declared.error.ScriptError.TheVariants as error
 use Rattle.script_text.specs.Scripts.{IsVerdict}
 use Rattle.script_text.specs.Readings.{ReadsScript}
-use Rattle.script_text.proofs.Bounds as bounds
+use Rattle.script_text.specs.Refusals.{TellsLineOf, error_line}
 use Rattle.fix_site.specs.declared.piece.Piece.{Piece}
 use Rattle.fix_site.specs.declared.piece.Piece.TheVariants as piece
-use Rattle.fix_site.specs.declared.site.Site.{Site}
-use Rattle.fix_site.specs.Answers.{IsShort}
 use Rattle.fix_site.specs.Pieces.{IsPieceOf}
-use Rattle.fix_site.specs.Sites.{site_lines, site_text}
-use Rattle.fix_site.proofs.LineCounts.{lines_within}
-use Rattle.site_check.specs.Judgements.{HasNumbers, IsNumbered, error_line}
-
--- a site of a short text has few lines
-pub few_lines : (text : List ℕ) (site : Site) → IsShort text → text ≡ site_text site → length (site_lines site) ≤ 2 ^ 32 - 1
-few_lines text site short is =
-    let within = lines_within (site_lines site) in
-    let bytes : length text ≡ length (lines_text (site_lines site)) = ap (length {A = ℕ}) is in
-    omega arith
+use Rattle.site_check.specs.Judgements.{HasNumbers, IsNumbered}
 
 piece_numbered : (lines : List (List ℕ)) → length lines ≤ 2 ^ 32 - 1 → (p : Piece) → IsPieceOf lines p → IsNumbered p
 piece_numbered lines few (piece.Relevance line text) h = tt
@@ -44,25 +32,20 @@ pieces_numbered lines few [] h = All-nil IsNumbered
 pieces_numbered lines few (p ∷ ps) h =
     All-cons IsNumbered p ps (piece_numbered lines few p (All-head (IsPieceOf lines) p ps h)) (pieces_numbered lines few ps (All-tail (IsPieceOf lines) p ps h))
 
-same_line : (e : ScriptError) → error_line e ≡ bounds.error_line e
-same_line (error.NoCommand line) = refl
-same_line (error.IfNotClosed line) = refl
-same_line (error.StrayElse line) = refl
-same_line (error.BraceNotClosed line) = refl
-same_line (error.CreateNotClosed line) = refl
-same_line error.Memory = refl
+-- the law on the lines of errors
+abbrev pub TellsOne : Type 0
+TellsOne = (lines : List (List ℕ)) (e : ScriptError) → IsVerdict lines (Err e) → TellsLineOf lines e
 
-verdict_numbered : (first : ℕ) (lines : List (List ℕ)) (e : ScriptError) → HasNumbers first (length lines) → IsVerdict lines (Err e) → HasNumbers first (error_line e)
-verdict_numbered first lines e has h =
-    let within = bounds.verdict_within lines e h in
-    let same = same_line e in
+verdict_numbered : TellsOne → (first : ℕ) (lines : List (List ℕ)) (e : ScriptError) → HasNumbers first (length lines) → IsVerdict lines (Err e) → HasNumbers first (error_line e)
+verdict_numbered tells first lines e has h =
+    let most = (tells lines e h).1 in
     record { counted = has.counted; fits = let f = has.fits in omega arith }
 
 -- the line of an error is one of the script's
-pub error_numbered : (first : ℕ) (lines : List (List ℕ)) (e : ScriptError) → HasNumbers first (length lines) → ReadsScript lines (Err e) → HasNumbers first (error_line e)
-error_numbered first lines (error.NoCommand line) has h = verdict_numbered first lines (error.NoCommand line) has h
-error_numbered first lines (error.IfNotClosed line) has h = verdict_numbered first lines (error.IfNotClosed line) has h
-error_numbered first lines (error.StrayElse line) has h = verdict_numbered first lines (error.StrayElse line) has h
-error_numbered first lines (error.BraceNotClosed line) has h = verdict_numbered first lines (error.BraceNotClosed line) has h
-error_numbered first lines (error.CreateNotClosed line) has h = verdict_numbered first lines (error.CreateNotClosed line) has h
-error_numbered first lines error.Memory has h = record { counted = has.counted; fits = let f = has.fits in omega arith }
+pub error_numbered : TellsOne → (first : ℕ) (lines : List (List ℕ)) (e : ScriptError) → HasNumbers first (length lines) → ReadsScript lines (Err e) → HasNumbers first (error_line e)
+error_numbered tells first lines (error.NoCommand line) has h = verdict_numbered tells first lines (error.NoCommand line) has h
+error_numbered tells first lines (error.IfNotClosed line) has h = verdict_numbered tells first lines (error.IfNotClosed line) has h
+error_numbered tells first lines (error.StrayElse line) has h = verdict_numbered tells first lines (error.StrayElse line) has h
+error_numbered tells first lines (error.BraceNotClosed line) has h = verdict_numbered tells first lines (error.BraceNotClosed line) has h
+error_numbered tells first lines (error.CreateNotClosed line) has h = verdict_numbered tells first lines (error.CreateNotClosed line) has h
+error_numbered tells first lines error.Memory has h = record { counted = has.counted; fits = let f = has.fits in omega arith }

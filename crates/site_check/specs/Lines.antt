@@ -2,12 +2,14 @@
 use Rattle.std.specs.Prelude.{ℕ, List, [], ◌++◌, codes, decimal}
 use Rattle.hex.specs.Hex.{encode_lower}
 use Rattle.rel_lexer.specs.declared.place.Place.{Place}
-use Rattle.rel_trace.specs.declared.kind.RelKind.{RelKind}
 use Rattle.rel_trace.specs.Kinds.{number_of}
-use Rattle.script_text.specs.declared.error.ScriptError.{ScriptError}
-use Rattle.script_text.specs.declared.error.ScriptError.TheVariants as error
+use Rattle.site_check.specs.declared.refusal.PieceRefusal.{PieceRefusal}
+use Rattle.site_check.specs.declared.refusal.PieceRefusal.TheVariants as refusal
+use Rattle.site_check.specs.declared.refusal.QuestionFault.{QuestionFault}
+use Rattle.site_check.specs.declared.refusal.ScriptFault.{ScriptFault}
+use Rattle.site_check.specs.declared.refusal.ScriptFault.TheVariants as script
 use Rattle.site_check.specs.declared.finding.Finding.{Finding}
-use Rattle.site_check.specs.declared.finding.Finding.TheVariants.{Good, BadLine, TwiceId, WrongDigest, TooLong, BadRelevance, BadScript, Memory}
+use Rattle.site_check.specs.declared.finding.Finding.TheVariants.{Good, BadLine, TwiceId, WrongDigest, TooLong, BadPiece, Memory}
 
 -- the number of what is wrong, and the line of the site on which it is
 unfoldable pub wrong_line : List ℕ → ℕ → List ℕ
@@ -36,22 +38,25 @@ unfoldable pub place_text : Place → List ℕ
 place_text place = codes "(" ++ decimal place.from ++ codes ".." ++ decimal place.to ++ codes ")"
 
 -- the number of a question's fault, and its place
-unfoldable pub relevance_line : ℕ → RelKind → Place → List ℕ
-relevance_line line kind place =
-    wrong_line (codes "24") line ++ codes " kind " ++ decimal (number_of kind) ++ codes " " ++ place_text place ++ codes "\n"
+unfoldable pub question_line : ℕ → QuestionFault → List ℕ
+question_line line fault =
+    wrong_line (codes "24") line ++ codes " kind " ++ decimal (number_of fault.kind) ++ codes " " ++ place_text fault.place ++ codes "\n"
 
--- the number of a script's error
-unfoldable pub script_line : ℕ → ℕ → List ℕ
-script_line line number = wrong_line (codes "25") line ++ codes " number " ++ decimal number ++ codes "\n"
+abbrev pub script_number : ScriptFault → ℕ
+script_number script.NoCommand = 30
+script_number script.IfNotClosed = 31
+script_number script.StrayElse = 32
+script_number script.BraceNotClosed = 33
+script_number script.CreateNotClosed = 34
 
--- each error of a script has its number; want of memory has none
-abbrev pub script_error_line : ScriptError → List ℕ
-script_error_line (error.NoCommand line) = script_line line 30
-script_error_line (error.IfNotClosed line) = script_line line 31
-script_error_line (error.StrayElse line) = script_line line 32
-script_error_line (error.BraceNotClosed line) = script_line line 33
-script_error_line (error.CreateNotClosed line) = script_line line 34
-script_error_line error.Memory = []
+-- the number of a script's fault
+unfoldable pub script_line : ℕ → ScriptFault → List ℕ
+script_line line fault = wrong_line (codes "25") line ++ codes " number " ++ decimal (script_number fault) ++ codes "\n"
+
+-- why a piece is refused
+abbrev pub refusal_line : PieceRefusal → List ℕ
+refusal_line (refusal.Question line fault) = question_line line fault
+refusal_line (refusal.Script line fault) = script_line line fault
 
 -- the line that tells a finding; of want of memory nothing is said
 abbrev pub finding_line : Finding → List ℕ
@@ -60,6 +65,5 @@ finding_line (BadLine line) = bad_line line
 finding_line (TwiceId line) = twice_line line
 finding_line (WrongDigest stated found) = digest_line stated found
 finding_line TooLong = too_long_line
-finding_line (BadRelevance line kind place) = relevance_line line kind place
-finding_line (BadScript error) = script_error_line error
+finding_line (BadPiece refusal) = refusal_line refusal
 finding_line Memory = []

@@ -1,5 +1,5 @@
 -- What is good in a piece of a site, and what it is refused for.
-use Rattle.std.specs.Prelude.{◌≡◌, ◌⊎◌, ℕ, ◌+◌, ◌-◌, true, false, List, Ok, Err}
+use Rattle.std.specs.Prelude.{◌≡◌, ◌⊎◌, ℕ, ◌+◌, ◌-◌, true, false, List, Option, Some, None, Ok, Err}
 use Rattle.rel_lexer.specs.declared.place.Place.{Place}
 use Rattle.rel_value.specs.Plain.{booleans}
 use Rattle.rel_types.specs.Plans.{PlainNode, is_plural, kind_of}
@@ -13,8 +13,11 @@ use Rattle.script_text.specs.declared.error.ScriptError.TheVariants as error
 use Rattle.script_text.specs.Scripts.{PlainScript, IsVerdict}
 use Rattle.fix_site.specs.declared.piece.Piece.{Piece}
 use Rattle.fix_site.specs.declared.piece.Piece.TheVariants as piece
-use Rattle.site_check.specs.declared.finding.Finding.{Finding}
-use Rattle.site_check.specs.declared.finding.Finding.TheVariants.{BadRelevance, BadScript}
+use Rattle.site_check.specs.declared.refusal.PieceRefusal.{PieceRefusal}
+use Rattle.site_check.specs.declared.refusal.PieceRefusal.TheVariants as refusal
+use Rattle.site_check.specs.declared.refusal.QuestionFault.{QuestionFault}
+use Rattle.site_check.specs.declared.refusal.ScriptFault.{ScriptFault}
+use Rattle.site_check.specs.declared.refusal.ScriptFault.TheVariants as script
 
 -- a plan that gives one value, a truth
 pub record IsTruth (plan : PlainNode) : Type 0 where
@@ -41,27 +44,31 @@ IsWrongReading (undefined at words) kind place = (kind ≡ NotDefined) × (place
 abbrev pub IsWrongQuestion : List ℕ → RelKind → Place → Type 0
 IsWrongQuestion text kind place = (reading : Reading) × Reads text reading × IsWrongReading reading kind place
 
+-- the text asks for one truth where nothing is wrong with it, and otherwise is wrong so
+abbrev pub JudgesQuestion : List ℕ → Option QuestionFault → Type 0
+JudgesQuestion text None = AsksTruth text
+JudgesQuestion text (Some fault) = IsWrongQuestion text fault.kind fault.place
+
 -- a line of a script in the text that holds it, where its first line has this number
 abbrev pub line_in_text : ℕ → ℕ → ℕ
 line_in_text first line = first - 1 + line
 
--- an error of a script with its line counted in that text
-abbrev pub moved : ℕ → ScriptError → ScriptError
-moved first (error.NoCommand line) = error.NoCommand (line_in_text first line)
-moved first (error.IfNotClosed line) = error.IfNotClosed (line_in_text first line)
-moved first (error.StrayElse line) = error.StrayElse (line_in_text first line)
-moved first (error.BraceNotClosed line) = error.BraceNotClosed (line_in_text first line)
-moved first (error.CreateNotClosed line) = error.CreateNotClosed (line_in_text first line)
-moved first error.Memory = error.Memory
+-- the error of a script with this fault, at this line of it
+abbrev pub script_error : ScriptFault → ℕ → ScriptError
+script_error script.NoCommand line = error.NoCommand line
+script_error script.IfNotClosed line = error.IfNotClosed line
+script_error script.StrayElse line = error.StrayElse line
+script_error script.BraceNotClosed line = error.BraceNotClosed line
+script_error script.CreateNotClosed line = error.CreateNotClosed line
 
 -- a question that is singular and Boolean, or a script
 abbrev pub IsGoodPiece : Piece → Type 0
 IsGoodPiece (piece.Relevance line text) = AsksTruth text
 IsGoodPiece (piece.Script line lines) = (script : PlainScript) × IsVerdict lines (Ok script)
 
--- the piece is refused with this finding
-abbrev pub IsRefusedPiece : Piece → Finding → Type 0
-IsRefusedPiece (piece.Relevance line text) (BadRelevance at kind place) = (at ≡ line) × IsWrongQuestion text kind place
-IsRefusedPiece (piece.Script line lines) (BadScript error) =
-    (own : ScriptError) × IsVerdict lines (Err own) × (error ≡ moved line own)
-IsRefusedPiece piece finding = ⊥
+-- the piece is refused so: its question, or its script at this line of the site
+abbrev pub IsRefusedPiece : Piece → PieceRefusal → Type 0
+IsRefusedPiece (piece.Relevance line text) (refusal.Question at fault) = (at ≡ line) × IsWrongQuestion text fault.kind fault.place
+IsRefusedPiece (piece.Script line lines) (refusal.Script at fault) =
+    (own : ℕ) × IsVerdict lines (Err (script_error fault own)) × (at ≡ line_in_text line own)
+IsRefusedPiece piece refusal = ⊥

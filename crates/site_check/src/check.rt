@@ -1,14 +1,18 @@
-ghost use Rattle.std.specs.Prelude.{◌≡◌, ◌≤◌, ◌-◌, ◌^◌, ℕ, List, All, length, count_by};
+ghost use Rattle.std.specs.Prelude.{◌≡◌, ◌≤◌, ◌-◌, ◌^◌, ℕ, List, All, IfOk, length, count_by};
 ghost use Rattle.fix_site.specs.Sites.{IsSite, site_lines};
 ghost use Rattle.fix_site.specs.Answers.{ReadsSite};
 ghost use Rattle.fix_site.specs.Pieces.{pieces_of};
-ghost use Rattle.site_check.specs.Findings.{Finds, is_baseline, is_fixlet};
-ghost use Rattle.site_check.specs.Judgements.{IsNumbered, JudgesPieces};
+ghost use Rattle.site_check.specs.Findings.{Finds, JudgesPieces, is_baseline, is_fixlet};
+ghost use Rattle.site_check.specs.Judgements.{IsNumbered};
 
 use crate::finding::Finding;
 use crate::piece_check::refusal_of;
-use fix_site::{Block, Piece, Site, SiteError, a_piece_stands_at_its_line, pieces, read_site};
-use std::alloc::Global;
+use crate::refusal::PieceRefusal;
+use fix_site::{
+    Block, Piece, Site, SiteError, a_piece_stands_at_its_line, a_site_has_few_lines, pieces,
+    read_site,
+};
+use std::alloc::{AllocError, Global};
 
 /// Says what is wrong first with the text of a site. A text of too many bytes, a bad line, an id that stood before and a wrong
 /// digest come before all pieces, and of the pieces that are refused the first one is told.
@@ -19,9 +23,11 @@ pub fn check_site(alloc: Global, text: &[u8]) -> Finding
         Ok(site) => site,
         Err(error) => return unread(error),
     };
-    match refusal_in(alloc, &site) {
-        Some(finding) => finding,
-        None => good(site.blocks.as_slice()),
+    a_site_has_few_lines();
+    match refusal_of_site(alloc, &site) {
+        Ok(Some(refusal)) => Finding::BadPiece(refusal),
+        Ok(None) => good(site.blocks.as_slice()),
+        Err(_) => Finding::Memory,
     }
 }
 
@@ -38,29 +44,28 @@ fn unread(error: SiteError) -> Finding
     }
 }
 
-/// What is found at the first piece of a site that is refused.
-fn refusal_in(alloc: Global, site: &Site) -> Option<Finding>
+/// Why the first piece of a site that is no good one is refused, if there is one. Lines are those of the site's text. The error is
+/// want of memory.
+pub fn refusal_of_site(alloc: Global, site: &Site) -> Result<Option<PieceRefusal>, AllocError>
     requires good { IsSite site.now }
     requires lines { length (site_lines site.now) ≤ 2 ^ 32 - 1 }
-    ensures { JudgesPieces (pieces_of site.now) result }
+    ensures { IfOk result (λ refusal. JudgesPieces (pieces_of site.now) refusal) }
 {
-    let Ok(pieces) = pieces(alloc, site) else {
-        return Some(Finding::Memory);
-    };
+    let pieces = pieces(alloc, site)?;
     a_piece_stands_at_its_line();
     first_refusal(alloc, pieces.as_slice())
 }
 
-fn first_refusal(alloc: Global, pieces: &[Piece]) -> Option<Finding>
+fn first_refusal(alloc: Global, pieces: &[Piece]) -> Result<Option<PieceRefusal>, AllocError>
     requires { All IsNumbered pieces.now }
-    ensures { JudgesPieces pieces.now result }
+    ensures { IfOk result (λ refusal. JudgesPieces pieces.now refusal) }
 {
     for piece in pieces {
-        if let Some(finding) = refusal_of(alloc, piece) {
-            return Some(finding);
+        if let Some(refusal) = refusal_of(alloc, piece)? {
+            return Ok(Some(refusal));
         }
     }
-    None
+    Ok(None)
 }
 
 /// The finding on a site of these blocks whose pieces are all good.

@@ -1,35 +1,20 @@
-use rel_lexer::Place;
-use rel_trace::RelKind;
-use script_text::ScriptError;
+use crate::refusal::PieceRefusal;
 
 /// What is found first in the text of a site. Lines are counted from 1 in that text.
-#[derive(Debug, Drop)]
+#[derive(Drop)]
 pub enum Finding {
     /// Every line and piece of the site is good. So many fixlets and baselines are in it.
-    Good {
-        fixlets: u64,
-        baselines: u64,
-    },
+    Good { fixlets: u64, baselines: u64 },
     /// The line at which no continuation can make the text good.
     BadLine(u32),
     /// The same, where that line has the id of a block before it.
     TwiceId(u32),
     /// All lines are those of a site, but it states another digest than that of its text.
-    WrongDigest {
-        stated: [u8; 32],
-        found: [u8; 32],
-    },
+    WrongDigest { stated: [u8; 32], found: [u8; 32] },
     /// The text has more than 4,194,304 bytes.
     TooLong,
-    /// The question on this line is refused, or may give no value or several, or gives no truth. The place is one in the
-    /// question.
-    BadRelevance {
-        line: u32,
-        kind: RelKind,
-        place: Place,
-    },
-    /// A script is refused. It is never `ScriptError::Memory`.
-    BadScript(ScriptError),
+    /// A question or a script is refused.
+    BadPiece(PieceRefusal),
     /// Memory ran out.
     Memory,
 }

@@ -3,7 +3,7 @@ ghost use Rattle.std.specs.Prelude.{◌≡◌, ◌≢◌, ℕ, List};
 ghost use Rattle.site_check.specs.declared.finding.Finding.{Finding};
 ghost use Rattle.site_check.specs.Findings.{Finds};
 
-use line_forms::lines_are_read_again;
+use fix_site::one_reading;
 use rel_eval::one_plan;
 use script_text::one_verdict;
 
@@ -12,7 +12,8 @@ pub fn one_finding()
     ensures { (text : List ℕ) (x y : Finding) → Finds text x → Finds text y
         → x ≢ Finding.Memory → y ≢ Finding.Memory → x ≡ y }
 {
-    lines_are_read_again();
+    // the laws of the parts, which this one is made of
+    one_reading();
     one_plan();
     one_verdict();
 }

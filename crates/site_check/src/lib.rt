@@ -5,12 +5,12 @@ mod check;
 mod finding;
 mod law;
 mod piece_check;
+mod refusal;
 mod say;
 
-pub use check::check_site;
+pub use check::{check_site, refusal_of_site};
 pub use finding::Finding;
 pub use law::one_finding;
+pub use piece_check::question_fault;
+pub use refusal::{PieceRefusal, QuestionFault, ScriptFault};
 pub use say::say_finding;
-
-#[cfg(test)]
-mod tests;

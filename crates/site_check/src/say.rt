@@ -1,13 +1,12 @@
 // What is said of a finding.
 ghost use Rattle.std.specs.Prelude.{◌≡◌, ◌++◌, OnOk};
-ghost use Rattle.site_check.specs.Lines.{bad_line, digest_line, finding_line, good_line, place_text, relevance_line, script_error_line, script_line, too_long_line, twice_line, wrong_line};
+ghost use Rattle.site_check.specs.Lines.{bad_line, digest_line, finding_line, good_line, place_text, question_line, refusal_line, script_line, script_number, too_long_line, twice_line, wrong_line};
 
 use crate::finding::Finding;
+use crate::refusal::{PieceRefusal, QuestionFault, ScriptFault};
 use desk_base::{Bytes, decimal};
 use line_forms::write_digest;
 use rel_lexer::Place;
-use rel_trace::RelKind;
-use script_text::ScriptError;
 use std::alloc::AllocError;
 
 /// Appends the line that tells a finding; Memory has none, and appends nothing. The error is want of memory, after which `out` is of
@@ -21,8 +20,7 @@ pub fn say_finding(finding: &Finding, out: &mut Bytes) -> Result<(), AllocError>
         Finding::TwiceId(line) => say_twice(*line, out),
         Finding::WrongDigest { stated, found } => say_digests(stated, found, out),
         Finding::TooLong => say_too_long(out),
-        Finding::BadRelevance { line, kind, place } => say_relevance(*line, *kind, *place, out),
-        Finding::BadScript(error) => say_script_error(*error, out),
+        Finding::BadPiece(refusal) => say_refusal(*refusal, out),
         Finding::Memory => Ok(()),
     }
 }
@@ -93,38 +91,47 @@ fn say_place(place: Place, out: &mut Bytes) -> Result<(), AllocError>
     out.extend(b")")
 }
 
-#[tactic(auto, unfolding(crate::specs::Lines::relevance_line))]
-fn say_relevance(line: u32, kind: RelKind, place: Place, out: &mut Bytes) -> Result<(), AllocError>
-    ensures { OnOk result (out.new ≡ out.old ++ relevance_line line kind place) }
+/// Appends the line that tells why a piece is refused.
+fn say_refusal(refusal: PieceRefusal, out: &mut Bytes) -> Result<(), AllocError>
+    ensures { OnOk result (out.new ≡ out.old ++ refusal_line refusal) }
 {
-    say_wrong_line(b"24", line, out)?;
-    out.extend(b" kind ")?;
-    decimal(u64::from(kind.number()), out)?;
-    out.extend(b" ")?;
-    say_place(place, out)?;
-    out.push(b'\n')
-}
-
-fn say_script_error(error: ScriptError, out: &mut Bytes) -> Result<(), AllocError>
-    ensures { OnOk result (out.new ≡ out.old ++ script_error_line error) }
-{
-    match error {
-        ScriptError::NoCommand(line) => say_script(line, 30, out),
-        ScriptError::IfNotClosed(line) => say_script(line, 31, out),
-        ScriptError::StrayElse(line) => say_script(line, 32, out),
-        ScriptError::BraceNotClosed(line) => say_script(line, 33, out),
-        ScriptError::CreateNotClosed(line) => say_script(line, 34, out),
-        ScriptError::Memory => Ok(()),
+    match refusal {
+        PieceRefusal::Question { line, fault } => say_question(line, fault, out),
+        PieceRefusal::Script { line, fault } => say_script(line, fault, out),
     }
 }
 
-/// Appends the line of a script's error with this number.
+#[tactic(auto, unfolding(crate::specs::Lines::question_line))]
+fn say_question(line: u32, fault: QuestionFault, out: &mut Bytes) -> Result<(), AllocError>
+    ensures { OnOk result (out.new ≡ out.old ++ question_line line fault) }
+{
+    say_wrong_line(b"24", line, out)?;
+    out.extend(b" kind ")?;
+    decimal(u64::from(fault.kind.number()), out)?;
+    out.extend(b" ")?;
+    say_place(fault.place, out)?;
+    out.push(b'\n')
+}
+
 #[tactic(auto, unfolding(crate::specs::Lines::script_line))]
-fn say_script(line: u32, number: u64, out: &mut Bytes) -> Result<(), AllocError>
-    ensures { OnOk result (out.new ≡ out.old ++ script_line line number) }
+fn say_script(line: u32, fault: ScriptFault, out: &mut Bytes) -> Result<(), AllocError>
+    ensures { OnOk result (out.new ≡ out.old ++ script_line line fault) }
 {
     say_wrong_line(b"25", line, out)?;
     out.extend(b" number ")?;
-    decimal(number, out)?;
+    decimal(script_number(fault), out)?;
     out.push(b'\n')
+}
+
+/// The number of a script's fault.
+fn script_number(fault: ScriptFault) -> u64
+    ensures { result ≡ script_number fault }
+{
+    match fault {
+        ScriptFault::NoCommand => 30,
+        ScriptFault::IfNotClosed => 31,
+        ScriptFault::StrayElse => 32,
+        ScriptFault::BraceNotClosed => 33,
+        ScriptFault::CreateNotClosed => 34,
+    }
 }

@@ -2,4 +2,4 @@ use Rattle.site_check.proofs.OneFinding.{one_found}
 use Rattle.site_check.proofs.law.one_finding.Goals as goal
 
 pub returns : goal.returns
-returns c = one_found c.lines_are_read_again.ensures.lines c.lines_are_read_again.ensures.unended c.one_plan.ensures c.one_verdict.ensures
+returns c = one_found c.one_reading.ensures c.one_plan.ensures c.one_verdict.ensures
