@@ -36,6 +36,15 @@ pub record IsRows (rows : List Row) : Type 0 where
   pub ended : OnlyLastRuns rows
   pub moments : All HasMoments rows
 
+-- the rows of an action, and for how many there is room in all
+pub record RowsState : Type 0 where
+  pub rows : List Row
+  pub capacity : ℕ
+
+-- there is room for one row more
+abbrev pub HasRoom : RowsState → Type 0
+HasRoom state = length state.rows < state.capacity
+
 -- the rows with the last one changed
 abbrev pub with_last : List Row → (Row → Row) → List Row
 with_last [] change = []

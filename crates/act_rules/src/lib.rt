@@ -16,12 +16,3 @@ pub use rows::{Rows, status};
 pub use rule::{Hours, Reapply, Rules};
 pub use tally::Tally;
 pub use times::window;
-
-#[cfg(test)]
-mod owed_cases;
-#[cfg(test)]
-mod table_tests;
-#[cfg(test)]
-mod tests;
-#[cfg(test)]
-mod window_cases;

@@ -10,7 +10,7 @@ use crate::tally::Tally;
 /// once. The moment is in seconds since 1970-01-01 00:00:00 UTC, from 0 to 2^37.
 pub fn owed(rules: &Rules, rows: &Rows, moment: i64) -> bool
     requires { IsMoment moment }
-    ensures { IsTrue result ↔ IsOwed rules.now rows.now moment }
+    ensures { IsTrue result ↔ IsOwed rules.now rows.now.rows moment }
 {
     Tally::of(rules.retries, rows).owed(rules, rows.as_slice().last(), moment)
 }

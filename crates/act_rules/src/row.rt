@@ -1,5 +1,5 @@
 /// How an attempt ended. Failed and Interrupted both count as failure.
-#[derive(Clone, Copy, Debug, PartialEq, Eq)]
+#[derive(Clone, Copy)]
 pub enum Outcome {
     Fixed,
     Failed,
@@ -7,7 +7,7 @@ pub enum Outcome {
 }
 
 /// What else is told of an attempt that has ended.
-#[derive(Clone, Copy, Debug, PartialEq, Eq)]
+#[derive(Clone, Copy)]
 pub struct Note {
     /// The exit code of its last program, if that had one.
     pub exit: Option<i64>,
@@ -16,7 +16,7 @@ pub struct Note {
 }
 
 /// One attempt of an action. Moments are seconds since 1970-01-01 00:00:00 UTC, from 0 to 2^37.
-#[derive(Clone, Copy, Debug, PartialEq, Eq)]
+#[derive(Clone, Copy)]
 pub struct Row {
     /// The number of the attempt, counted from 1.
     pub number: u32,
@@ -30,7 +30,7 @@ pub struct Row {
 }
 
 /// How the attempts of an action stand.
-#[derive(Clone, Copy, Debug, PartialEq, Eq)]
+#[derive(Clone, Copy)]
 pub enum Status {
     NotBegun,
     Running,

@@ -1,6 +1,6 @@
 /// Whether a closed series is followed by another one. At most `limit` series follow the first, each at least `wait`
 /// seconds after the end of the one before.
-#[derive(Clone, Copy, Debug, PartialEq, Eq)]
+#[derive(Clone, Copy, Debug)]
 pub enum Reapply {
     Never,
     /// Once the content was seen not to be relevant after the end.
@@ -11,7 +11,7 @@ pub enum Reapply {
 
 /// The minutes of a day at which an action may begin: at or after `from` and before `to`, over midnight where `to` is less
 /// than `from`.
-#[derive(Clone, Copy, Debug, PartialEq, Eq)]
+#[derive(Clone, Copy, Debug)]
 pub struct Hours {
     /// From 0 to 1439.
     pub from: u32,
@@ -20,7 +20,7 @@ pub struct Hours {
 }
 
 /// When an action may begin, and how often.
-#[derive(Clone, Copy, Debug, PartialEq, Eq)]
+#[derive(Clone, Copy, Debug)]
 pub struct Rules {
     /// The moment at which its window opens. None for no such moment.
     pub start: Option<i64>,

@@ -14,7 +14,7 @@ use crate::rule::{Reapply, Rules};
 
 /// Stands for the rows of an action under a number of retries: it counts, in series, those that have ended. So it stands for
 /// the same rows with a last row that runs as well.
-#[derive(Clone, Copy, Debug, PartialEq, Eq)]
+#[derive(Clone, Copy)]
 pub struct Tally {
     retries: u32,
     series: u32,
@@ -25,7 +25,7 @@ pub struct Tally {
 impl Tally {
     /// Stands for these rows.
     pub fn of(retries: u32, rows: &Rows) -> Tally
-        ensures { StandsFor result retries rows.now }
+        ensures { StandsFor result retries rows.now.rows }
     {
         let mut tally = Tally {
             retries,

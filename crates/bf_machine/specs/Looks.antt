@@ -2,7 +2,7 @@
 use Rattle.std.specs.Prelude.{◌≡◌, List, [], ◌∷◌, ⊤, Some}
 use Rattle.std.specs.declared.option.Option.{Option}
 use Rattle.bf_world.specs.declared.key.Key.{Key}
-use Rattle.bf_world.specs.Answers.{IsGoodAnswer}
+use Rattle.bf_world.specs.Answers.{IsGoodAnswer, HasAscendingNames}
 use Rattle.bf_world.specs.Shown.{shown}
 use Rattle.bf_world.specs.Worlds.{WorldState}
 use Rattle.bf_machine.specs.declared.machine.Looked.{Looked}
@@ -22,3 +22,8 @@ keys_added key _ = []
 abbrev pub IsGood : Looked → Type 0
 IsGood (looked.Answer answer) = IsGoodAnswer answer
 IsGood _ = ⊤
+
+-- The names in an answer ascend strictly in byte order, whether the world is told or not.
+abbrev pub Ascends : Looked → Type 0
+Ascends (looked.Answer answer) = HasAscendingNames answer
+Ascends _ = ⊤

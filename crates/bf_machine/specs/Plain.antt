@@ -1,5 +1,6 @@
 -- The machine over a described world, as contracts see it, and what a call does to it beyond what its trait says.
-use Rattle.std.specs.Prelude.{◌≡◌, ℕ, ◌+◌, List, [], length, Some}
+use Rattle.std.specs.Prelude.{◌≡◌, ℕ, ◌+◌, List, [], length, None, Some}
+use Rattle.std.specs.declared.option.Option.{Option}
 use Rattle.std.proofs.Common.{ap}
 use Rattle.desk_base.specs.CallStates.{CallState, IsListed, no_calls}
 use Rattle.desk_base.specs.MemoryStates.{Succeeds, Fails}
@@ -32,6 +33,10 @@ unasked world looks acts polls = record {
   acts = no_calls acts;
   polls = no_calls polls;
 }
+
+-- It tells no polls: a poll takes no memory, and so keeps nothing.
+abbrev pub untold : Option (List ℕ)
+untold = None
 
 -- how many calls have failed
 abbrev pub faults_of : PlainState → ℕ

@@ -12,6 +12,3 @@ pub use bf_world::{
 pub use machine::{Looked, Machine};
 pub use plain::PlainMachine;
 pub use world_text::{WorldError, read_world};
-
-#[cfg(test)]
-mod tests;

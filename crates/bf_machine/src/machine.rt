@@ -5,17 +5,18 @@ ghost use Rattle.bf_world.specs.declared.key.Key.{Key};
 ghost use Rattle.bf_world.specs.declared.command.Command.{Command};
 ghost use Rattle.bf_world.specs.Worlds.{WorldState};
 ghost use Rattle.bf_world.specs.Answers.{HasMoment};
+ghost use Rattle.bf_world.specs.Done.{FitsCommand, StartsByStart};
 ghost use Rattle.bf_machine.specs.Told.{Told, Grows};
-ghost use Rattle.bf_machine.specs.Looks.{Shows, keys_added, IsGood};
+ghost use Rattle.bf_machine.specs.Looks.{Shows, keys_added, IsGood, Ascends};
 ghost use Rattle.bf_machine.specs.Acts.{Acts, commands_added, CountsStarted};
-ghost use Rattle.bf_machine.specs.Polls.{Polls};
+ghost use Rattle.bf_machine.specs.Polls.{Polls, numbers_added};
 
 use bf_world::{Acted, Answer, Command, Key, Polled, ProcessNo};
 use rel_lexer::Text;
 use std::alloc::AllocError;
 
 /// What a look answers.
-#[derive(Debug, Drop)]
+#[derive(Drop)]
 pub enum Looked {
     /// What was looked up.
     Answer(Answer),
@@ -36,6 +37,9 @@ pub trait Machine {
     /// The commands that were done, started or refused, where it tells them.
     ghost acted: { Self → Option (List Command) };
 
+    /// The numbers of the programs whose polls answered, where it tells them.
+    ghost polled: { Self → Option (List ℕ) };
+
     /// How many programs it started.
     ghost started: { Self → ℕ };
 
@@ -47,6 +51,7 @@ pub trait Machine {
         ensures world { world self.new ≡ world self.old }
         ensures looked { looked self.new ≡ looked self.old }
         ensures acted { acted self.new ≡ acted self.old }
+        ensures polled { polled self.new ≡ polled self.old }
         ensures started { started self.new ≡ started self.old }
         ensures steady { faults self.new ≡ faults self.old };
 
@@ -54,9 +59,11 @@ pub trait Machine {
     fn look(&mut self, key: &Key) -> Looked
         ensures shows { Shows (world self.old) key.now result }
         ensures good { IsGood result }
+        ensures ascending { Ascends result }
         ensures world { world self.new ≡ world self.old }
         ensures looked { Grows (looked self.old) (looked self.new) (keys_added key.now result) }
         ensures acted { acted self.new ≡ acted self.old }
+        ensures polled { polled self.new ≡ polled self.old }
         ensures started { started self.new ≡ started self.old }
         ensures later { faults self.old ≤ faults self.new }
         ensures failed { result ≡ Looked.Failed → Rose (faults self.old) (faults self.new) }
@@ -68,9 +75,12 @@ pub trait Machine {
         requires date { HasMoment command.now }
         ensures acts { Told (world self.old) (world self.new)
             (λ old new. Acts old new command.now moment result) }
+        ensures fits { FitsCommand command.now result }
         ensures looked { looked self.new ≡ looked self.old }
         ensures acted { Grows (acted self.old) (acted self.new) (commands_added command.now result) }
+        ensures polled { polled self.new ≡ polled self.old }
         ensures started { CountsStarted (started self.old) (started self.new) result }
+        ensures by_start { StartsByStart command.now (started self.old) (started self.new) }
         ensures later { faults self.old ≤ faults self.new }
         ensures failed { result ≡ Acted.Failed → Rose (faults self.old) (faults self.new) }
         ensures steady { result ≢ Acted.Failed → faults self.new ≡ faults self.old };
@@ -81,6 +91,7 @@ pub trait Machine {
         ensures polls { Told (world self.old) (world self.new) (λ old new. Polls old new process.0 result) }
         ensures looked { looked self.new ≡ looked self.old }
         ensures acted { acted self.new ≡ acted self.old }
+        ensures polled { Grows (polled self.old) (polled self.new) (numbers_added process.0 result) }
         ensures started { started self.new ≡ started self.old }
         ensures later { faults self.old ≤ faults self.new }
         ensures failed { result ≡ Polled.Failed → Rose (faults self.old) (faults self.new) }

@@ -1,13 +1,14 @@
 ghost use Rattle.std.specs.Prelude.{◌≡◌, ◌≢◌, ◌<◌, ◌≤◌, ◌∷◌, ◌++◌, [], length, Some, IfOk, OnErr};
 ghost use Rattle.desk_base.specs.Counts.{Rose};
 ghost use Rattle.desk_base.specs.Moments.{IsMoment};
-ghost use Rattle.bf_world.specs.Answers.{HasMoment, IsGoodAnswer};
+ghost use Rattle.bf_world.specs.Answers.{HasMoment, IsGoodAnswer, HasAscendingNames};
+ghost use Rattle.bf_world.specs.Done.{FitsCommand, StartsByStart};
 ghost use Rattle.bf_world.specs.Shown.{shown};
 ghost use Rattle.bf_machine.specs.Told.{Told, Grows};
-ghost use Rattle.bf_machine.specs.Looks.{Shows, keys_added, IsGood};
+ghost use Rattle.bf_machine.specs.Looks.{Shows, keys_added, IsGood, Ascends};
 ghost use Rattle.bf_machine.specs.Acts.{Acts, commands_added, CountsStarted};
-ghost use Rattle.bf_machine.specs.Polls.{Polls};
-ghost use Rattle.bf_machine.specs.Plain.{unasked, counted, faults_of, LooksPlain, ActsPlain, PollsPlain};
+ghost use Rattle.bf_machine.specs.Polls.{Polls, numbers_added};
+ghost use Rattle.bf_machine.specs.Plain.{unasked, untold, counted, faults_of, LooksPlain, ActsPlain, PollsPlain};
 
 use crate::{Looked, Machine};
 use bf_world::{Acted, Answer, Command, Key, Polled, ProcessNo, World};
@@ -88,6 +89,7 @@ impl PlainMachine {
     fn answer(&mut self, key: &Key) -> Result<Answer, AllocError>
         ensures shown { IfOk result (λ answer. answer ≡ shown self.old.world key.now) }
         ensures good { IfOk result IsGoodAnswer }
+        ensures ascending { IfOk result HasAscendingNames }
         ensures kept { IfOk result (λ answer. self.new ≡ record self.old { looked = self.old.looked ++ key.now ∷ [] }) }
         ensures err { OnErr result (self.new ≡ self.old) }
     {
@@ -102,7 +104,9 @@ impl PlainMachine {
         requires date { HasMoment command.now }
         ensures acts { Acts self.old.world self.new.world command.now moment result }
         ensures acted { self.new.acted ≡ self.old.acted ++ commands_added command.now result }
+        ensures fits { FitsCommand command.now result }
         ensures started { CountsStarted (length self.old.world.started) (length self.new.world.started) result }
+        ensures by_start { StartsByStart command.now (length self.old.world.started) (length self.new.world.started) }
         ensures rest { self.new ≡ record self.old { world = self.new.world; acted = self.new.acted } }
         ensures never { result ≢ Acted.Failed }
     {
@@ -131,25 +135,38 @@ impl Machine for PlainMachine {
 
     ghost acted = { λ m. Some m.acted };
 
+    ghost polled = { λ _. untold };
+
     ghost started = { λ m. length m.world.started };
 
     ghost faults = { λ m. faults_of m };
 
-    fn open(&mut self, _work: &Text) -> Result<(), AllocError> {
+    fn open(&mut self, _work: &Text) -> Result<(), AllocError>
+        ensures world { Some self.new.world ≡ Some self.old.world }
+        ensures looked { Some self.new.looked ≡ Some self.old.looked }
+        ensures acted { Some self.new.acted ≡ Some self.old.acted }
+        ensures polled { untold ≡ untold }
+        ensures started { length self.new.world.started ≡ length self.old.world.started }
+        ensures steady { faults_of self.new ≡ faults_of self.old }
+        ensures plain { self.new ≡ self.old }
+    {
         Ok(())
     }
 
     fn look(&mut self, key: &Key) -> Looked
         ensures shows { Shows (Some self.old.world) key.now result }
         ensures good { IsGood result }
+        ensures ascending { Ascends result }
         ensures world { Some self.new.world ≡ Some self.old.world }
         ensures looked { Grows (Some self.old.looked) (Some self.new.looked) (keys_added key.now result) }
         ensures acted { Some self.new.acted ≡ Some self.old.acted }
+        ensures polled { untold ≡ untold }
         ensures started { length self.new.world.started ≡ length self.old.world.started }
         ensures later { faults_of self.old ≤ faults_of self.new }
         ensures failed { result ≡ Looked.Failed → Rose (faults_of self.old) (faults_of self.new) }
         ensures steady { result ≢ Looked.Failed → faults_of self.new ≡ faults_of self.old }
         ensures plain { LooksPlain self.old self.new result }
+        ensures others { (self.new.acts ≡ self.old.acts) × (self.new.polls ≡ self.old.polls) }
     {
         if self.looks.begin() {
             self.looks.fault();
@@ -166,13 +183,17 @@ impl Machine for PlainMachine {
         requires date { HasMoment command.now }
         ensures acts { Told (Some self.old.world) (Some self.new.world)
             (λ old new. Acts old new command.now moment result) }
+        ensures fits { FitsCommand command.now result }
         ensures looked { Some self.new.looked ≡ Some self.old.looked }
         ensures acted { Grows (Some self.old.acted) (Some self.new.acted) (commands_added command.now result) }
+        ensures polled { untold ≡ untold }
         ensures started { CountsStarted (length self.old.world.started) (length self.new.world.started) result }
+        ensures by_start { StartsByStart command.now (length self.old.world.started) (length self.new.world.started) }
         ensures later { faults_of self.old ≤ faults_of self.new }
         ensures failed { result ≡ Acted.Failed → Rose (faults_of self.old) (faults_of self.new) }
         ensures steady { result ≢ Acted.Failed → faults_of self.new ≡ faults_of self.old }
         ensures plain { ActsPlain self.old self.new result }
+        ensures others { (self.new.looks ≡ self.old.looks) × (self.new.polls ≡ self.old.polls) }
     {
         if self.acts.begin() {
             self.acts.fault();
@@ -186,11 +207,13 @@ impl Machine for PlainMachine {
         ensures polls { Told (Some self.old.world) (Some self.new.world) (λ old new. Polls old new process.0 result) }
         ensures looked { Some self.new.looked ≡ Some self.old.looked }
         ensures acted { Some self.new.acted ≡ Some self.old.acted }
+        ensures polled { Grows untold untold (numbers_added process.0 result) }
         ensures started { length self.new.world.started ≡ length self.old.world.started }
         ensures later { faults_of self.old ≤ faults_of self.new }
         ensures failed { result ≡ Polled.Failed → Rose (faults_of self.old) (faults_of self.new) }
         ensures steady { result ≢ Polled.Failed → faults_of self.new ≡ faults_of self.old }
         ensures plain { PollsPlain self.old self.new result }
+        ensures others { (self.new.looks ≡ self.old.looks) × (self.new.acts ≡ self.old.acts) }
     {
         if self.polls.begin() {
             self.polls.fault();

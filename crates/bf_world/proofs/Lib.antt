@@ -5,3 +5,5 @@ pub mod PlaceLemmas
 pub mod SoundLemmas
 pub mod GoodLemmas
 pub mod StartedLemmas
+pub mod OrderLemmas
+pub mod FreeLemmas

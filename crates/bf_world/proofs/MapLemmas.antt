@@ -1,7 +1,5 @@
 -- Maps from texts.
-use Rattle.std.proofs.Common.{◌≡◌, ℕ, Bool, true, false, cond, List, [], ◌∷◌, ◌++◌, map, String, Some, None, refl, ap, ◌∙◌, sym, subst, append_assoc}
-use Rattle.std.specs.declared.option.Option.{Option}
-use Rattle.std.specs.Option.{option_map}
+use Rattle.std.proofs.Common.{◌≡◌, ℕ, true, false, cond, List, [], ◌∷◌, ◌++◌, String, Some, None, refl, ap, ◌∙◌, sym, subst, append_assoc}
 use Rattle.std.specs.declared.cmp.Ordering.{Ordering}
 use Rattle.std.specs.declared.cmp.Ordering.TheVariants.{Less, Equal, Greater}
 use Rattle.std.specs.Ordering.{match_ordering, ordering_reverse, is_eq}
@@ -60,7 +58,7 @@ put-last (e ∷ xs) k v rest sorted =
     let above : byte_order k e.0 ≡ Greater = nat_list_cmp_total.antisymm k e.0 ∙ ap ordering_reverse below in
     ap (λ r. match_ordering r ((k, v) ∷ e ∷ xs) ((e.0, v) ∷ xs) (e ∷ put k v xs)) above ∙ ap (λ l. e ∷ l) (put-last xs k v rest sorted.1)
 
-itself : (r : Ordering) → r ≡ ordering_reverse r → r ≡ Equal
+pub itself : (r : Ordering) → r ≡ ordering_reverse r → r ≡ Equal
 itself Less e = absurd (cc)
 itself Equal e = refl
 itself Greater e = absurd (cc)

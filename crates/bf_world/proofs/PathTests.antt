@@ -1,15 +1,15 @@
 -- The tests of paths and parts say what the relations do.
-use Rattle.std.proofs.Common.{◌≡◌, ◌≢◌, ℕ, ◌<◌, ◌≤◌, ◌==◌, ◌&&◌, ◌||◌, ◌⊎◌, Bool, true, false, not, nat_le, List, [], ◌∷◌, length, codes, Decides, All, MatchOption, None, Some, is_some, inl, inr, subst, sym, refl, arith}
+use Rattle.std.proofs.Common.{◌≡◌, ◌≢◌, ℕ, ◌<◌, ◌≤◌, ◌&&◌, ◌⊎◌, Bool, true, false, not, nat_le, List, [], ◌∷◌, length, codes, Decides, None, Some, is_some, inl, inr, subst, sym, refl, arith}
 use Rattle.std.specs.declared.option.Option.{Option}
 use Rattle.std.specs.List.{list_all}
-use Rattle.std.specs.Str.{bytes_eq, IsUtf8, is_utf8}
-use Rattle.std.proofs.lemmas.Bool.{cases_eq, false≢true}
+use Rattle.std.specs.Str.{IsUtf8, is_utf8}
+use Rattle.std.proofs.lemmas.Bool.{cases_eq}
 use Rattle.std.proofs.lemmas.Bool.Decides.{nat_tests, Decides-like, Decides-not, Decides-and, Decides-or, Decides-by_and}
 use Rattle.std.proofs.lemmas.List.Elements.{All-weaker}
 use Rattle.std.proofs.lemmas.Slice.Eq.{bytes_eq-Decides}
 use Rattle.std.proofs.lemmas.Str.{IsUtf8-from_is_utf8, is_utf8-from_IsUtf8}
 use Rattle.line_forms.specs.Cuts.{Lacks, pieces}
-use Rattle.line_forms.specs.Paths.{IsPart, IsPartText, AreParts, HasPathForm, IsPath}
+use Rattle.line_forms.specs.Paths.{IsPart, AreParts, HasPathForm, IsPath}
 use Rattle.line_forms.specs.Reads.{ReadsText}
 use Rattle.line_forms.proofs.Pieces.{joined_from_pieces, pieces_from_joined}
 use Rattle.line_forms.proofs.PathLemmas.{parts-root}

@@ -1,7 +1,6 @@
 -- What is where in a world, after changes.
-use Rattle.std.proofs.Common.{◌≡◌, ℕ, false, List, Some, None, ap, refl}
+use Rattle.std.proofs.Common.{◌≡◌, false, Some, None, ap, refl}
 use Rattle.std.specs.declared.option.Option.{Option}
-use Rattle.std.proofs.lemmas.Bool.{false≢true}
 use Rattle.bf_world.specs.declared.parts.Node.{Node}
 use Rattle.bf_world.specs.declared.parts.Node.TheVariants.{Folder, File}
 use Rattle.bf_world.specs.Maps.{at}

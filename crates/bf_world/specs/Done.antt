@@ -1,8 +1,6 @@
 -- What a command does to a world: its checks, in their order, and what it changes where none of them refuses.
-use Rattle.std.specs.Prelude.{◌≡◌, ℕ, ◌^◌, ◌-◌, ◌+◌, ℤ, Bool, true, false, if◌then◌else◌, not, ◌&&◌, ◌||◌, nat_lt, List, [], ◌∷◌, ◌++◌, length, codes, fold, is_some, int_lt, MatchResult, Some, None}
+use Rattle.std.specs.Prelude.{◌≡◌, ◌≢◌, ℕ, ◌^◌, ◌-◌, ◌+◌, ℤ, Bool, true, false, if◌then◌else◌, not, ◌||◌, nat_lt, List, [], ◌∷◌, ◌++◌, length, codes, fold, is_some, int_lt, ⊤, Some, None}
 use Rattle.std.specs.declared.option.Option.{Option}
-use Rattle.std.specs.declared.result.Result.{Result}
-use Rattle.std.specs.declared.alloc.AllocError.{AllocError}
 use Rattle.bf_world.specs.declared.parts.Node.TheVariants.{Folder, File}
 use Rattle.bf_world.specs.declared.parts.SettingValue.{SettingValue}
 use Rattle.bf_world.specs.declared.parts.Program.{Program}
@@ -14,6 +12,7 @@ use Rattle.bf_world.specs.declared.command.Reason.{Reason}
 use Rattle.bf_world.specs.declared.command.Reason.TheVariants as reason
 use Rattle.bf_world.specs.declared.command.Acted.{Acted}
 use Rattle.bf_world.specs.declared.command.Acted.TheVariants as acted
+use Rattle.bf_world.specs.declared.command.ProcessNo.{ProcessNo}
 use Rattle.bf_world.specs.Maps.{at, put, without}
 use Rattle.bf_world.specs.Paths.{is_part, is_path, is_free, joined}
 use Rattle.bf_world.specs.Places.{is_folder, is_file, content_at, has_parent, with_node, without_node}
@@ -152,6 +151,16 @@ done w command moment =
 abbrev pub Acts : WorldState → WorldState → Acted → Outcome → Type 0
 Acts old new acted.Memory outcome = new ≡ old
 Acts old new answer outcome = outcome ≡ record { answer = answer; after = new }
+
+-- A Start is never answered by Done, and no other command by Started.
+abbrev pub FitsCommand : Command → Acted → Type 0
+FitsCommand (command.Start line hidden) answer = answer ≢ acted.Done
+FitsCommand _ answer = (process : ProcessNo) → answer ≢ acted.Started process
+
+-- Only a Start raises the number of programs that were started.
+abbrev pub StartsByStart : Command → ℕ → ℕ → Type 0
+StartsByStart (command.Start line hidden) old new = ⊤
+StartsByStart _ old new = new ≡ old
 
 -- A program that is started gets the number of those before it.
 abbrev pub CountsStarted : ℕ → ℕ → Acted → Type 0

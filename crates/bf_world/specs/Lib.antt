@@ -8,3 +8,4 @@ pub mod Polled
 pub mod Answers
 pub mod Sound
 pub mod Views
+pub mod Reasons

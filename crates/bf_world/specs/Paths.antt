@@ -1,7 +1,7 @@
 -- Paths as texts. Each test says of a text what the relation of the same name in `line_forms` says of it.
-use Rattle.std.specs.Prelude.{ℕ, Bool, if◌then◌else◌, not, ◌&&◌, ◌||◌, ◌==◌, nat_le, List, [], ◌∷◌, ◌++◌, length, codes}
+use Rattle.std.specs.Prelude.{ℕ, Bool, if◌then◌else◌, not, ◌&&◌, ◌||◌, ◌==◌, ◌-◌, nat_le, List, [], ◌∷◌, ◌++◌, length, codes}
 use Rattle.std.specs.Str.{is_utf8, bytes_eq}
-use Rattle.std.specs.List.{list_all, before_last, after_last}
+use Rattle.std.specs.List.{list_all, before_last, after_last, slice_index}
 use Rattle.line_forms.specs.Cuts.{pieces}
 
 -- `/`, which is a folder in every world
@@ -40,10 +40,14 @@ last_name path = after_last is_slash path
 unfoldable pub parent_path : List ℕ → List ℕ
 parent_path path = before_last is_slash path
 
+-- the last byte of the path is `/`
+abbrev pub ends_in_slash : List ℕ → Bool
+ends_in_slash path = is_slash (slice_index path (length path - 1))
+
 -- what stands between a folder's path and the name of what is in it
 unfoldable pub slash_behind : List ℕ → List ℕ
-slash_behind folder = if bytes_eq folder root then [] else root
+slash_behind folder = if ends_in_slash folder then [] else root
 
--- the path of what has this name in a folder
+-- the path of what has this name in a folder: a `/` stands between them, unless the folder's path ends in one
 abbrev pub joined : List ℕ → List ℕ → List ℕ
 joined folder name = folder ++ slash_behind folder ++ name

@@ -1,5 +1,5 @@
 -- What a poll of a started program does to a world.
-use Rattle.std.specs.Prelude.{ℕ, ◌-◌, pos, if◌then◌else◌, nat_lt, List, set}
+use Rattle.std.specs.Prelude.{ℕ, ◌-◌, pos, if◌then◌else◌, nat_lt, set}
 use Rattle.std.specs.declared.option.Option.{Option}
 use Rattle.std.specs.Option.{option_map}
 use Rattle.std.specs.List.{slice_get}

@@ -1,5 +1,5 @@
 -- What a look shows of a world.
-use Rattle.std.specs.Prelude.{ℕ, pos, Bool, if◌then◌else◌, ◌&&◌, List, [], ◌∷◌, length, map, Some, None}
+use Rattle.std.specs.Prelude.{ℕ, pos, if◌then◌else◌, ◌&&◌, List, length, map, Some, None}
 use Rattle.std.specs.declared.option.Option.{Option}
 use Rattle.std.specs.Str.{bytes_eq}
 use Rattle.std.specs.List.{filter_map}

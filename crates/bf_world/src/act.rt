@@ -1,11 +1,12 @@
 ghost use Rattle.std.specs.Prelude.{◌≡◌, ◌≢◌, ◌++◌, OnOk, OnErr, IfOk, None, false, length, ◌+◌, ◌^◌, ◌<◌};
 ghost use Rattle.desk_base.specs.Moments.{IsMoment};
+ghost use Rattle.line_forms.specs.Paths.{IsPath};
 ghost use Rattle.bf_world.specs.Answers.{HasMoment};
 ghost use Rattle.bf_world.specs.Maps.{at};
 ghost use Rattle.bf_world.specs.Worlds.{WorldState};
 ghost use Rattle.bf_world.specs.Paths.{joined};
 ghost use Rattle.bf_world.specs.Places.{content_at, is_file};
-ghost use Rattle.bf_world.specs.Done.{CountsStarted, answer_of, refusal, checks, done, Acts, after, with_file, with_folder, with_started, with_setting, without_setting, is_older, download};
+ghost use Rattle.bf_world.specs.Done.{CountsStarted, FitsCommand, StartsByStart, answer_of, refusal, checks, done, Acts, after, with_file, with_folder, with_started, with_setting, without_setting, is_older, download};
 
 use crate::path::joined;
 use crate::{Acted, Command, Node, ProcessNo, Run, SettingValue, World};
@@ -18,11 +19,14 @@ pub(crate) const DOWNLOAD: &str = "__Download";
 
 impl World {
     /// Does a command at a moment. Want of memory changes nothing.
+    #[tactic(auto, using(crate::proofs::StartedLemmas::by_start))]
     pub fn act(&mut self, command: &Command, moment: i64) -> Acted
         requires moment { IsMoment moment }
         requires date { HasMoment command.now }
         ensures acts { Acts self.old self.new result (done self.old command.now moment) }
         ensures started { CountsStarted (length self.old.started) (length self.new.started) result }
+        ensures by_start { StartsByStart command.now (length self.old.started) (length self.new.started) }
+        ensures fits { FitsCommand command.now result }
         ensures never { result ≢ Acted.Failed }
     {
         match self.refusal(command) {
@@ -82,7 +86,8 @@ impl World {
     }
 
     fn set_file(&mut self, path: &str, content: Bytes, moment: i64) -> Result<(), AllocError>
-        requires { IsMoment moment }
+        requires path { IsPath path.now }
+        requires moment { IsMoment moment }
         ensures ok { OnOk result (self.new ≡ with_file path.now content moment self.old) }
         ensures err { OnErr result (self.new ≡ self.old) }
     {
@@ -110,7 +115,8 @@ impl World {
     }
 
     fn append(&mut self, path: &str, more: &[u8], moment: i64) -> Result<(), AllocError>
-        requires { IsMoment moment }
+        requires path { IsPath path.now }
+        requires moment { IsMoment moment }
         ensures ok { OnOk result (self.new ≡ with_file path.now (content_at self.old path.now ++ more.now) moment self.old) }
         ensures err { OnErr result (self.new ≡ self.old) }
     {
@@ -120,6 +126,7 @@ impl World {
     }
 
     fn make_folder(&mut self, path: &str) -> Result<(), AllocError>
+        requires { IsPath path.now }
         ensures ok { OnOk result (self.new ≡ with_folder path.now self.old) }
         ensures err { OnErr result (self.new ≡ self.old) }
     {
@@ -131,6 +138,7 @@ impl World {
 
     /// The folder is made first, and taken away again where there is no memory for the file.
     fn place(&mut self, name: &str, content: Bytes, moment: i64) -> Result<(), AllocError>
+        requires path { IsPath (joined download name.now) }
         requires moment { IsMoment moment }
         requires no_file { is_file self.old download ≡ false }
         ensures ok { OnOk result (self.new ≡ with_file (joined download name.now) content moment (with_folder download self.old)) }
@@ -201,6 +209,7 @@ impl World {
 /// What a command answers that was done, with this number for a program that it started.
 fn answer_of(command: &Command, number: u32) -> Acted
     ensures answer { (w : WorldState) → length w.started ≡ number → result ≡ answer_of w command.now }
+    ensures fits { FitsCommand command.now result }
     ensures never { result ≢ Acted.Failed }
 {
     match command {

@@ -6,7 +6,7 @@ use rel_lexer::Text;
 use std::alloc::AllocError;
 
 /// What a look answers.
-#[derive(Debug, Drop)]
+#[derive(Drop)]
 pub enum Answer {
     /// Nothing of that sort is there.
     Nothing,
@@ -31,21 +31,21 @@ pub enum Answer {
 }
 
 /// What stands in a folder, by the last part of its path.
-#[derive(Debug, Drop)]
+#[derive(Drop)]
 pub struct Entry {
     pub name: Text,
     pub folder: bool,
 }
 
 /// A package, and its version as it was written.
-#[derive(Debug, Drop)]
+#[derive(Drop)]
 pub struct PackageRow {
     pub name: Text,
     pub version: Text,
 }
 
 /// A setting, and the moment from which it holds.
-#[derive(Debug, Drop)]
+#[derive(Drop)]
 pub struct SettingRow {
     pub name: Text,
     pub value: Text,

@@ -1,5 +1,6 @@
 ghost use Rattle.std.specs.Prelude.{◌≡◌, ◌++◌, ◌∷◌, [], ◌+◌, ◌^◌, ◌<◌, length, All, OnOk, OnErr, IfOk};
 ghost use Rattle.std.specs.Map.{values_of};
+ghost use Rattle.line_forms.specs.Paths.{IsPath};
 ghost use Rattle.line_forms.specs.Versions.{IsVersion};
 ghost use Rattle.bf_world.specs.Sound.{IsSoundNode, IsSoundProgram};
 ghost use Rattle.desk_base.specs.Moments.{IsMoment};
@@ -9,12 +10,13 @@ ghost use Rattle.bf_world.specs.Done.{given};
 
 use crate::{Node, PackageRow, Program, Run, SettingValue, TextMap, World};
 use rel_lexer::Text;
-use std::alloc::{AllocError, Global};
+use std::alloc::AllocError;
 
 impl World {
     /// Puts something at a path. An error is want of memory, here and below, and then nothing is changed.
     pub fn set_node(&mut self, path: &str, node: Node) -> Result<(), AllocError>
-        requires { IsSoundNode node }
+        requires path { IsPath path.now }
+        requires sound { IsSoundNode node }
         ensures ok { OnOk result (self.new ≡ with_node path.now node self.old) }
         ensures err { OnErr result (self.new ≡ self.old) }
     {
@@ -85,20 +87,10 @@ impl World {
     pub(crate) fn packages_with(&self, gives: &[PackageRow]) -> Result<TextMap<Text>, AllocError>
         ensures { IfOk result (λ versions. versions ≡ given gives.now self.now.packages) }
     {
-        let mut packages = copy_of(self.alloc, &self.packages)?;
+        let mut packages = self.packages.copy(self.alloc)?;
         for row in gives {
             packages.put(self.alloc, row.name.as_str(), row.version.copy()?)?;
         }
         Ok(packages)
     }
-}
-
-fn copy_of(alloc: Global, texts: &TextMap<Text>) -> Result<TextMap<Text>, AllocError>
-    ensures { IfOk result (λ copies. copies ≡ texts.now) }
-{
-    let mut copies = TextMap::new(alloc);
-    for (name, text) in texts.iter() {
-        copies.put(alloc, name.as_str(), text.copy()?)?;
-    }
-    Ok(copies)
 }

@@ -1,11 +1,12 @@
 ghost use Rattle.std.specs.Prelude.{◌≡◌, IfOk};
+ghost use Rattle.bf_world.specs.Reasons.{reason_name};
 
 use desk_base::Bytes;
 use rel_lexer::Text;
 use std::alloc::AllocError;
 
 /// What a machine can be told to do.
-#[derive(Debug, Drop)]
+#[derive(Drop)]
 pub enum Command {
     /// The file at the path has these bytes afterwards.
     Write(Text, Bytes),
@@ -32,7 +33,7 @@ pub enum Command {
 }
 
 /// Why a command isn't done.
-#[derive(Clone, Copy, Debug, PartialEq, Eq)]
+#[derive(Clone, Copy)]
 pub enum Reason {
     NoSuchFile,
     AlreadyThere,
@@ -44,11 +45,11 @@ pub enum Reason {
 }
 
 /// The number of a program that was started, counted from 0.
-#[derive(Clone, Copy, Debug, PartialEq, Eq)]
+#[derive(Clone, Copy)]
 pub struct ProcessNo(pub u32);
 
 /// What a command answers.
-#[derive(Clone, Copy, Debug, PartialEq, Eq)]
+#[derive(Clone, Copy)]
 pub enum Acted {
     Done,
     /// A program was started, and this is its number.
@@ -62,13 +63,30 @@ pub enum Acted {
 }
 
 /// What a poll of a started program answers.
-#[derive(Clone, Copy, Debug, PartialEq, Eq)]
+#[derive(Clone, Copy)]
 pub enum Polled {
     Running,
     /// The program has ended with this exit code.
     Exited(i64),
     /// The count of faults went up.
     Failed,
+}
+
+impl Reason {
+    /// Its name, as lines and causes write it.
+    pub fn name(self) -> &'static str
+        ensures { result.now ≡ reason_name self }
+    {
+        match self {
+            Reason::NoSuchFile => "NoSuchFile",
+            Reason::AlreadyThere => "AlreadyThere",
+            Reason::NoSuchFolder => "NoSuchFolder",
+            Reason::NotEmpty => "NotEmpty",
+            Reason::NotStarted => "NotStarted",
+            Reason::BadPath => "BadPath",
+            Reason::NotAFile => "NotAFile",
+        }
+    }
 }
 
 impl Command {

@@ -4,7 +4,7 @@ use rel_lexer::Text;
 use std::alloc::AllocError;
 
 /// What can be looked up on a machine.
-#[derive(Debug, Drop)]
+#[derive(Drop)]
 pub enum Key {
     /// What stands at a path.
     Stat(Text),

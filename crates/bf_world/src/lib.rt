@@ -5,6 +5,7 @@ mod act;
 mod answer;
 mod change;
 mod command;
+mod copied;
 mod key;
 mod lists;
 mod look;
@@ -24,6 +25,3 @@ pub use parts::{Node, Program, Run, SettingValue};
 pub use path::{is_part, is_path, joined, last_name};
 pub use text_map::TextMap;
 pub use world::World;
-
-#[cfg(test)]
-mod tests;

@@ -6,7 +6,7 @@ use std::alloc::AllocError;
 use std::marker::Model;
 
 /// The entries of a folder. Contracts see the list of them.
-#[derive(Debug, Drop)]
+#[derive(Drop)]
 pub struct EntryList {
     items: Vec<Entry>,
 }
@@ -55,7 +55,7 @@ impl EntryList {
 }
 
 /// Names. Contracts see the list of them.
-#[derive(Debug, Drop)]
+#[derive(Drop)]
 pub struct NameList {
     items: Vec<Text>,
 }
@@ -103,7 +103,7 @@ impl NameList {
 }
 
 /// Packages with their versions. Contracts see the list of them.
-#[derive(Debug, Drop)]
+#[derive(Drop)]
 pub struct PackageList {
     items: Vec<PackageRow>,
 }
@@ -161,7 +161,7 @@ impl PackageList {
 }
 
 /// Settings. Contracts see the list of them.
-#[derive(Debug, Drop)]
+#[derive(Drop)]
 pub struct SettingList {
     items: Vec<SettingRow>,
 }

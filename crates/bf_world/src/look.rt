@@ -2,7 +2,8 @@ ghost use Rattle.std.specs.Prelude.{◌≡◌, IfOk, map, if◌then◌else◌, i
 ghost use Rattle.bf_world.specs.Maps.{at};
 ghost use Rattle.std.specs.Map.{keys_of};
 ghost use Rattle.bf_world.specs.Places.{node_at, is_folder, is_file, has_parent};
-ghost use Rattle.bf_world.specs.Answers.{IsGoodAnswer};
+ghost use Rattle.bf_world.specs.Answers.{IsGoodAnswer, HasAscendingNames};
+ghost use Rattle.bf_world.specs.Sound.{IsSound, HasMaps};
 ghost use Rattle.bf_world.specs.Shown.{shown, stat_of, read_of, entry_in, entries_in, package_row, setting_row};
 
 use crate::path::{is_part, joined, last_name, parent_path};
@@ -18,9 +19,21 @@ impl World {
     pub fn look(&self, key: &Key) -> Result<Answer, AllocError>
         ensures shown { IfOk result (λ answer. answer ≡ shown self.now key.now) }
         ensures good { IfOk result IsGoodAnswer }
+        ensures ascending { IfOk result HasAscendingNames }
     {
-        let _ = &self.alloc;
+        self.is_sound();
         self.answer(key)
+    }
+
+    /// What holds of every world, for a caller that reads none of its fields.
+    fn is_sound(&self)
+        ensures sound { IsSound self.now }
+        ensures maps { HasMaps self.now }
+    {
+        self.paths.ascends();
+        self.packages.ascends();
+        self.processes.ascends();
+        self.settings.ascends();
     }
 
     fn answer(&self, key: &Key) -> Result<Answer, AllocError>

@@ -6,7 +6,7 @@ use desk_base::Bytes;
 use rel_lexer::Text;
 
 /// What stands at a path.
-#[derive(Debug, Drop)]
+#[derive(Drop)]
 pub enum Node {
     Folder,
     /// A file's bytes, and the moment at which it was last modified.
@@ -25,14 +25,14 @@ impl Node {
 }
 
 /// What a setting is, and the moment from which it holds.
-#[derive(Debug, Drop)]
+#[derive(Drop)]
 pub struct SettingValue {
     pub value: Text,
     pub date: i64,
 }
 
 /// A program that can be started.
-#[derive(Debug, Drop)]
+#[derive(Drop)]
 pub struct Program {
     /// How many polls find it running, from 0 to 1,000,000.
     pub polls: u32,
@@ -43,7 +43,7 @@ pub struct Program {
 }
 
 /// A program that was started.
-#[derive(Clone, Copy, Debug, PartialEq, Eq)]
+#[derive(Clone, Copy)]
 pub struct Run {
     /// How many polls still find it running.
     pub left: u32,

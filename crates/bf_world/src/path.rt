@@ -50,7 +50,7 @@ pub(crate) fn parent_path(path: &str) -> &str
 fn slash_behind(folder: &str) -> &'static str
     ensures { result.now ≡ slash_behind folder.now }
 {
-    if folder == "/" { "" } else { "/" }
+    if folder.ends_with('/') { "" } else { "/" }
 }
 
 /// The path of what has this name in a folder.

@@ -1,7 +1,8 @@
-ghost use Rattle.std.specs.Prelude.{◌≡◌, [], OnOk, OnErr, MatchOption};
+ghost use Rattle.std.specs.Prelude.{◌≡◌, [], OnOk, OnErr, IfOk, MatchOption};
 ghost use Rattle.std.specs.Option.{option_copied};
 ghost use Rattle.bf_world.specs.Maps.{at, put, without, by_bytes, IsMap};
 
+use crate::copied::Copied;
 use std::alloc::{AllocError, Global};
 use std::collections::BTreeMap;
 use std::collections::btree_map::Iter;
@@ -47,6 +48,13 @@ impl<V: Drop> TextMap<V> {
         self.map.iter()
     }
 
+    /// The keys ascend, for a caller that goes through none of them.
+    pub(crate) fn ascends(&self)
+        ensures { IsMap self.now }
+    {
+        let _ = self.iter();
+    }
+
     /// Sets the value at the key. The error is want of memory, and then nothing is changed.
     pub fn put(&mut self, alloc: Global, key: &str, value: V) -> Result<(), AllocError>
         ensures ok { OnOk result (self.new ≡ put key.now value self.old) }
@@ -65,5 +73,18 @@ impl<V: Drop> TextMap<V> {
         ensures entries { self.new ≡ without key.now self.old }
     {
         self.map.remove(key)
+    }
+}
+
+impl<V: Copied + Drop> TextMap<V> {
+    /// The same entries once more. The error is want of memory.
+    pub(crate) fn copy(&self, alloc: Global) -> Result<TextMap<V>, AllocError>
+        ensures { IfOk result (λ copies. copies ≡ self.now) }
+    {
+        let mut copies = TextMap::new(alloc);
+        for (key, value) in self.iter() {
+            copies.put(alloc, key.as_str(), value.copied()?)?;
+        }
+        Ok(copies)
     }
 }

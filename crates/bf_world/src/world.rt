@@ -1,4 +1,4 @@
-ghost use Rattle.std.specs.Prelude.{◌≡◌};
+ghost use Rattle.std.specs.Prelude.{◌≡◌, IfOk};
 ghost use Rattle.desk_base.specs.Moments.{IsMoment};
 ghost use Rattle.line_forms.specs.Versions.{IsVersion};
 ghost use Rattle.line_forms.specs.Numbers.{IsOffset};
@@ -6,7 +6,7 @@ ghost use Rattle.bf_world.specs.Worlds.{bare};
 
 use crate::{Node, Program, Run, SettingValue, TextMap};
 use rel_lexer::Text;
-use std::alloc::Global;
+use std::alloc::{AllocError, Global};
 use std::marker::Model;
 
 /// A described machine. Contracts see what is where on it.
@@ -68,6 +68,28 @@ impl World {
             programs: TextMap::new(alloc),
             started: Vec::new(alloc),
         }
+    }
+
+    /// The same world once more. The error is want of memory.
+    pub fn copy(&self) -> Result<World, AllocError>
+        ensures { IfOk result (λ world. world ≡ self.now) }
+    {
+        let alloc = self.alloc;
+        let world = World {
+            alloc,
+            name: self.name.copy()?,
+            system: self.system.copy()?,
+            version: self.version.copy()?,
+            offset: self.offset,
+            moment: self.moment,
+            paths: self.paths.copy(alloc)?,
+            packages: self.packages.copy(alloc)?,
+            processes: self.processes.copy(alloc)?,
+            settings: self.settings.copy(alloc)?,
+            programs: self.programs.copy(alloc)?,
+            started: self.started.as_slice().to_vec(alloc)?,
+        };
+        Ok(world)
     }
 
     /// The computer's name.

@@ -4,3 +4,4 @@ pub mod Moments
 pub mod Whole
 pub mod CallStates
 pub mod MemoryStates
+pub mod Rooms

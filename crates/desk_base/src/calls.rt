@@ -6,7 +6,7 @@ use std::marker::Model;
 
 /// The calls of an object in memory: which of them are to fail, how many there were, and how many failed.
 /// Both counts stand still at the last value of a u64.
-#[derive(Debug, Drop)]
+#[derive(Drop)]
 pub struct Calls {
     fails: Vec<u32>,
     made: u64,

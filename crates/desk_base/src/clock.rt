@@ -2,8 +2,11 @@ ghost use Rattle.std.specs.Prelude.{◌≡◌, ◌≢◌, ◌≤◌, List, ℕ, 
 ghost use Rattle.desk_base.specs.Counts.{Rose};
 ghost use Rattle.desk_base.specs.Moments.{Tells};
 
+/// The last moment that a clock gives and a text spells, in seconds since 1970-01-01 00:00:00 UTC (2^37).
+pub const LAST_MOMENT: i64 = 137_438_953_472;
+
 /// What a clock answers.
-#[derive(Clone, Copy, Debug, PartialEq, Eq)]
+#[derive(Clone, Copy)]
 pub enum Told {
     /// Seconds since 1970-01-01 00:00:00 UTC, from 0 to 137,438,953,472 (2^37).
     Moment(i64),

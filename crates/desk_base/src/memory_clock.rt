@@ -9,7 +9,7 @@ use std::alloc::Global;
 use std::marker::Model;
 
 /// A clock in memory. It gives a list of moments in turn, and fails where that is used up.
-#[derive(Debug, Drop)]
+#[derive(Drop)]
 pub struct StepClock {
     moments: Vec<i64>,
     at: usize,

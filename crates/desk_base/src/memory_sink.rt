@@ -9,7 +9,7 @@ use std::alloc::Global;
 use std::marker::Model;
 
 /// A sink in memory. A write that fails appends nothing. One for which no memory is left is a fault of the sink.
-#[derive(Debug, Drop)]
+#[derive(Drop)]
 pub struct MemorySink {
     bytes: Bytes,
     writes: Calls,

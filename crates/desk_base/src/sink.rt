@@ -3,7 +3,7 @@ ghost use Rattle.desk_base.specs.Counts.{Rose};
 ghost use Rattle.desk_base.specs.Flow.{Puts};
 
 /// What a write answers.
-#[derive(Clone, Copy, Debug, PartialEq, Eq)]
+#[derive(Clone, Copy)]
 pub enum Put {
     /// The whole piece was appended.
     Done,

@@ -3,7 +3,7 @@ ghost use Rattle.desk_base.specs.Counts.{Rose, CountsOne};
 ghost use Rattle.desk_base.specs.Flow.{Gives};
 
 /// What a read answers.
-#[derive(Clone, Copy, Debug, PartialEq, Eq)]
+#[derive(Clone, Copy)]
 pub enum Got {
     /// So many bytes stand at the front of the room, at least one.
     Some(usize),

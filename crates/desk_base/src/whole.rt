@@ -6,7 +6,7 @@ use crate::{Bytes, Got, Source};
 use std::alloc::Global;
 
 /// What reading a source to its end answers.
-#[derive(Debug, Drop)]
+#[derive(Drop)]
 pub enum Whole {
     /// These are all its bytes, at most the limit.
     Read(Bytes),

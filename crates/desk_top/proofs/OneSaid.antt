@@ -1,6 +1,7 @@
 -- A command says one thing of an input, where no look fails.
 use Rattle.std.proofs.Common.{◌≡◌, ℕ, zero, suc, ◌+◌, ◌-◌, ◌^◌, min, ◌<◌, ℤ, pos, Bool, true, false, cond, List, [], ◌∷◌, ◌++◌, length, All, None, Some, refl, sym, ap, ap₂, ◌∙◌, subst, arith, length-append}
 use Rattle.std.proofs.lemmas.List.{append_cancel_left}
+use Rattle.std.specs.declared.option.Option.{Option}
 use Rattle.std.proofs.lemmas.List.Elements.{All-head, All-tail}
 use Rattle.line_forms.specs.LineStates as states
 use Rattle.bf_world.specs.declared.key.Key.{Key}
@@ -35,18 +36,18 @@ questions (line ∷ lines) = asked line + questions lines
 asked_so : (line : List ℕ) (now : List ℤ) (colon : Bool) → begins_with_colon line ≡ colon → length now ≡ cond colon 0 1 → length now ≡ asked line
 asked_so line now colon is many = many ∙ sym (ap (λ b. cond b 0 1) is)
 
-count_answer : (w : WorldState) (offset : ℤ) (s : Session) (line : List ℕ) (what : Line) (now : List ℤ) (answer : Run) (s' : Session)
-    → Asks line what → Answers w offset s line what now answer s' → length now ≡ asked line
-count_answer w offset s line Question now answer s' asks (moment, is, answers) = asked_so line now false asks (ap (length {A = ℤ}) is)
-count_answer w offset s line (Page size) now answer s' asks answers = asked_so line now true (ap begins_with_colon asks.1) (ap (length {A = ℤ}) answers.0)
-count_answer w offset s line More now answer s' asks answers = asked_so line now true (ap begins_with_colon asks) (ap (length {A = ℤ}) answers.0)
-count_answer w offset s line NoCommand now answer s' asks answers = asked_so line now true asks.0 (ap (length {A = ℤ}) answers.0)
+count_answer : (world : Option WorldState) (offset : ℤ) (s : Session) (line : List ℕ) (what : Line) (now : List ℤ) (answer : Run) (s' : Session)
+    → Asks line what → Answers world offset s line what now answer s' → length now ≡ asked line
+count_answer world offset s line Question now answer s' asks (moment, is, answers) = asked_so line now false asks (ap (length {A = ℤ}) is)
+count_answer world offset s line (Page size) now answer s' asks answers = asked_so line now true (ap begins_with_colon asks.1) (ap (length {A = ℤ}) answers.0)
+count_answer world offset s line More now answer s' asks answers = asked_so line now true (ap begins_with_colon asks) (ap (length {A = ℤ}) answers.0)
+count_answer world offset s line NoCommand now answer s' asks answers = asked_so line now true asks.0 (ap (length {A = ℤ}) answers.0)
 
-count_runs : (w : WorldState) (offset : ℤ) (s : Session) (lines : List (List ℕ)) (moments : List ℤ) (run : Run) → Runs w offset s lines moments run → length moments ≡ questions lines
-count_runs w offset s [] moments run (none, is) = ap (length {A = ℤ}) none
-count_runs w offset s (line ∷ lines) moments run (now, later, all, (first, s', (what, asks, (answer, answers, said)), (rest, runs, is))) =
+count_runs : (world : Option WorldState) (offset : ℤ) (s : Session) (lines : List (List ℕ)) (moments : List ℤ) (run : Run) → Runs world offset s lines moments run → length moments ≡ questions lines
+count_runs world offset s [] moments run (none, is) = ap (length {A = ℤ}) none
+count_runs world offset s (line ∷ lines) moments run (now, later, all, (first, s', (what, asks, (answer, answers, said)), (rest, runs, is))) =
     ap (length {A = ℤ}) all ∙ length-append now later
-    ∙ ap₂ ◌+◌ (count_answer w offset s line what now answer s' asks answers) (count_runs w offset s' lines later rest runs)
+    ∙ ap₂ ◌+◌ (count_answer world offset s line what now answer s' asks answers) (count_runs world offset s' lines later rest runs)
 
 -- lists of one number, of the same length
 all_same : (m : ℤ) (xs ys : List ℤ) → All (λ x. x ≡ m) xs → All (λ x. x ≡ m) ys → length xs ≡ length ys → xs ≡ ys
@@ -63,10 +64,10 @@ no_faults (suc n) faults below rose = absurd (omega arith)
 
 -- what questions to a machine whose world is told write and look up
 qna_once : (w : WorldState) (input held a b : List ℕ) (looked keys others : List Key) (faults : ℕ) (given after : List ℤ) → faults < 2 ^ 64 - 1
-    → DidAll w (pos 0) fresh (lines_of input) None (telling held looked faults given) (telling a keys faults after)
-    → DidAll w (pos 0) fresh (lines_of input) None (telling held looked faults given) (telling b others faults after) → (a ≡ b) × (keys ≡ others)
+    → DidAll (Some w) (pos 0) fresh (lines_of input) None (telling held looked faults given) (telling a keys faults after)
+    → DidAll (Some w) (pos 0) fresh (lines_of input) None (telling held looked faults given) (telling b others faults after) → (a ≡ b) × (keys ≡ others)
 qna_once w input held a b looked keys others faults given after below (moments, run, runs, did) (moments', run', runs', did') =
-    let Ran : List ℤ → Type 0 = λ m. Runs w (pos 0) fresh (lines_of input) m run in
+    let Ran : List ℤ → Type 0 = λ m. Runs (Some w) (pos 0) fresh (lines_of input) m run in
     let same : moments ≡ moments' = append_cancel_left given moments moments' (sym did.dated ∙ did'.dated) in
     let one : run ≡ run' = runs_once w (pos 0) fresh (lines_of input) moments' run run' (subst Ran same runs) runs' (no_faults run.faults faults below did.faults) (no_faults run'.faults faults below did'.faults) in
     (did.written ∙ ap (λ r. held ++ r.bytes) one ∙ sym did'.written, did.looked ∙ ap (λ r. looked ++ r.looks) one ∙ sym did'.looked)
@@ -76,8 +77,8 @@ described_once : (w : WorldState) (rest held a b : List ℕ) (looked keys others
     → DidDescribed w rest (telling held looked faults given) (telling a keys faults after)
     → DidDescribed w rest (telling held looked faults given) (telling b others faults after) → a ≡ b
 described_once w rest held a b looked keys others faults given after (moments, run, runs, all, none, is) (moments', run', runs', all', none', is') =
-    let Ran : List ℤ → Type 0 = λ m. Runs w w.offset fresh (lines_of rest) m run in
-    let same : moments ≡ moments' = all_same w.moment moments moments' all all' (count_runs w w.offset fresh (lines_of rest) moments run runs ∙ sym (count_runs w w.offset fresh (lines_of rest) moments' run' runs')) in
+    let Ran : List ℤ → Type 0 = λ m. Runs (Some w) w.offset fresh (lines_of rest) m run in
+    let same : moments ≡ moments' = all_same w.moment moments moments' all all' (count_runs (Some w) w.offset fresh (lines_of rest) moments run runs ∙ sym (count_runs (Some w) w.offset fresh (lines_of rest) moments' run' runs')) in
     let one : run ≡ run' = runs_once w w.offset fresh (lines_of rest) moments' run run' (subst Ran same runs) runs' none none' in
     is ∙ ap (λ r. held ++ r.bytes) one ∙ sym is'
 
@@ -103,7 +104,7 @@ pub bytes_once : OneFinding → (command : Command) (w : WorldState) (input held
     → Did command (Some w) input (telling held looked faults given) (telling a keys faults after)
     → Did command (Some w) input (telling held looked faults given) (telling b others faults after) → a ≡ b
 bytes_once one Qna w input held a b looked keys others faults given after below did did' =
-    (qna_once w input held a b looked keys others faults given after below (did w refl) (did' w refl)).0
+    (qna_once w input held a b looked keys others faults given after below did did').0
 bytes_once one QnaWorld w input held a b looked keys others faults given after below (v, rest, is, did) (v', rest', is', did') =
     world_once input held a b looked keys others faults given after v rest is did v' rest' is' did'
 bytes_once one Check w input held a b looked keys others faults given after below (fixlets, baselines, found, is) (fixlets', baselines', found', is') =
@@ -115,7 +116,7 @@ pub looks_once : (w : WorldState) (input held a b : List ℕ) (looked keys other
     → Did Qna (Some w) input (telling held looked faults given) (telling a keys faults after)
     → Did Qna (Some w) input (telling held looked faults given) (telling b others faults after) → keys ≡ others
 looks_once w input held a b looked keys others faults given after below did did' =
-    (qna_once w input held a b looked keys others faults given after below (did w refl) (did' w refl)).1
+    (qna_once w input held a b looked keys others faults given after below did did').1
 
 -- an input has one first bad line
 one_bad_line : (input : List ℕ) (m n : ℕ) → IsBadInput input m → IsBadInput input n → m ≡ n

@@ -17,17 +17,17 @@ use Rattle.desk_top.specs.WorldInputs.{IsBadInput, IsWorldInput, bad_line}
 
 -- The lines are answered by a described world, at its moment and in its offset. No look fails.
 abbrev pub DidDescribed : WorldState → List ℕ → Devices → Devices → Type 0
-DidDescribed w rest old new = (moments : List ℤ) × (run : Run) × Runs w w.offset fresh (lines_of rest) moments run
+DidDescribed w rest old new = (moments : List ℤ) × (run : Run) × Runs (Some w) w.offset fresh (lines_of rest) moments run
     × All (λ moment. moment ≡ w.moment) moments × (run.faults ≡ 0) × Appends old.held new.held run.bytes
 
--- A front of that was written.
+-- A front of that was done.
 abbrev pub DidDescribedFront : WorldState → List ℕ → Devices → Devices → Type 0
-DidDescribedFront w rest old new = (moments : List ℤ) × (front : List ℕ) × IsFrontOfRun w w.offset fresh (lines_of rest) moments 0 front
-    × All (λ moment. moment ≡ w.moment) moments × Appends old.held new.held front
+DidDescribedFront w rest old new = (moments : List ℤ) × (front : Run) × IsFrontOfRun (Some w) w.offset fresh (lines_of rest) moments front
+    × All (λ moment. moment ≡ w.moment) moments × (front.faults ≡ 0) × Appends old.held new.held front.bytes
 
--- A command did all that it is to do. The machine's world, where it is told, answers the questions of `qna`, in the offset 0.
+-- A command did all that it is to do. The questions of `qna` are answered in the offset 0, by the machine's world where that is told.
 abbrev pub Did : Command → Option WorldState → List ℕ → Devices → Devices → Type 0
-Did Qna world input old new = (w : WorldState) → world ≡ Some w → DidAll w (pos 0) fresh (lines_of input) None old new
+Did Qna world input old new = DidAll world (pos 0) fresh (lines_of input) None old new
 Did QnaWorld world input old new = (w : WorldState) × (rest : List ℕ) × IsWorldInput input w rest × DidDescribed w rest old new
 Did Check world input old new = (fixlets baselines : ℕ) × Finds input (Good fixlets baselines) × Appends old.held new.held (finding_line (Good fixlets baselines))
 Did Help world input old new = Appends old.held new.held help_text
@@ -49,9 +49,9 @@ Refuses Help input line = ⊥
 abbrev pub IsRefused : Command → List ℕ → (List ℕ → Type 0) → Type 0
 IsRefused command input P = (line : List ℕ) × Refuses command input line × P line
 
--- A front of it was written.
+-- A front of it was done.
 abbrev pub Began : Command → Option WorldState → List ℕ → Devices → Devices → Type 0
-Began Qna world input old new = (w : WorldState) → world ≡ Some w → DidFront w (pos 0) fresh (lines_of input) None old new
+Began Qna world input old new = DidFront world (pos 0) fresh (lines_of input) None old new
 Began QnaWorld world input old new =
     ((w : WorldState) × (rest : List ℕ) × IsWorldInput input w rest × DidDescribedFront w rest old new)
     ⊎ IsRefused QnaWorld input (AppendsFront old.held new.held)

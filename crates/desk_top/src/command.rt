@@ -7,7 +7,7 @@ use rel_lexer::Text;
 use std::alloc::{AllocError, Global};
 
 /// What the words can ask for.
-#[derive(Clone, Copy, Debug, PartialEq, Eq)]
+#[derive(Clone, Copy)]
 pub enum Command {
     /// Questions to this machine: each line of the source is one, or a command that begins with `:`.
     Qna,

@@ -21,6 +21,8 @@ impl Machine for DescribedMachine {
 
     ghost acted = { λ _. None };
 
+    ghost polled = { λ _. None };
+
     ghost started = { λ m. length m.world.started };
 
     ghost faults = { λ _. 0 };

@@ -14,6 +14,3 @@ pub use command::Command;
 pub use law::one_said;
 pub use status::Status;
 pub use top::desk;
-
-#[cfg(test)]
-mod tests;

@@ -4,7 +4,7 @@ ghost use Rattle.desk_top.specs.Statuses.{status_number, status_of};
 use rel_session::Halt;
 
 /// How a run ended. The program exits with its number, 0 to 10 in this order.
-#[derive(Clone, Copy, Debug, PartialEq, Eq)]
+#[derive(Clone, Copy)]
 pub enum Status {
     /// All was read and said.
     Done,

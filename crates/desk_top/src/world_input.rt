@@ -7,7 +7,7 @@ use memchr::memchr;
 use std::alloc::AllocError;
 
 /// An input that is a world text and what comes behind it.
-#[derive(Clone, Copy, Debug, PartialEq, Eq)]
+#[derive(Clone, Copy)]
 pub(crate) struct WorldInput<'a> {
     pub(crate) world: &'a [u8],
     pub(crate) rest: &'a [u8],

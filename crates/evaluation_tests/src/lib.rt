@@ -2,4 +2,12 @@
 #![tactic(auto)]
 
 #[cfg(test)]
+mod described;
+#[cfg(test)]
+mod drawing;
+#[cfg(test)]
+mod events;
+#[cfg(test)]
 mod forms;
+#[cfg(test)]
+mod sessions;

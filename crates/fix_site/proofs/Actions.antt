@@ -56,9 +56,6 @@ state_is : (v : Bool) → state_choice v ≡ state_line v
 state_is true = refl
 state_is false = refl
 
-members_one : IsOneWay Both (single members_choice)
-members_one = one_way-line Both members_choice (λ v w is fine e. members_same v w e)
-
 state_one : IsOneWay Both (single state_choice)
 state_one = one_way-line Both state_choice (λ v w is fine e. state_same v w e)
 

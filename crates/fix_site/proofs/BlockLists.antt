@@ -37,14 +37,3 @@ blocks_over name old mid new blocks seen result are passes seen_is result_is non
     let Q : LineState → Type 0 = λ s. TakesBlocks name old s (Ok blocks) in
     let over = subst S seen_is none in
     subst P (sym result_is) (subst Q (sym over.0) (are, passes, over.1, over.2))
-
--- or a block is wrong
-pub blocks_wrong : (name : List ℕ) (old mid new : LineState) (blocks seen : List Block) (e : SiteError) → AreBlocks name blocks → Passes old mid (flat_map block_lines blocks) → seen ≡ blocks →
-    TakesBlock name seen mid new (Err e) → TakesBlocks name old new (Err e)
-blocks_wrong name old mid new blocks seen e are passes seen_is wrong =
-    let S : List Block → Type 0 = λ l. TakesBlock name l mid new (Err e) in
-    (blocks, mid, are, passes, subst S seen_is wrong)
-
--- or there is no memory
-pub blocks_memory : (name : List ℕ) (old mid new : LineState) (blocks : List Block) → AreBlocks name blocks → Passes old mid (flat_map block_lines blocks) → TakesBlocks name old new (Err error.Memory)
-blocks_memory name old mid new blocks are passes = (blocks, mid, are, passes, tt)

@@ -36,10 +36,6 @@ Behind4 title = Many (Anywhere IsRest) relevance_line no_tail Behind3
 abbrev Whole : Lines → Type 0
 Whole = Then IsRest (single title_line) Behind4
 
--- there are such lines
-some1 : (script : List (List ℕ)) → HasSome (Behind1 script)
-some1 script = (end_line ∷ [], refl)
-
 some2 : (s : Success) → HasSome (Behind2 s)
 some2 s = (end_line ∷ [], ([], end_line ∷ [], each_none FitsScript, refl, refl))
 

@@ -14,11 +14,13 @@ pub mod Fixlets
 pub mod Baselines
 pub mod BlockLines
 pub mod BlockLists
+pub mod KnownIds
 pub mod SiteParts
 pub mod SiteStops
 pub mod LineTexts
 pub mod SiteAnswers
 pub mod Laws
+pub mod OneReading
 pub mod PiecePlaces
 pub mod PieceSteps
 pub mod LineCounts

@@ -37,11 +37,6 @@ each_more {V} Can vs w each can before after v h =
       | inr e ↦ each before e.0 v e.1
     ]
 
--- the first values of a list stand so too
-pub each_front : {V : Type 0} (Can : List V → V → Type 0) (vs ws : List V) → EachCan Can (vs ++ ws) → EachCan Can vs
-each_front Can vs ws each before after v h =
-    each before (after ++ ws) v (ap (λ l. l ++ ws) h ∙ append_assoc before (v ∷ after) ws)
-
 -- behind the same values, one value is known by its lines
 abbrev pub OneWayBehind : {V : Type 0} → (List V → V → Type 0) → (V → Lines) → Type 0
 OneWayBehind {V} Can lines_of =

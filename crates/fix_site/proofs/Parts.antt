@@ -9,9 +9,6 @@ use Rattle.fix_site.specs.Readings.{AreLinesOf, StopsAt, IsNotAhead}
 abbrev pub Lines : Type 0
 Lines = List (List ℕ)
 
-abbrev pub LineSet : Type 1
-LineSet = Lines → Type 0
-
 pub cons_head : {A : Type 0} (x y : A) (xs ys : List A) → x ∷ xs ≡ y ∷ ys → x ≡ y
 cons_head x y xs ys h = cc
 
@@ -39,9 +36,6 @@ splits (x ∷ a) b (y ∷ c) d h =
 pub regroup : {a b c d : Lines} → a ≡ b → (m x : Lines) → c ≡ d → (n y : Lines) → (b ++ m) ++ x ≡ (d ++ n) ++ y → a ++ (m ++ x) ≡ c ++ (n ++ y)
 regroup {a} {b} {c} {d} h m x k n y e =
     ap (λ l. l ++ (m ++ x)) h ∙ sym (append_assoc b m x) ∙ e ∙ append_assoc d n y ∙ ap (λ l. l ++ (n ++ y)) (sym k)
-
-pub none_behind : (a b : Lines) → a ++ b ≡ a → b ≡ []
-none_behind a b h = append_cancel_left a b [] (h ∙ sym (append-nil a))
 
 -- the value that is spelled is known by its lines, whatever follows
 abbrev pub IsOneWay : {V : Type 0} → (V → Type 0) → (V → Lines) → Type 0

@@ -126,15 +126,6 @@ fixlet_length f =
     let e = length-map f.script held.content_line in
     omega arith
 
-pub baseline_length : (b : Baseline) → length (baseline_rest b) ≡ length b.relevance + length b.components + 2
-baseline_length b =
-    let components = map component_line b.components in
-    let a = length-append (map relevance_line b.relevance) (components ++ end_line ∷ []) in
-    let c = length-append components (end_line ∷ []) in
-    let d = length-map b.relevance relevance_line in
-    let e = length-map b.components component_line in
-    omega arith
-
 -- the pieces of a fixlet, added one after another
 pub fixlet_added : (f : Fixlet) (p q r s t : List Piece) (line a b c : ℕ) → q ≡ p → a ≡ line + 2 → r ≡ q ++ relevance_pieces a f.relevance → b ≡ a + length f.relevance → s ≡ r ++ success_pieces b f.success → c ≡ b + 1 →
     t ≡ s ++ script_pieces c f.script → t ≡ p ++ fixlet_pieces line f

@@ -8,3 +8,4 @@ pub mod Answers
 pub mod Pieces
 pub mod Readings
 pub mod BlockHeads
+pub mod KnownIds

@@ -6,7 +6,7 @@ use rel_lexer::Text;
 use std::alloc::AllocError;
 
 /// The computers on which an action is to run.
-#[derive(Debug, Drop)]
+#[derive(Drop)]
 pub enum Target {
     All,
     /// Those of these names, one or more.
@@ -16,7 +16,7 @@ pub enum Target {
 }
 
 /// The order to run a fixlet or a baseline.
-#[derive(Debug, Drop)]
+#[derive(Drop)]
 pub struct Action {
     /// From 1 to 2^53.
     pub id: u64,

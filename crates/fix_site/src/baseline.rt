@@ -6,7 +6,7 @@ use rel_lexer::Text;
 use std::alloc::AllocError;
 
 /// Fixlets that are run one after another.
-#[derive(Debug, Drop)]
+#[derive(Drop)]
 pub struct Baseline {
     /// From 1 to 2^53.
     pub id: u64,

@@ -8,7 +8,7 @@ use std::alloc::AllocError;
 use std::marker::Model;
 
 /// What a site is made of.
-#[derive(Debug, Drop)]
+#[derive(Drop)]
 pub enum Block {
     Fixlet(Fixlet),
     Baseline(Baseline),
@@ -40,7 +40,7 @@ impl Block {
 }
 
 /// Blocks in their order. Contracts see the list of them.
-#[derive(Debug, Drop)]
+#[derive(Drop)]
 pub struct Blocks {
     items: Vec<Block>,
 }

@@ -1,13 +1,13 @@
 ghost use Rattle.std.specs.Prelude.{ℕ, List, IfOk, IsTrue, ◌↔◌};
-ghost use Rattle.fix_site.specs.declared.block_reader.Kind.TheVariants.{Baseline, Action};
 ghost use Rattle.fix_site.specs.Ids.{IsId};
-ghost use Rattle.fix_site.specs.Blocks.{AreBlocks, HasId, block_rest};
+ghost use Rattle.fix_site.specs.Blocks.{AreBlocks, block_rest};
 ghost use Rattle.fix_site.specs.Readings.{TakesBlock, ReadsPart};
-ghost use Rattle.fix_site.specs.BlockHeads.{IsActions, IsHeadAhead, CanBegin, CanStand, IsBlockOf, FindsHead};
+ghost use Rattle.fix_site.specs.BlockHeads.{IsActions, IsHeadAhead, CanStand, IsBlockOf, FindsHead};
 
 use crate::action_reader::take_action;
 use crate::ahead::{rest_ahead, skip_line};
 use crate::block::Block;
+use crate::blocks_so_far::BlocksSoFar;
 use crate::content_reader::{take_baseline, take_fixlet};
 use crate::error::SiteError;
 use crate::field::read_id;
@@ -15,7 +15,7 @@ use line_forms::Lines;
 use std::alloc::{AllocError, Global};
 
 /// What a block is.
-#[derive(Clone, Copy, Debug, PartialEq, Eq)]
+#[derive(Clone, Copy)]
 enum Kind {
     Fixlet,
     Baseline,
@@ -34,7 +34,7 @@ struct Head {
 pub(crate) fn take_block(
     alloc: Global,
     name: &str,
-    blocks: &[Block],
+    blocks: &BlocksSoFar,
     lines: &mut Lines<'_>,
 ) -> Result<Option<Block>, SiteError>
     requires { AreBlocks name.now blocks.now }
@@ -43,7 +43,7 @@ pub(crate) fn take_block(
     let Some(head) = head_ahead(name, lines) else {
         return Ok(None);
     };
-    if has_id(blocks, head.id) {
+    if blocks.has_id(head.id) {
         return Err(SiteError::TwiceId(lines.number()));
     }
     if !can_follow(head, blocks) {
@@ -76,13 +76,6 @@ fn head_ahead(name: &str, lines: &Lines<'_>) -> Option<Head>
     head_of(Kind::Baseline, b"baseline", lines)
 }
 
-/// Whether a block with this id stands among these.
-fn has_id(blocks: &[Block], id: u64) -> bool
-    ensures { IsTrue result ↔ HasId blocks.now id }
-{
-    blocks.iter().any(|block| block.id() == id)
-}
-
 fn head_of(kind: Kind, word: &[u8], lines: &Lines<'_>) -> Option<Head>
     ensures { IsHeadAhead kind word.now lines.now result }
 {
@@ -96,37 +89,21 @@ fn head_of(kind: Kind, word: &[u8], lines: &Lines<'_>) -> Option<Head>
 }
 
 /// Whether a block with a new id can follow these: an action of a higher id, and a baseline where there is a fixlet.
-fn can_follow(head: Head, blocks: &[Block]) -> bool
+fn can_follow(head: Head, blocks: &BlocksSoFar) -> bool
     ensures { IsTrue result ↔ CanStand blocks.now head }
 {
     match head.kind {
         Kind::Fixlet => true,
-        Kind::Baseline => has_fixlets(blocks),
-        Kind::Action => are_below(blocks, head.id),
+        Kind::Baseline => blocks.has_fixlets(),
+        Kind::Action => blocks.are_below(head.id),
     }
-}
-
-fn has_fixlets(blocks: &[Block]) -> bool
-    ensures { IsTrue result ↔ CanBegin blocks.now Baseline 0 }
-{
-    blocks.iter().any(|block| match block {
-        Block::Fixlet(_) => true,
-        Block::Baseline(_) | Block::Action(_) => false,
-    })
-}
-
-/// Whether all ids of these blocks are below this one.
-fn are_below(blocks: &[Block], id: u64) -> bool
-    ensures { IsTrue result ↔ CanBegin blocks.now Action id }
-{
-    blocks.iter().all(|block| block.id() < id)
 }
 
 /// Takes the lines of a block behind the first.
 fn take_block_behind(
     alloc: Global,
     head: Head,
-    blocks: &[Block],
+    blocks: &BlocksSoFar,
     lines: &mut Lines<'_>,
 ) -> Result<Option<Block>, AllocError>
     requires id { IsId head.id }

@@ -1,15 +1,14 @@
-ghost use Rattle.std.specs.Prelude.{◌≡◌, ◌<◌, ◌+◌, ◌≤◌, ℕ, List, ◌++◌, length, IfOk, IsTrue, ◌↔◌, option_copied, MatchOption};
+ghost use Rattle.std.specs.Prelude.{◌≡◌, ◌<◌, ◌+◌, ◌≤◌, ℕ, List, ◌++◌, length, IfOk, option_copied, MatchOption};
 ghost use Rattle.line_forms.specs.Contents as held;
 ghost use Rattle.line_forms.specs.Fields.{field_text};
 ghost use Rattle.line_forms.specs.Names.{IsLineText, IsRest};
 ghost use Rattle.fix_site.specs.Ids.{IsId};
 ghost use Rattle.fix_site.specs.Contents.{IsSuccess, relevance_line, success_line, component_line, fixlet_rest, baseline_rest};
-ghost use Rattle.fix_site.specs.Blocks.{HasFixlet};
 ghost use Rattle.fix_site.specs.Readings.{ReadsPart, TakesOne, TakesAll, Anywhere, FitsScript, FitsRoom, IsFixletOf, IsBaselineOf, IsComponent};
 
 use crate::ahead::{line_ahead, rest_ahead, skip_line, take_exactly};
 use crate::baseline::Baseline;
-use crate::block::Block;
+use crate::blocks_so_far::BlocksSoFar;
 use crate::field::read_id;
 use crate::fixlet::{Fixlet, Success};
 use crate::ids::Ids;
@@ -70,7 +69,7 @@ pub(crate) fn take_fixlet(
 /// Takes the lines of a baseline behind the first. Its components are fixlets among these blocks.
 pub(crate) fn take_baseline(
     alloc: Global,
-    blocks: &[Block],
+    blocks: &BlocksSoFar,
     id: u64,
     lines: &mut Lines<'_>,
 ) -> Result<Option<Baseline>, AllocError>
@@ -154,7 +153,7 @@ fn take_script_line<'a>(count: usize, room: usize, lines: &mut Lines<'a>) -> Opt
 /// Takes the lines of components, as far as they go.
 fn take_components(
     alloc: Global,
-    blocks: &[Block],
+    blocks: &BlocksSoFar,
     lines: &mut Lines<'_>,
 ) -> Result<Ids, AllocError>
     ensures { IfOk result (λ components.
@@ -167,23 +166,13 @@ fn take_components(
     Ok(Ids::from_vec(components))
 }
 
-fn take_component(blocks: &[Block], lines: &mut Lines<'_>) -> Option<u64>
+fn take_component(blocks: &BlocksSoFar, lines: &mut Lines<'_>) -> Option<u64>
     ensures { TakesOne (IsComponent blocks.now) component_line lines.old lines.new result }
 {
     let id = read_id(rest_ahead(lines, b"component")?)?;
-    if !has_fixlet(blocks, id) {
+    if !blocks.has_fixlet(id) {
         return None;
     }
     skip_line(lines);
     Some(id)
-}
-
-/// Whether a fixlet with this id stands among these blocks.
-fn has_fixlet(blocks: &[Block], id: u64) -> bool
-    ensures { IsTrue result ↔ HasFixlet blocks.now id }
-{
-    blocks.iter().any(|block| match block {
-        Block::Fixlet(fixlet) => fixlet.id == id,
-        Block::Baseline(_) | Block::Action(_) => false,
-    })
 }

@@ -5,7 +5,7 @@ use rel_lexer::Text;
 use std::alloc::AllocError;
 
 /// What makes a run of a fixlet a success.
-#[derive(Debug, Drop)]
+#[derive(Drop)]
 pub enum Success {
     /// Each line of the script was done.
     Lines,
@@ -16,7 +16,7 @@ pub enum Success {
 }
 
 /// What is wrong, for whom, and what puts it right.
-#[derive(Debug, Drop)]
+#[derive(Drop)]
 pub struct Fixlet {
     /// From 1 to 2^53.
     pub id: u64,

@@ -4,7 +4,7 @@ use std::alloc::AllocError;
 use std::marker::Model;
 
 /// Ids in their order. Contracts see the list of them.
-#[derive(Debug, Drop)]
+#[derive(Drop)]
 pub struct Ids {
     items: Vec<u64>,
 }

@@ -1,4 +1,4 @@
-ghost use Rattle.std.specs.Prelude.{◌≡◌, ◌⊎◌, List, Result, length, All};
+ghost use Rattle.std.specs.Prelude.{◌≡◌, ◌≢◌, ◌≤◌, ◌⊎◌, ℕ, List, Result, length, All};
 ghost use Rattle.fix_site.specs.declared.action.Action.{Action};
 ghost use Rattle.fix_site.specs.declared.site.Site.{Site};
 ghost use Rattle.fix_site.specs.declared.error.SiteError.{SiteError};
@@ -9,6 +9,19 @@ ghost use Rattle.fix_site.specs.Answers.{IsShort, ReadsAction, ReadsSite};
 ghost use Rattle.fix_site.specs.Pieces.{IsPieceOf, pieces_of};
 
 use line_forms::lines_are_read_again;
+
+/// A text is read as a site in one way, unless memory runs out.
+pub fn one_reading()
+    ensures { (text : List ℕ) (answer other : Result Site SiteError) → answer ≢ Err Memory → other ≢ Err Memory
+        → ReadsSite text answer → ReadsSite text other → answer ≡ other }
+{
+    lines_are_read_again();
+}
+
+/// A site that is read has no more lines than its text may have bytes.
+pub fn a_site_has_few_lines()
+    ensures { (text : List ℕ) (site : Site) → ReadsSite text (Ok site) → length (site_lines site) ≤ 4194304 }
+{}
 
 /// A text is that of one site at most.
 pub fn one_site()

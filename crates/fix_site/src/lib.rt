@@ -8,6 +8,7 @@ mod ahead;
 mod baseline;
 mod block;
 mod block_reader;
+mod blocks_so_far;
 mod content_reader;
 mod content_writer;
 mod error;
@@ -33,7 +34,8 @@ pub use error::SiteError;
 pub use fixlet::{Fixlet, Success};
 pub use ids::Ids;
 pub use law::{
-    a_piece_stands_at_its_line, a_site_is_read_again, an_action_is_read_again, one_action, one_site,
+    a_piece_stands_at_its_line, a_site_has_few_lines, a_site_is_read_again,
+    an_action_is_read_again, one_action, one_reading, one_site,
 };
 pub use piece::{Piece, Pieces};
 pub use piece_list::pieces;
@@ -41,12 +43,3 @@ pub use site::Site;
 pub use site_reader::read_site;
 pub use site_writer::write_site;
 pub use texts::Texts;
-
-#[cfg(test)]
-mod action_cases;
-#[cfg(test)]
-mod site_cases;
-#[cfg(test)]
-mod table_tests;
-#[cfg(test)]
-mod tests;

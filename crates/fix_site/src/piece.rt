@@ -7,7 +7,7 @@ use std::marker::Model;
 
 /// A part of a site that is asked or run, and the number of the line of the site's text on which it begins, counted from
 /// 1.
-#[derive(Debug, Drop)]
+#[derive(Drop)]
 pub enum Piece {
     /// A question, of a `relevance` line or of a `success clause`.
     Relevance { line: u32, text: Text },
@@ -34,7 +34,7 @@ impl Piece {
 }
 
 /// Pieces in the order of their lines. Contracts see the list of them.
-#[derive(Debug, Drop)]
+#[derive(Drop)]
 pub struct Pieces {
     items: Vec<Piece>,
 }

@@ -1,11 +1,12 @@
-ghost use Rattle.std.specs.Prelude.{◌≡◌, IfOk};
+ghost use Rattle.std.specs.Prelude.{◌≡◌, Contains, IfOk, MatchOption};
+ghost use Rattle.fix_site.specs.Blocks.{HasId, block_id};
 
-use crate::block::Blocks;
+use crate::block::{Block, Blocks};
 use rel_lexer::Text;
 use std::alloc::AllocError;
 
 /// A collection of content under a name, or under `actionsite` the actions.
-#[derive(Debug, Drop)]
+#[derive(Drop)]
 pub struct Site {
     /// 1 to 64 ASCII letters, digits, `-`, `_` and `.`.
     pub name: Text,
@@ -16,6 +17,14 @@ pub struct Site {
 }
 
 impl Site {
+    /// The block with this id, if there is one.
+    pub fn block(&self, id: u64) -> Option<&Block>
+        ensures { MatchOption result (¬ HasId self.now.blocks id)
+            (λ block. Contains self.now.blocks block.now × (block_id block.now ≡ id)) }
+    {
+        self.blocks.as_slice().iter().find(|block| block.id() == id)
+    }
+
     /// The same site once more.
     pub fn copy(&self) -> Result<Site, AllocError>
         ensures { IfOk result (λ site. site ≡ self.now) }

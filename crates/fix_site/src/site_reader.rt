@@ -1,4 +1,4 @@
-ghost use Rattle.std.specs.Prelude.{◌≡◌, ◌++◌, ◌∷◌, [], ℕ, List, OnOk, MatchOption};
+ghost use Rattle.std.specs.Prelude.{◌≡◌, ◌∷◌, [], ℕ, List, MatchOption};
 ghost use Rattle.line_forms.specs.Names.{IsName};
 ghost use Rattle.fix_site.specs.Ids.{IsId};
 ghost use Rattle.fix_site.specs.Sites.{IsDigestValue, digest_line, site_line};
@@ -7,15 +7,16 @@ ghost use Rattle.fix_site.specs.Readings.{ReadsStated, TakesBlocks, TakesOne, Pa
 
 use crate::action_reader::LONGEST_TEXT;
 use crate::ahead::{is_over, rest_ahead, skip_line};
-use crate::block::{Block, Blocks};
+use crate::block::Blocks;
 use crate::block_reader::take_block;
+use crate::blocks_so_far::BlocksSoFar;
 use crate::error::SiteError;
 use crate::field::{Named, read_named};
 use crate::site::Site;
 use line_forms::{Lines, lines_make_the_text, read_digest};
 use rel_lexer::Text;
 use sha2::{Digest, Sha256};
-use std::alloc::{AllocError, Global};
+use std::alloc::Global;
 
 /// The bytes of a site's last line: `digest `, 64 digits and an LF.
 const DIGEST_LINE: usize = 72;
@@ -88,18 +89,11 @@ fn take_site<'a>(lines: &mut Lines<'a>) -> Option<Named<'a>>
 fn take_blocks(alloc: Global, name: &str, lines: &mut Lines<'_>) -> Result<Blocks, SiteError>
     ensures { TakesBlocks name.now lines.old lines.new result }
 {
-    let mut blocks = Vec::new(alloc);
-    while let Some(block) = take_block(alloc, name, blocks.as_slice(), lines)? {
-        add_block(block, &mut blocks)?;
+    let mut blocks = BlocksSoFar::new(alloc);
+    while let Some(block) = take_block(alloc, name, &blocks, lines)? {
+        blocks = blocks.with(block)?;
     }
-    Ok(Blocks::from_vec(blocks))
-}
-
-fn add_block(block: Block, blocks: &mut Vec<Block>) -> Result<(), AllocError>
-    ensures { OnOk result (blocks.new.items ≡ blocks.old.items ++ block ∷ []) }
-{
-    blocks.push(block)?;
-    Ok(())
+    Ok(blocks.into_blocks())
 }
 
 /// Takes the last line, if it is ahead.

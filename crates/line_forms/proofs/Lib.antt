@@ -6,3 +6,4 @@ pub mod PathLemmas
 mod DigestLemmas
 pub mod VersionLemmas
 pub mod BadLines
+pub mod Passing

@@ -5,7 +5,7 @@ use Rattle.line_forms.specs.Cuts.{Lacks, IsCut}
 use Rattle.line_forms.specs.Paths.{IsPart, AreParts, HasPathForm}
 use Rattle.line_forms.proofs.Pieces.{joined_first, joined_rest, joined_more, joined_one, only_joined}
 
-part-lacks : (part : List ℕ) → IsPart part → Lacks 47 part
+pub part-lacks : (part : List ℕ) → IsPart part → Lacks 47 part
 part-lacks part is = All-weaker (λ byte. (32 ≤ byte) × (byte ≢ 47)) (λ byte. byte ≢ 47) (λ byte h. h.1) part is.3
 
 pub parts_first : (text first rest : List ℕ) → IsCut 47 text first rest → AreParts text → IsPart first

@@ -11,3 +11,4 @@ pub mod Contents
 pub mod LineStates
 pub mod Lines
 pub mod BadLines
+pub mod Readers

@@ -27,3 +27,7 @@ pub record LineState : Type 0 where
   pub lines : List (List ℕ)
   pub unended : List ℕ
   pub number : ℕ
+
+-- a cursor before the first line of a text
+abbrev pub before_lines : List ℕ → LineState
+before_lines text = record { lines = lines_of text; unended = unended_of text; number = 1 }

@@ -1,11 +1,15 @@
 -- Numbers as texts: decimal digits without leading zeros. Below 0 a `-` stands before them, and 0 has none.
-use Rattle.std.specs.Prelude.{◌≡◌, ℕ, ◌≤◌, ℤ, pos, negsuc, ◌≤ℤ◌, List, decimal}
+use Rattle.std.specs.Prelude.{◌≡◌, ℕ, ◌^◌, ◌≤◌, ℤ, pos, negsuc, ◌≤ℤ◌, List, decimal}
 use Rattle.std.specs.Fmt.{signed_decimal}
 use Rattle.desk_base.specs.Moments.{IsMoment}
 
 -- the text is this number, from 0 to most
 abbrev pub IsNumber : ℕ → List ℕ → ℕ → Type 0
 IsNumber most text number = (number ≤ most) × (text ≡ decimal number)
+
+-- an id, or the version of a site: from 1 to 2^53
+abbrev pub IsId : ℕ → Type 0
+IsId number = (1 ≤ number) × (number ≤ 2 ^ 53)
 
 -- the text is this number, from least to most
 abbrev pub IsSignedNumber : ℤ → ℤ → List ℕ → ℤ → Type 0

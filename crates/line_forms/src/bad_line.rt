@@ -1,5 +1,6 @@
 ghost use Rattle.std.specs.Prelude.{◌≡◌, ℕ, List, [], ◌∷◌, ◌++◌};
-ghost use Rattle.line_forms.specs.LineStates.{LineState};
+ghost use Rattle.line_forms.specs.LineStates.{LineState, before_lines};
+ghost use Rattle.line_forms.specs.Readers.{IsOver, IsStuck, NeverGoesOn, Passes};
 ghost use Rattle.line_forms.specs.Lines.{StandsBehind};
 ghost use Rattle.line_forms.specs.BadLines.{IsTextOf, Begins, IsFirstBadLine, AnswersBadLine};
 
@@ -18,7 +19,8 @@ pub fn one_first_bad_line<F: LineForm>()
 {}
 
 /// A cursor stands at the first bad line where the lines behind it begin a text of the set, and none goes on with the line
-/// ahead, or there is none and the text isn't of the set.
+/// ahead, or there is none and the text isn't of the set. So it does where it went on as far as lines of the set go, or took
+/// all lines of a text with which none go on, and something is left.
 pub fn a_cursor_stands_at_the_bad_line<F: LineForm>()
     ensures wrong { (text line : List ℕ) (before more : List (List ℕ)) (cursor : LineState)
         → StandsBehind text before cursor → cursor.lines ≡ line ∷ more → Begins F.are_good before
@@ -26,4 +28,9 @@ pub fn a_cursor_stands_at_the_bad_line<F: LineForm>()
     ensures ended { (text : List ℕ) (before : List (List ℕ)) (cursor : LineState)
         → StandsBehind text before cursor → cursor.lines ≡ [] → Begins F.are_good before
         → ¬ IsTextOf F.are_good text → AnswersBadLine F.are_good text cursor.number }
+    ensures stuck { (text : List ℕ) (cursor : LineState) → IsStuck F.are_good (before_lines text) cursor
+        → AnswersBadLine F.are_good text cursor.number }
+    ensures left { (text : List ℕ) (lines : List (List ℕ)) (cursor : LineState)
+        → Passes (before_lines text) cursor lines → F.are_good lines → NeverGoesOn F.are_good lines → ¬ IsOver cursor
+        → AnswersBadLine F.are_good text cursor.number }
 {}

@@ -7,7 +7,7 @@ use std::marker::Model;
 
 /// A cursor over the fields of a line, which exactly one space separates. Contracts see the fields that are left. A field
 /// may be empty here; no reader of this crate takes an empty one.
-#[derive(Debug, Drop)]
+#[derive(Drop)]
 pub struct Fields<'a> {
     left: Option<&'a [u8]>,
 }

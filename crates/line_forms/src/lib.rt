@@ -12,11 +12,12 @@ mod lines;
 mod name;
 mod number;
 mod path;
+mod taking;
 mod version;
 
 pub use bad_line::{LineForm, a_cursor_stands_at_the_bad_line, one_first_bad_line};
 pub use content::{one_content, read_content, write_content};
-pub use cut::Cut;
+pub use cut::{Cut, a_text_is_its_pieces};
 pub use digest::{one_digest, read_digest, write_digest};
 pub use field_cursor::{Fields, a_line_is_its_fields};
 pub use fields::{after_word, first_field, one_first_field, write_field};
@@ -26,11 +27,8 @@ pub use lines::{
 };
 pub use name::{read_name, read_rest};
 pub use number::{
-    one_number, one_signed_number, read_i64, read_moment, read_number, read_offset, read_u32,
-    write_number, write_signed_number,
+    one_number, one_signed_number, read_i64, read_id, read_moment, read_number, read_offset,
+    read_u32, write_number, write_signed_number,
 };
-pub use path::{last_part, read_part, read_path};
-pub use version::{VersionNumbers, read_version, version_numbers};
-
-#[cfg(test)]
-mod tests;
+pub use path::{a_path_is_its_parts, last_part, read_part, read_path};
+pub use version::{VersionNumbers, a_version_is_its_numbers, read_version, version_numbers};

@@ -1,6 +1,7 @@
 ghost use Rattle.std.specs.Prelude.{◌≡◌, [], ◌∷◌, ◌++◌, List, ℕ, All, OnOk, OnErr};
-ghost use Rattle.line_forms.specs.LineStates.{LineState, lines_of, unended_of};
+ghost use Rattle.line_forms.specs.LineStates.{LineState, before_lines, lines_of, unended_of};
 ghost use Rattle.line_forms.specs.Lines.{ended_line, lines_text, IsLine, IsBehindLines, IsAhead, Takes, TakesLine, StandsBehind};
+ghost use Rattle.line_forms.specs.Readers.{IsOver, Passes};
 
 use crate::around::write_around;
 use crate::cut::cut_at;
@@ -9,7 +10,7 @@ use std::alloc::{AllocError, Global};
 use std::marker::Model;
 
 /// What stands ahead of a cursor over lines.
-#[derive(Clone, Copy, Debug, PartialEq, Eq)]
+#[derive(Clone, Copy)]
 pub enum Ahead<'a> {
     /// A line, without its LF.
     Line(&'a [u8]),
@@ -21,7 +22,7 @@ pub enum Ahead<'a> {
 
 /// A cursor over the lines of a text. It knows the number of the line ahead, counted from 1; a line that is missing at the
 /// end has the number after the last.
-#[derive(Debug, Drop)]
+#[derive(Drop)]
 pub struct Lines<'a> {
     left: &'a [u8],
     number: u32,
@@ -38,7 +39,7 @@ impl<'a> Model for Lines<'a> {
 impl<'a> Lines<'a> {
     /// Before the first line of the text.
     pub fn new(text: &'a [u8]) -> Lines<'a>
-        ensures { result ≡ record { lines = lines_of text.now; unended = unended_of text.now; number = 1 } }
+        ensures { result ≡ before_lines text.now }
     {
         Lines {
             left: text,
@@ -110,11 +111,13 @@ pub fn lines_are_read_again()
         → unended_of (lines_text lines ++ unended) ≡ unended }
 {}
 
-/// A cursor that begins and takes lines stands behind the lines that it took.
+/// A cursor that begins and takes lines stands behind the lines that it took. Where it passed these and nothing is left, the
+/// text is theirs.
 pub fn a_cursor_stands_behind_its_lines()
-    ensures start { (text : List ℕ) → StandsBehind text []
-        (record { lines = lines_of text; unended = unended_of text; number = 1 }) }
+    ensures start { (text : List ℕ) → StandsBehind text [] (before_lines text) }
     ensures next { (text line : List ℕ) (before : List (List ℕ)) (old new : LineState)
         → StandsBehind text before old → TakesLine old new line
         → StandsBehind text (before ++ line ∷ []) new }
+    ensures whole { (text : List ℕ) (lines : List (List ℕ)) (cursor : LineState)
+        → Passes (before_lines text) cursor lines → IsOver cursor → text ≡ lines_text lines }
 {}

@@ -1,16 +1,17 @@
-ghost use Rattle.std.specs.Prelude.{◌≡◌, ℕ, ℤ, ◌^◌, ◌-◌, pos, negsuc, ◌++◌, List, OnOk, OnErr, IsTrue, ◌↔◌};
+ghost use Rattle.std.specs.Prelude.{◌≡◌, ℕ, ℤ, ◌^◌, ◌-◌, pos, negsuc, ◌++◌, List, OnOk, OnErr, IsTrue, ◌↔◌, decimal};
 ghost use Rattle.std.specs.Fmt.{signed_decimal};
 ghost use Rattle.line_forms.specs.Reads.{Reads};
-ghost use Rattle.line_forms.specs.Numbers.{IsNumber, IsSignedNumber, IsMomentText, IsOffsetText};
+ghost use Rattle.line_forms.specs.Numbers.{IsNumber, IsSignedNumber, IsId, IsMomentText, IsOffsetText};
+ghost use Rattle.line_forms.specs.Readers.{Spells};
 
-use desk_base::Bytes;
+use desk_base::{Bytes, LAST_MOMENT};
 /// Appends a number in decimal digits, as `read_number` and `read_u32` read it.
 pub use desk_base::decimal as write_number;
 use itoa::{Buffer, Integer};
 use std::alloc::AllocError;
 
-/// The last moment, in seconds since 1970-01-01 00:00:00 UTC.
-const LAST_MOMENT: i64 = 137_438_953_472;
+/// The last id, and the last version of a site: 2^53.
+const LAST_ID: u64 = 9_007_199_254_740_992;
 
 /// The farthest offset from UTC, in minutes, to the east and to the west.
 const FARTHEST_OFFSET: i64 = 840;
@@ -46,6 +47,17 @@ pub fn read_u32(text: &[u8]) -> Option<u32>
     ensures { Reads (IsNumber (2 ^ 32 - 1) text.now) result }
 {
     read_number(text, u64::from(u32::MAX)).map(|number| number as u32)
+}
+
+/// Reads an id, or the version of a site: from 1 to 9,007,199,254,740,992 (2^53).
+pub fn read_id(text: &[u8]) -> Option<u64>
+    ensures { Spells IsId decimal text.now result }
+{
+    let id = read_number(text, LAST_ID)?;
+    if id == 0 {
+        return None;
+    }
+    Some(id)
 }
 
 /// Reads a number from `least` to `most`, with a `-` before its digits where it is below 0.

@@ -1,5 +1,5 @@
-ghost use Rattle.std.specs.Prelude.{IsTrue, ◌↔◌};
-ghost use Rattle.line_forms.specs.Cuts.{CutsLast};
+ghost use Rattle.std.specs.Prelude.{IsTrue, ◌↔◌, ℕ, List, ◌∷◌, All};
+ghost use Rattle.line_forms.specs.Cuts.{CutsLast, pieces};
 ghost use Rattle.line_forms.specs.Reads.{ReadsText};
 ghost use Rattle.line_forms.specs.Paths.{IsPart, IsPartText, AreParts, HasPathForm, IsPath};
 
@@ -46,6 +46,12 @@ pub fn last_part(path: &[u8]) -> Option<Cut<'_>>
 {
     cut_at_last(path, b'/')
 }
+
+/// The parts of a path are the pieces of its text between the `/`s, and none of them is before a leading `/`.
+pub fn a_path_is_its_parts()
+    ensures parts { (text : List ℕ) → AreParts text ↔ All IsPart (pieces 47 text) }
+    ensures rootless { (rest : List ℕ) → ¬ AreParts (47 ∷ rest) }
+{}
 
 fn has_path_form(text: &[u8]) -> bool
     ensures { IsTrue result ↔ HasPathForm text.now }

@@ -1,9 +1,10 @@
-ghost use Rattle.std.specs.Prelude.{◌≡◌, ◌++◌, ◌∷◌, [], ◌<◌, length, MatchOption, IsTrue, ◌↔◌};
+ghost use Rattle.std.specs.Prelude.{◌≡◌, ◌++◌, ◌∷◌, [], ◌<◌, ◌≤◌, ℕ, List, length, map, All, MatchOption, IsTrue, ◌↔◌};
 ghost use Rattle.std.specs.Char.{is_ascii_digit};
 ghost use Rattle.std.specs.List.{AllPass};
 ghost use Rattle.std.specs.Str.Parse.{digits_value};
 ghost use Rattle.line_forms.specs.Reads.{Reads, ReadsText};
 ghost use Rattle.line_forms.specs.Versions.{IsVersionNumber, IsVersionOf, IsVersion};
+ghost use Rattle.line_forms.specs.Cuts.{pieces};
 
 use crate::cut::cut_at;
 use std::marker::Model;
@@ -12,7 +13,7 @@ use std::marker::Model;
 const MOST_NUMBERS: usize = 4;
 
 /// The numbers of a version, from the left, one to four. Contracts see the list of them.
-#[derive(Debug, Drop)]
+#[derive(Drop)]
 pub struct VersionNumbers {
     numbers: [u32; 4],
     count: usize,
@@ -84,6 +85,12 @@ pub fn version_numbers(text: &[u8]) -> Option<VersionNumbers>
     }
     numbers.with(version_number(left)?)
 }
+
+/// The numbers of a version are those of the pieces of its text between the dots.
+pub fn a_version_is_its_numbers()
+    ensures { (text numbers : List ℕ) → IsVersionOf text numbers ↔ ((length (pieces 46 text) ≤ 4)
+        × All IsVersionNumber (pieces 46 text) × (numbers ≡ map (digits_value 10) (pieces 46 text))) }
+{}
 
 /// Reads one number of a version.
 fn version_number(digits: &[u8]) -> Option<u32>

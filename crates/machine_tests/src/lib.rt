@@ -2,6 +2,6 @@
 #![tactic(auto)]
 
 #[cfg(test)]
-mod rel_inspect;
+mod sources;
 #[cfg(test)]
-mod rel_sources;
+mod walks;

@@ -28,7 +28,7 @@ const ALONE: Scope<'static> = Scope {
 };
 
 /// What a pull answers.
-#[derive(Debug, Drop)]
+#[derive(Drop)]
 pub enum Pulled {
     /// The next value.
     Value(Value),
@@ -45,7 +45,7 @@ pub enum Pulled {
 }
 
 /// Whether a cursor can go on.
-#[derive(Clone, Copy, Debug)]
+#[derive(Clone, Copy)]
 pub enum State {
     Open,
     /// It was drawn to its end.

@@ -22,6 +22,3 @@ pub use rel_trace::RelKind;
 pub use taker::{Ended, Take, Taker};
 pub use told::{OneText, Truth};
 pub use truths::truth;
-
-#[cfg(test)]
-mod tests;

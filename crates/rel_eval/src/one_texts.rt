@@ -19,7 +19,6 @@ use crate::told::OneText;
 use bf_machine::Machine;
 use rel_inspect::Scene;
 use rel_lexer::Place;
-use rel_nodes::span;
 use rel_trace::RelKind;
 use rel_value::{Value, ValueFault, text};
 use std::alloc::Global;
@@ -46,7 +45,7 @@ pub fn one_text<M: Machine>(
     ensures acted { M.acted machine.new ≡ M.acted machine.old }
     ensures started { M.started machine.new ≡ M.started machine.old }
 {
-    let span = span(question.plan().root());
+    let span = question.span();
     if question.plan().is_plural() {
         return OneText::Error(RelKind::NotSingular, span);
     }

@@ -17,7 +17,6 @@ use crate::question::Question;
 use bf_machine::Machine;
 use rel_inspect::Scene;
 use rel_lexer::Place;
-use rel_nodes::span;
 use rel_trace::RelKind;
 use rel_value::Value;
 use std::alloc::Global;
@@ -49,7 +48,7 @@ pub(crate) fn one_value<M: Machine>(
     ensures acted { M.acted machine.new ≡ M.acted machine.old }
     ensures started { M.started machine.new ≡ M.started machine.old }
 {
-    let span = span(question.plan().root());
+    let span = question.span();
     let mut cursor = match question.open(alloc, scene) {
         Ok(cursor) => cursor,
         Err(_) => return OneValue::Memory,

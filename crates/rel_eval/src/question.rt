@@ -5,6 +5,7 @@ ghost use Rattle.bf_world.specs.Worlds.{WorldState};
 ghost use Rattle.rel_sources.specs.declared.scene.Scene.{Scene};
 ghost use Rattle.rel_nodes.specs.Meaning.{mean};
 ghost use Rattle.rel_nodes.specs.Nodes.{rest};
+ghost use Rattle.rel_nodes.specs.Spans.{span_of_node};
 ghost use Rattle.rel_types.specs.Views.{shown_node};
 ghost use Rattle.rel_eval.specs.declared.cursor.State.{State};
 ghost use Rattle.rel_eval.specs.Answers.{Prepares};
@@ -17,13 +18,13 @@ use crate::refusal::Refusal;
 use crate::sound_scene::SoundScene;
 use rel_grammar::parse;
 use rel_inspect::Scene;
-use rel_lexer::tokens;
-use rel_nodes::{Node, begin};
+use rel_lexer::{Place, tokens};
+use rel_nodes::{Node, begin, span};
 use rel_types::{Plan, check};
 use std::alloc::{AllocError, Global};
 
 /// A question that was prepared.
-#[derive(Debug, Drop)]
+#[derive(Drop)]
 pub struct Question {
     plan: Plan,
 }
@@ -45,6 +46,13 @@ impl Question {
         ensures { result.now ≡ self.now.plan }
     {
         &self.plan
+    }
+
+    /// The place from the first token of the question to its last.
+    pub fn span(&self) -> Place
+        ensures { result ≡ span_of_node (plan_of self.now) }
+    {
+        span(self.plan.root())
     }
 
     /// The same question once more.

@@ -8,7 +8,7 @@ use rel_types::TypeError;
 use std::alloc::{AllocError, AllocFailed};
 
 /// Why a text is no question.
-#[derive(Debug, Drop)]
+#[derive(Drop)]
 pub enum Refusal {
     /// It is refused for this, at this place.
     At(RelKind, Place),

@@ -3,7 +3,7 @@ use rel_trace::RelKind;
 use rel_value::Value;
 
 /// What a taker answers to a value.
-#[derive(Clone, Copy, Debug, PartialEq, Eq)]
+#[derive(Clone, Copy)]
 pub enum Take {
     /// It asks for the next value.
     More,
@@ -30,7 +30,7 @@ pub trait Taker {
 }
 
 /// How an answer ends.
-#[derive(Clone, Copy, Debug, PartialEq, Eq)]
+#[derive(Clone, Copy)]
 pub enum Ended {
     /// All values were taken.
     Stop,

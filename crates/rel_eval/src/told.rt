@@ -2,7 +2,7 @@ use rel_lexer::{Place, Text};
 use rel_trace::RelKind;
 
 /// What a question is that is asked for a truth.
-#[derive(Clone, Copy, Debug, PartialEq, Eq)]
+#[derive(Clone, Copy)]
 pub enum Truth {
     True,
     False,
@@ -14,7 +14,7 @@ pub enum Truth {
 }
 
 /// What a question is that is asked for a text.
-#[derive(Debug, Drop)]
+#[derive(Drop)]
 pub enum OneText {
     /// At most 1,048,576 bytes.
     Text(Text),

@@ -20,7 +20,6 @@ use crate::told::Truth;
 use bf_machine::Machine;
 use rel_inspect::Scene;
 use rel_lexer::Place;
-use rel_nodes::span;
 use rel_trace::RelKind;
 use rel_value::{Kind, Value};
 use std::alloc::Global;
@@ -48,7 +47,7 @@ pub fn truth<M: Machine>(
     ensures acted { M.acted machine.new ≡ M.acted machine.old }
     ensures started { M.started machine.new ≡ M.started machine.old }
 {
-    let span = span(question.plan().root());
+    let span = question.span();
     if question.plan().is_plural() {
         return Truth::Error(RelKind::NotSingular, span);
     }

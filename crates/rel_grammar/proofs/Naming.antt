@@ -3,13 +3,14 @@ use Rattle.std.proofs.Common.{◌≡◌, ℕ, ◌≤◌, List, [], ◌∷◌, �
 use Rattle.rel_lexer.specs.declared.place.Place.{Place}
 use Rattle.rel_grammar.specs.declared.vocabulary.Reserved.TheVariants as the
 use Rattle.rel_grammar.specs.Shapes.{reserved, word, AnyWord, Shaped}
-use Rattle.rel_grammar.specs.declared.error.ParseError.TheVariants.{NoParse}
+use Rattle.rel_grammar.specs.declared.error.ParseError.{ParseError}
+use Rattle.rel_grammar.specs.declared.error.ParseError.TheVariants.{NoParse, TooDeep, Memory}
 use Rattle.rel_grammar.specs.Grammar.{Words, one_word, more_words, Cast, cast_one, cast_more, Reference}
 use Rattle.rel_grammar.specs.Spelling.{Mark, mark, words_marks, shapes_of}
 use Rattle.rel_grammar.specs.Trees.{Plain, cast, words_text, words_place, cast_head, cast_list, reference_tree}
 use Rattle.rel_grammar.specs.Machine.{OverUnary, OverReference, depth_unary, depth_reference, next_cast, begin_primary, next_word, begin_cast, next_cast_word, go}
 use Rattle.rel_grammar.specs.Answers.{place_of}
-use Rattle.rel_grammar.specs.Reads.{shaped_at, Lacks, Begins, WordsRead, WordsEnd, CastsRead, CastsGoOn, CastsFail, BeginsWord}
+use Rattle.rel_grammar.specs.Reads.{shaped_at, Lacks, Begins, WordsRead, BeginsWord, CastReads, LacksCast, CastsRead, CastsEnd, CastsGoOn, CastsFail}
 use Rattle.rel_grammar.specs.declared.casts.CastTo.{CastTo}
 use Rattle.rel_grammar.specs.Shapes.{word_spelling}
 use Rattle.rel_grammar.proofs.Absent as absent
@@ -38,35 +39,45 @@ pub run_cast_words : (ws : Words) (l : Cast) (o : Place) (C : OverUnary) (rest :
 run_cast_words (one_word p w) l o C rest h = absent.low (depth_unary C) (depth_unary C) refl h _ _
 run_cast_words (more_words ws p w) l o C rest h = ap (go (begin_cast l o C)) (split (words_marks 0 ws) (mark 0 (word w) p) rest) ∙ run_cast_words ws l o C (shaped_at (word w) p ∷ rest) h ∙ absent.low (depth_unary C) (depth_unary C) refl h _ _
 
-pub casts_none : (x : Reference) (tokens : List Shaped) (tree : Plain) → tree ≡ reference_tree x → Lacks (reserved the.As) tokens → CastsRead x tokens tree tokens
-casts_none x tokens tree e h = record { found = cast_one x; tree_is = e; no_longer = omega arith; reads = λ C d. absent.no_as tokens (cast_one x) C h }
-
 pub casts_begin : (x : Reference) (tokens : List Shaped) (p : Place) (next : List Shaped) (list : List CastTo) → Begins (reserved the.As) tokens p next → list ≡ [] → CastsGoOn x tokens list next
 casts_begin x tokens p next list e k = record { found = cast_one x; place = p; head_is = refl; casts_are = k; shorter = omega (arith, ap length e); reads = λ C d. ap (go (next_cast (cast_one x) C)) e ∙ absent.low (depth_unary C) (depth_unary C) refl d _ _ }
 
-one_cast : (x : Reference) (tokens : List Shaped) (list : List CastTo) (next : List Shaped) (p : Place) (t : List ℕ) (more : List Shaped) (text : List ℕ) (place : Place) (left : List Shaped) → (g : CastsGoOn x tokens list next) → (b : BeginsWord next p t more) → (r : WordsRead b.0 p more text place left) → WordsEnd left → (C : OverUnary) → depth_unary C ≤ 64 → go (next_cast (cast_one x) C) tokens ≡ go (next_cast (cast_more g.found g.place r.found) C) left
-one_cast x tokens list next p t more text place left g b r z C d = g.reads C d ∙ ap (go (begin_cast g.found g.place C)) (b.1 ∙ r.splits) ∙ run_cast_words r.found g.found g.place C left d ∙ absent.no_cast_word left g.found g.place r.found C z
+one_cast : (x : Reference) (tokens : List Shaped) (list : List CastTo) (next : List Shaped) (c : CastTo) (left : List Shaped) → (g : CastsGoOn x tokens list next) → (r : CastReads next c left) → (C : OverUnary) → depth_unary C ≤ 64 → go (next_cast (cast_one x) C) tokens ≡ go (next_cast (cast_more g.found g.place r.words.found) C) left
+one_cast x tokens list next c left g r C d = g.reads C d ∙ ap (go (begin_cast g.found g.place C)) (r.begins ∙ r.words.splits) ∙ run_cast_words r.words.found g.found g.place C left d ∙ absent.no_cast_word left g.found g.place r.words.found C r.ends
 
-one_list : (l : Cast) (o : Place) (ws : Words) (list list' : List CastTo) (text : List ℕ) (place : Place) → list ≡ cast_list l → list' ≡ list ++ (record { place = place; words = text } ∷ []) → place ≡ words_place ws → text ≡ words_text ws → list' ≡ cast_list (cast_more l o ws)
-one_list l o ws list list' text place e k p t = k ∙ ap (λ x. x ++ (record { place = place; words = text } ∷ [])) e ∙ ap (λ x. cast_list l ++ (record { place = x; words = text } ∷ [])) p ∙ ap (λ x. cast_list l ++ (record { place = words_place ws; words = x } ∷ [])) t
+one_list : (l : Cast) (o : Place) (ws : Words) (list list' : List CastTo) (c : CastTo) → list ≡ cast_list l → list' ≡ list ++ (c ∷ []) → c.place ≡ words_place ws → c.words ≡ words_text ws → list' ≡ cast_list (cast_more l o ws)
+one_list l o ws list list' c e k p t = k ∙ ap (λ x. x ++ (c ∷ [])) e ∙ ap (λ x. cast_list l ++ (record { place = x; words = c.words } ∷ [])) p ∙ ap (λ x. cast_list l ++ (record { place = words_place ws; words = x } ∷ [])) t
 
-pub casts_more : (x : Reference) (tokens : List Shaped) (list list' : List CastTo) (next : List Shaped) (p : Place) (t : List ℕ) (more : List Shaped) (text : List ℕ) (place : Place) (left : List Shaped) (o : Place) (next' : List Shaped) → CastsGoOn x tokens list next → (b : BeginsWord next p t more) → WordsRead b.0 p more text place left → WordsEnd left → Begins (reserved the.As) left o next' → list' ≡ list ++ (record { place = place; words = text } ∷ []) → CastsGoOn x tokens list' next'
-casts_more x tokens list list' next p t more text place left o next' g b r z i k = record {
-  found = cast_more g.found g.place r.found;
-  place = o;
-  head_is = g.head_is;
-  casts_are = one_list g.found g.place r.found list list' text place g.casts_are k r.place_is r.text_is;
-  shorter = omega (arith, g.shorter, r.no_longer, ap length b.1, ap length i);
-  reads = λ C d. one_cast x tokens list next p t more text place left g b r z C d ∙ ap (go (next_cast (cast_more g.found g.place r.found) C)) i ∙ absent.low (depth_unary C) (depth_unary C) refl d _ _;
-}
+pub casts_more : (x : Reference) (tokens : List Shaped) (list list' : List CastTo) (next : List Shaped) (c : CastTo) (left : List Shaped) (o : Place) (next' : List Shaped) → CastsGoOn x tokens list next → CastReads next c left → Begins (reserved the.As) left o next' → list' ≡ list ++ (c ∷ []) → CastsGoOn x tokens list' next'
+casts_more x tokens list list' next c left o next' g r i k =
+    let w = r.words in
+    record {
+      found = cast_more g.found g.place w.found;
+      place = o;
+      head_is = g.head_is;
+      casts_are = one_list g.found g.place w.found list list' c g.casts_are k w.place_is w.text_is;
+      shorter = omega (arith, g.shorter, w.no_longer, ap length r.begins, ap length i);
+      reads = λ C d. one_cast x tokens list next c left g r C d ∙ ap (go (next_cast (cast_more g.found g.place w.found) C)) i ∙ absent.low (depth_unary C) (depth_unary C) refl d _ _;
+    }
 
-pub casts_last : (x : Reference) (tokens : List Shaped) (first : Plain) (list list' : List CastTo) (next : List Shaped) (p : Place) (t : List ℕ) (more : List Shaped) (text : List ℕ) (place : Place) (left : List Shaped) (tree : Plain) → first ≡ reference_tree x → CastsGoOn x tokens list next → (b : BeginsWord next p t more) → WordsRead b.0 p more text place left → WordsEnd left → Lacks (reserved the.As) left → list' ≡ list ++ (record { place = place; words = text } ∷ []) → tree ≡ cast first list' → CastsRead x tokens tree left
-casts_last x tokens first list list' next p t more text place left tree f g b r z i k a = record {
-  found = cast_more g.found g.place r.found;
-  tree_is = a ∙ ap (λ y. cast y list') (f ∙ g.head_is) ∙ ap (cast (cast_head g.found)) (one_list g.found g.place r.found list list' text place g.casts_are k r.place_is r.text_is);
-  no_longer = omega (arith, g.shorter, r.no_longer, ap length b.1);
-  reads = λ C d. one_cast x tokens list next p t more text place left g b r z C d ∙ absent.no_as left (cast_more g.found g.place r.found) C i;
-}
+pub casts_last : (x : Reference) (tokens : List Shaped) (list list' : List CastTo) (next : List Shaped) (c : CastTo) (left : List Shaped) → CastsGoOn x tokens list next → CastReads next c left → Lacks (reserved the.As) left → list' ≡ list ++ (c ∷ []) → CastsEnd x tokens list' left
+casts_last x tokens list list' next c left g r i k =
+    let w = r.words in
+    record {
+      found = cast_more g.found g.place w.found;
+      tree_is = ap (λ y. cast y list') g.head_is ∙ ap (cast (cast_head g.found)) (one_list g.found g.place w.found list list' c g.casts_are k w.place_is w.text_is);
+      no_longer = omega (arith, g.shorter, w.no_longer, ap length r.begins);
+      reads = λ C d. one_cast x tokens list next c left g r C d ∙ absent.no_as left (cast_more g.found g.place w.found) C i;
+    }
 
-pub casts_fail : (x : Reference) (end : ℕ) (tokens : List Shaped) (list : List CastTo) (next : List Shaped) (at : Place) → CastsGoOn x tokens list next → WordsEnd next → at ≡ place_of end next → CastsFail x end tokens (NoParse at)
-casts_fail x end tokens list next at g z e = λ C d. (next, g.reads C d ∙ absent.no_first_word next g.found g.place C z, e)
+pub casts_fail : (x : Reference) (end : ℕ) (tokens : List Shaped) (list : List CastTo) (next : List Shaped) (e : ParseError) → CastsGoOn x tokens list next → LacksCast end next e → CastsFail x end tokens e
+casts_fail x end tokens list next (NoParse at) g z = λ C d. (next, g.reads C d ∙ absent.no_first_word next g.found g.place C z.0, z.1)
+casts_fail x end tokens list next (TooDeep at) g z = absurd z
+casts_fail x end tokens list next Memory g z = λ C d. tt
+
+-- what is cast, with its casts or without
+pub casts_none : (x : Reference) (tokens : List Shaped) (tree : Plain) → tree ≡ reference_tree x → Lacks (reserved the.As) tokens → CastsRead x tokens tree tokens
+casts_none x tokens tree e h = record { found = cast_one x; tree_is = e; no_longer = omega arith; reads = λ C d. absent.no_as tokens (cast_one x) C h }
+
+pub casts_some : (x : Reference) (tokens : List Shaped) (first : Plain) (list : List CastTo) (left : List Shaped) (tree : Plain) → first ≡ reference_tree x → CastsEnd x tokens list left → tree ≡ cast first list → CastsRead x tokens tree left
+casts_some x tokens first list left tree f r a = record { found = r.found; tree_is = a ∙ ap (λ y. cast y list) f ∙ r.tree_is; no_longer = r.no_longer; reads = r.reads }

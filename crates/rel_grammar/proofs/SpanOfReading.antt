@@ -6,6 +6,7 @@ use Rattle.rel_grammar.specs.Shapes.{Shaped}
 use Rattle.rel_grammar.specs.Grammar.{Words, one_word, more_words, Collection, collection_one, collection_more, Tuple, tuple_one, tuple_more, Choice, if_then, no_if, Bar, bar_one, bar_more, Either, either_one, either_more, Both, both_one, both_more, Relation, no_relop, relates, Sum, sum_one, sum_more, Product, product_one, product_more, Unary, signed, no_sign, Cast, cast_one, cast_more, Reference, no_object, of_object, Term, no_filter, filtered, Primary, a_number, a_string, an_it, brackets, some_words, with_argument, Argument, argument_number, argument_string, argument_brackets, Question}
 use Rattle.rel_grammar.specs.Spelling.{Mark, words_marks, relop_marks, collection_marks, tuple_marks, choice_marks, bar_marks, either_marks, both_marks, relation_marks, sum_marks, product_marks, unary_marks, cast_marks, reference_marks, term_marks, primary_marks, argument_marks, shapes_of}
 use Rattle.rel_grammar.specs.Sentences.{Sentence}
+use Rattle.rel_grammar.specs.Readings.{Reading, a_collection, a_tuple, a_choice, a_bar, an_either, a_both, a_relation, a_sum, a_product, a_unary, a_cast, a_reference, a_term, a_primary, reading_marks, reading_tree}
 use Rattle.rel_grammar.specs.Trees.{Plain, numeral, literal, it, phrase, body, with_filter, with_object, words_from, words_to, words_place, words_text, argument_to, collection_tree, collection_parts, tuple_tree, tuple_parts, choice_tree, bar_tree, bar_head, either_tree, either_head, both_tree, both_head, relation_tree, sum_tree, sum_head, product_tree, product_head, unary_tree, cast_tree, cast_head, cast_list, reference_tree, term_tree, primary_tree, question_tree}
 use Rattle.rel_grammar.specs.Spans.{begin_of, end_of, parts_begin, casts_end, span_of_tree, Spans}
 
@@ -251,17 +252,33 @@ e_collection : (d : ℕ) (x : Collection) → Stops (collection_marks d x) (end_
 e_collection d (collection_one x) = e_tuple d x
 e_collection d (collection_more l p x) = behind (collection_marks d l) _ _ (past _ _ _ (e_tuple d x))
 
+spans_of : (ms : List Mark) (t : Plain) → Starts ms (begin_of t) → Stops ms (end_of t) → Spans (shapes_of ms) (span_of_tree t)
+spans_of ms t b l = record {
+  first = b.first.token;
+  more = shapes_of b.more;
+  begins = ap shapes_of b.is;
+  from = b.at;
+  before = shapes_of l.before;
+  last = l.last.token;
+  ends = ap shapes_of l.is ∙ map-append (λ m. m.token) l.before (l.last ∷ []);
+  to = l.at;
+}
+
+pub reading_spans : (d : ℕ) (x : Reading) → Spans (shapes_of (reading_marks d x)) (span_of_tree (reading_tree x))
+reading_spans d (a_collection x) = spans_of _ (collection_tree x) (b_collection d x) (e_collection d x)
+reading_spans d (a_tuple x) = spans_of _ (tuple_tree x) (b_tuple d x) (e_tuple d x)
+reading_spans d (a_choice x) = spans_of _ (choice_tree x) (b_choice d x) (e_choice d x)
+reading_spans d (a_bar x) = spans_of _ (bar_tree x) (b_bar d x) (e_bar d x)
+reading_spans d (an_either x) = spans_of _ (either_tree x) (b_either d x) (e_either d x)
+reading_spans d (a_both x) = spans_of _ (both_tree x) (b_both d x) (e_both d x)
+reading_spans d (a_relation x) = spans_of _ (relation_tree x) (b_relation d x) (e_relation d x)
+reading_spans d (a_sum x) = spans_of _ (sum_tree x) (b_sum d x) (e_sum d x)
+reading_spans d (a_product x) = spans_of _ (product_tree x) (b_product d x) (e_product d x)
+reading_spans d (a_unary x) = spans_of _ (unary_tree x) (b_unary d x) (e_unary d x)
+reading_spans d (a_cast x) = spans_of _ (cast_tree x) (b_cast d x) (e_cast d x)
+reading_spans d (a_reference x) = spans_of _ (reference_tree x) (b_reference d x) (e_reference d x)
+reading_spans d (a_term x) = spans_of _ (term_tree x) (b_term d x) (e_term d x)
+reading_spans d (a_primary x) = spans_of _ (primary_tree x) (b_primary d x) (e_primary d x)
+
 pub question_spans : (tokens : List Shaped) (q : Question) → Sentence tokens q → Spans tokens (span_of_tree (question_tree q))
-question_spans tokens q e =
-    let b = b_collection 0 q in
-    let l = e_collection 0 q in
-    record {
-      first = b.first.token;
-      more = shapes_of b.more;
-      begins = e ∙ ap shapes_of b.is;
-      from = b.at;
-      before = shapes_of l.before;
-      last = l.last.token;
-      ends = e ∙ ap shapes_of l.is ∙ map-append (λ m. m.token) l.before (l.last ∷ []);
-      to = l.at;
-    }
+question_spans tokens q e = subst (λ ts. Spans ts (span_of_tree (question_tree q))) (sym e) (reading_spans 0 (a_collection q))

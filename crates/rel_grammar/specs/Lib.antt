@@ -9,3 +9,4 @@ pub mod Spans
 pub mod Machine
 pub mod Answers
 pub mod Reads
+pub mod Readings

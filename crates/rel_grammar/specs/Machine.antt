@@ -1,4 +1,4 @@
--- A machine that reads a question token by token.
+-- A machine that reads a question token by token. Only private functions cite it.
 use Rattle.std.specs.Prelude.{ℕ, ◌+◌, List, [], ◌∷◌, Option, Some, None, cond, nat_lt}
 use Rattle.rel_lexer.specs.declared.place.Place.{Place}
 use Rattle.rel_lexer.specs.declared.sign.Sign.TheVariants as lex

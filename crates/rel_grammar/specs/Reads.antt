@@ -1,4 +1,4 @@
--- What each function of the parser does, in terms of the machine.
+-- What each function of the parser does, in terms of the machine. Only private functions cite it.
 use Rattle.std.specs.Prelude.{◌≡◌, ℕ, ℤ, ◌+◌, ◌≤◌, ◌<◌, List, [], ◌∷◌, ◌++◌, length, Option, Some, ⊤}
 use Rattle.rel_lexer.specs.declared.place.Place.{Place}
 use Rattle.rel_lexer.specs.declared.sign.Sign.TheVariants as lex
@@ -8,6 +8,7 @@ use Rattle.rel_lexer.specs.declared.operator.BinarySign.{BinarySign}
 use Rattle.rel_lexer.specs.declared.operator.BinarySign.TheVariants as operator
 use Rattle.rel_grammar.specs.declared.vocabulary.Fixed.{Fixed}
 use Rattle.rel_grammar.specs.declared.vocabulary.Fixed.TheVariants as fixed
+use Rattle.rel_grammar.specs.declared.vocabulary.Reserved.{Reserved}
 use Rattle.rel_grammar.specs.declared.vocabulary.Reserved.TheVariants as the
 use Rattle.rel_grammar.specs.declared.vocabulary.Helper.{Helper}
 use Rattle.rel_grammar.specs.declared.casts.CastTo.{CastTo}
@@ -21,8 +22,8 @@ use Rattle.rel_grammar.specs.Grammar.{no_sign}
 use Rattle.rel_grammar.specs.Spelling.{comparison_kind, sum_kind, product_kind, unary_kind, words_marks, shapes_of}
 use Rattle.rel_grammar.specs.Answers.{place_of}
 use Rattle.rel_grammar.specs.Sentences.{deepest}
-use Rattle.rel_grammar.specs.Trees.{Plain, numeral, literal, it, phrase, body, no_tree, a_tree, enclosed, Linked, Parts, span_of, words_text, words_place, comparison_sign, sum_operator, product_operator, relop_sign, relop_place, collection_tree, collection_parts, tuple_tree, tuple_parts, choice_tree, bar_tree, bar_head, bar_links, either_tree, either_head, either_links, both_tree, both_head, both_links, relation_tree, sum_tree, sum_head, sum_links, product_tree, product_head, product_links, unary_tree, cast_tree, cast_head, cast_list, reference_tree, term_tree, primary_tree}
-use Rattle.rel_grammar.specs.Machine.{OverCollection, in_brackets, in_argument, in_filter, OverTuple, collection_first, OverChoice, tuple_first, OverBar, OverEither, bar_first, bar_next, OverBoth, either_first, either_next, OverRelation, both_first, both_next, OverSum, left_side, right_side, OverProduct, sum_first, sum_next, OverUnary, product_first, product_next, OverReference, Partial, Step, to, want_choice, depth_collection, depth_tuple, depth_choice, depth_bar, depth_either, depth_both, depth_relation, depth_sum, depth_product, depth_unary, depth_reference, over_product, over_sum, over_relation, over_both, over_either, next_collection, end_tuple, next_tuple, next_choice, end_bar, next_bar, end_either, next_either, end_both, next_both, next_relation, end_sum, next_sum, end_product, next_product, next_unary, next_cast, next_reference, next_term, next_primary, begin_primary, begin_unary, begin_choice, begin_collection, begin_cast, next_relop, Answer, no_parse, too_deep, go}
+use Rattle.rel_grammar.specs.Trees.{Plain, numeral, literal, it, phrase, body, no_tree, a_tree, cast, enclosed, Linked, Parts, span_of, words_text, words_place, comparison_sign, sum_operator, product_operator, relop_sign, relop_place, collection_tree, collection_parts, tuple_tree, tuple_parts, choice_tree, bar_tree, bar_head, bar_links, either_tree, either_head, either_links, both_tree, both_head, both_links, relation_tree, sum_tree, sum_head, sum_links, product_tree, product_head, product_links, unary_tree, cast_tree, cast_head, cast_list, reference_tree, term_tree, primary_tree}
+use Rattle.rel_grammar.specs.Machine.{OverCollection, in_brackets, in_argument, in_filter, in_test, in_yes, OverTuple, collection_first, OverChoice, tuple_first, OverBar, OverEither, bar_first, bar_next, OverBoth, either_first, either_next, OverRelation, both_first, both_next, OverSum, left_side, right_side, OverProduct, sum_first, sum_next, OverUnary, product_first, product_next, OverReference, Partial, Step, to, want_choice, depth_collection, depth_tuple, depth_choice, depth_bar, depth_either, depth_both, depth_relation, depth_sum, depth_product, depth_unary, depth_reference, over_product, over_sum, over_relation, over_both, over_either, next_collection, end_tuple, next_tuple, next_choice, end_bar, next_bar, end_either, next_either, end_both, next_both, next_relation, end_sum, next_sum, end_product, next_product, next_unary, next_cast, next_reference, next_term, next_primary, begin_primary, begin_unary, begin_choice, begin_collection, begin_cast, next_relop, Answer, no_parse, too_deep, go}
 
 abbrev pub fixed_kind : Fixed → Kind
 fixed_kind (fixed.Sign s) = sign s
@@ -392,6 +393,28 @@ pub record CastsGoOn (r : Reference) (tokens : List Shaped) (casts : List CastTo
 abbrev pub CastsFail : Reference → ℕ → List Shaped → ParseError → Type 0
 CastsFail r end tokens e = (C : OverUnary) → depth_unary C ≤ deepest → Faults end e (go (next_cast (cast_one r) C) tokens)
 
+-- One cast after its `as`.
+pub record CastReads (tokens : List Shaped) (cast : CastTo) (left : List Shaped) : Type 0 where
+  pub first : AnyWord
+  pub place : Place
+  pub more : List Shaped
+  pub begins : Begins (word first) tokens place more
+  pub words : WordsRead first place more cast.words cast.place left
+  pub ends : WordsEnd left
+
+-- no word comes next, or memory ran out
+abbrev pub LacksCast : ℕ → List Shaped → ParseError → Type 0
+LacksCast end tokens (NoParse p) = WordsEnd tokens × (p ≡ place_of end tokens)
+LacksCast end tokens (TooDeep p) = ⊥
+LacksCast end tokens Memory = ⊤
+
+-- Casts, the last of them included, after what they cast.
+pub record CastsEnd (r : Reference) (tokens : List Shaped) (casts : List CastTo) (left : List Shaped) : Type 0 where
+  pub found : Cast
+  pub tree_is : cast (reference_tree r) casts ≡ cast_tree found
+  pub no_longer : length left ≤ length tokens
+  pub reads : (C : OverUnary) → depth_unary C ≤ deepest → go (next_cast (cast_one r) C) tokens ≡ go (next_unary (no_sign found) C) left
+
 -- A value of one token.
 pub data Single : Type 0 where
   single_number : Place → ℤ → Single
@@ -472,3 +495,20 @@ WantsClose C = ⊥
 
 abbrev pub BracketsFail : ℕ → Place → ℕ → List Shaped → ParseError → Type 0
 BracketsFail depth from end tokens e = (f : Option Shaped → Step) (C : OverCollection) → WantsClose C → depth_collection C ≡ depth + 1 → f (Some (shaped_at (sign lex.OpenBracket) from)) ≡ to (depth + 1) (want_choice (tuple_first (collection_first C))) → Faults end e (go f (shaped_at (sign lex.OpenBracket) from ∷ tokens))
+
+-- A part with the word behind it, as that before a `then` or an `else`.
+pub record UpToReads (depth : ℕ) (w : Reserved) (tokens : List Shaped) (tree : Plain) (left : List Shaped) : Type 0 where
+  pub found : Collection
+  pub place : Place
+  pub tree_is : tree ≡ collection_tree found
+  pub shorter : length left < length tokens
+  pub reads : (C : OverCollection) → depth_collection C ≡ depth → go (begin_collection C) tokens ≡ go (next_collection found C) (shaped_at (reserved w) place ∷ left)
+
+-- a collection that has to end before this word
+abbrev pub WantsWord : OverCollection → Reserved → Type 0
+WantsWord (in_test p C) w = w ≡ the.Then
+WantsWord (in_yes p t o C) w = w ≡ the.Else
+WantsWord C w = ⊥
+
+abbrev pub UpToFails : ℕ → Reserved → ℕ → List Shaped → ParseError → Type 0
+UpToFails depth w end tokens e = (C : OverCollection) → WantsWord C w → depth_collection C ≡ depth → Faults end e (go (begin_collection C) tokens)

@@ -5,7 +5,7 @@ use std::alloc::{AllocError, Global};
 use std::marker::Model;
 
 /// What a value is cast to: the words after `as`, joined by one space, and their place.
-#[derive(Debug, Drop)]
+#[derive(Drop)]
 pub struct CastTo {
     pub place: Place,
     pub words: Text,
@@ -24,7 +24,7 @@ impl CastTo {
 }
 
 /// Casts in the order in which they are done. Contracts see the list of them.
-#[derive(Debug, Drop)]
+#[derive(Drop)]
 pub struct CastList {
     items: Vec<CastTo>,
 }

@@ -2,7 +2,7 @@ use rel_lexer::Place;
 use std::alloc::{AllocError, AllocFailed};
 
 /// Why tokens have no tree.
-#[derive(Clone, Copy, Debug, PartialEq, Eq)]
+#[derive(Clone, Copy)]
 pub enum ParseError {
     /// The first token with which the tokens so far begin no sentence; or, where all of them begin one and are
     /// none, the empty place at the end of the text.

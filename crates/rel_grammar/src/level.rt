@@ -10,7 +10,7 @@ use crate::vocabulary::{Fixed, Reserved};
 use rel_lexer::{BinarySign, Place, Sign, Token, UnarySign};
 
 /// The rules whose operators are read from the left, from the loosest to the tightest.
-#[derive(Clone, Copy, PartialEq, Eq)]
+#[derive(Clone, Copy)]
 pub(crate) enum Level {
     /// `|`
     Bar,

@@ -20,12 +20,9 @@ mod words;
 
 pub use casts::{CastList, CastTo};
 pub use error::ParseError;
-pub use laws::{one_depth, one_reading, one_tree, parsed_in_one_way};
+pub use laws::{one_depth, one_reading, one_tree, parsed_in_one_way, what_trees_show};
 pub use question::parse;
 pub use rel_lexer::{BinarySign, UnarySign};
-pub use spans::{span, span_of_question};
+pub use spans::{span, span_of_part, span_of_question};
 pub use tree::{Link2, LinkList, Tree, TreeList};
 pub use vocabulary::{Helper, Reserved};
-
-#[cfg(test)]
-mod tests;

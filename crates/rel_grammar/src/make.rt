@@ -103,13 +103,13 @@ pub(crate) fn with_filter(alloc: Global, head: Tree, filter: Tree) -> Result<Tre
     ensures { IfOk result (λ t. shown t ≡ with_filter (shown head) (shown filter)) }
 {
     let head = as_head(alloc, head)?;
-    put_filter(alloc, head, filter)
+    let filter = Box::new(alloc, filter)?;
+    Ok(put_filter(head, filter))
 }
 
-fn put_filter(alloc: Global, head: Tree, filter: Tree) -> Result<Tree, AllocError>
-    ensures { IfOk result (λ t. shown t ≡ put_filter (shown head) (shown filter)) }
+fn put_filter(head: Tree, filter: Box<Tree>) -> Tree
+    ensures { shown result ≡ put_filter (shown head) (shown filter.value) }
 {
-    let filter = Some(Box::new(alloc, filter)?);
     match head {
         Tree::Phrase {
             place,
@@ -117,25 +117,25 @@ fn put_filter(alloc: Global, head: Tree, filter: Tree) -> Result<Tree, AllocErro
             argument,
             object,
             ..
-        } => Ok(Tree::Phrase {
+        } => Tree::Phrase {
             place,
             words,
             argument,
-            filter,
+            filter: Some(filter),
             object,
-        }),
+        },
         Tree::Body {
             place,
             body,
             object,
             ..
-        } => Ok(Tree::Body {
+        } => Tree::Body {
             place,
             body,
-            filter,
+            filter: Some(filter),
             object,
-        }),
-        other => Ok(other),
+        },
+        other => other,
     }
 }
 
@@ -144,13 +144,13 @@ pub(crate) fn with_object(alloc: Global, head: Tree, object: Tree) -> Result<Tre
     ensures { IfOk result (λ t. shown t ≡ with_object (shown head) (shown object)) }
 {
     let head = as_head(alloc, head)?;
-    put_object(alloc, head, object)
+    let object = Box::new(alloc, object)?;
+    Ok(put_object(head, object))
 }
 
-fn put_object(alloc: Global, head: Tree, object: Tree) -> Result<Tree, AllocError>
-    ensures { IfOk result (λ t. shown t ≡ put_object (shown head) (shown object)) }
+fn put_object(head: Tree, object: Box<Tree>) -> Tree
+    ensures { shown result ≡ put_object (shown head) (shown object.value) }
 {
-    let object = Some(Box::new(alloc, object)?);
     match head {
         Tree::Phrase {
             place,
@@ -158,25 +158,25 @@ fn put_object(alloc: Global, head: Tree, object: Tree) -> Result<Tree, AllocErro
             argument,
             filter,
             ..
-        } => Ok(Tree::Phrase {
+        } => Tree::Phrase {
             place,
             words,
             argument,
             filter,
-            object,
-        }),
+            object: Some(object),
+        },
         Tree::Body {
             place,
             body,
             filter,
             ..
-        } => Ok(Tree::Body {
+        } => Tree::Body {
             place,
             body,
             filter,
-            object,
-        }),
-        other => Ok(other),
+            object: Some(object),
+        },
+        other => other,
     }
 }
 
@@ -243,12 +243,21 @@ pub(crate) fn conditional(
 ) -> Result<Tree, AllocError>
     ensures { IfOk result (λ t. shown t ≡ conditional place (shown test) (shown yes) (shown no)) }
 {
+    let (test, yes) = boxed(alloc, test, yes)?;
     Ok(Tree::If {
         place,
-        test: Box::new(alloc, test)?,
-        yes: Box::new(alloc, yes)?,
+        test,
+        yes,
         no: Box::new(alloc, no)?,
     })
+}
+
+fn boxed(alloc: Global, first: Tree, second: Tree) -> Result<(Box<Tree>, Box<Tree>), AllocError>
+    ensures { IfOk result (λ both. (both.0.value ≡ first) × (both.1.value ≡ second)) }
+{
+    let first = Box::new(alloc, first)?;
+    let second = Box::new(alloc, second)?;
+    Ok((first, second))
 }
 
 pub(crate) fn tuple(parts: TreeList) -> Tree

@@ -1,10 +1,11 @@
 // Reads a question by going down the grammar. Each function reads the part that the tokens begin with, around which
 // there are so many brackets, signs, objects and `if`s.
-ghost use Rattle.std.specs.Prelude.{◌≡◌, ◌≤◌, MatchResult};
-ghost use Rattle.rel_grammar.specs.Reads.{ChainFails, ChainReads, ChoiceFails, ChoiceReads, CollectionFails, CollectionReads, PartFails, PartReads, TupleFails, TupleReads};
-ghost use Rattle.rel_grammar.specs.Shapes.{all_shaped};
+ghost use Rattle.std.specs.Prelude.{◌≡◌, ◌≤◌, ◌∷◌, MatchResult};
+ghost use Rattle.rel_grammar.specs.Reads.{ChainFails, ChainReads, ChoiceFails, ChoiceReads, CollectionFails, CollectionReads, PartFails, PartReads, TupleFails, TupleReads, UpToFails, UpToReads, shaped_at};
+ghost use Rattle.rel_grammar.specs.Shapes.{all_shaped, is_is, reserved, shaped_after};
 ghost use Rattle.rel_grammar.specs.Views.{shown};
 ghost use Rattle.rel_grammar.specs.declared.level.Level.TheVariants.{Both, Product};
+ghost use Rattle.rel_grammar.specs.declared.vocabulary.Reserved.TheVariants.{If};
 
 use crate::heads::reference;
 use crate::level::{Level, after_unary_sign};
@@ -13,7 +14,7 @@ use crate::relation_sign::read_relation_sign;
 use crate::vocabulary::{Fixed, Reserved};
 use crate::words::casts;
 use crate::{LinkList, ParseError, Tree, TreeList, make};
-use rel_lexer::{Sign, Token};
+use rel_lexer::{Place, Sign, Token};
 use std::alloc::Global;
 
 /// The depth above which no token may stand.
@@ -85,22 +86,54 @@ fn choice<'a>(
         (λ r. ChoiceReads depth (all_shaped rest.now) (shown r.0) (all_shaped r.1.now))
         (λ e. ChoiceFails depth end (all_shaped rest.now) e) }
 {
-    let Some((place, next)) = after(rest, Fixed::Reserved(Reserved::If)) else {
-        return chain(alloc, rest, end, depth, Level::Bar);
-    };
+    match after(rest, Fixed::Reserved(Reserved::If)) {
+        Some((place, next)) => conditional(alloc, place, next, end, depth),
+        None => chain(alloc, rest, end, depth, Level::Bar),
+    }
+}
+
+/// What stands after an `if`, at this place.
+#[cycle(parser)]
+fn conditional<'a>(
+    alloc: Global,
+    place: Place,
+    rest: &'a [Token],
+    end: u32,
+    depth: u32,
+) -> Result<Read<'a>, ParseError>
+    requires { depth ≤ 64 }
+    ensures { MatchResult result
+        (λ r. ChoiceReads depth (shaped_at (reserved If) place ∷ all_shaped rest.now) (shown r.0) (all_shaped r.1.now))
+        (λ e. ChoiceFails depth end (shaped_at (reserved If) place ∷ all_shaped rest.now) e) }
+{
     if depth == DEEPEST {
         return Err(ParseError::TooDeep(place));
     }
-    let (test, after_test) = collection(alloc, next, end, depth + 1)?;
-    let Some((_, yes_begins)) = after(after_test, Fixed::Reserved(Reserved::Then)) else {
-        return Err(ParseError::NoParse(place_at(after_test, end)));
-    };
-    let (yes, after_yes) = collection(alloc, yes_begins, end, depth + 1)?;
-    let Some((_, no_begins)) = after(after_yes, Fixed::Reserved(Reserved::Else)) else {
-        return Err(ParseError::NoParse(place_at(after_yes, end)));
-    };
-    let (no, left) = choice(alloc, no_begins, end, depth + 1)?;
+    let (test, next) = up_to(alloc, rest, end, depth + 1, Reserved::Then)?;
+    let (yes, next) = up_to(alloc, next, end, depth + 1, Reserved::Else)?;
+    let (no, left) = choice(alloc, next, end, depth + 1)?;
     Ok((make::conditional(alloc, place, test, yes, no)?, left))
+}
+
+/// A part and the word behind it, which has to be this one.
+#[cycle(parser)]
+fn up_to<'a>(
+    alloc: Global,
+    rest: &'a [Token],
+    end: u32,
+    depth: u32,
+    word: Reserved,
+) -> Result<Read<'a>, ParseError>
+    requires { depth ≤ 64 }
+    ensures { MatchResult result
+        (λ r. UpToReads depth word (all_shaped rest.now) (shown r.0) (shaped_after (is_is (reserved word)) r.1.now))
+        (λ e. UpToFails depth word end (all_shaped rest.now) e) }
+{
+    let (part, left) = collection(alloc, rest, end, depth)?;
+    match after(left, Fixed::Reserved(word)) {
+        Some((_, left)) => Ok((part, left)),
+        None => Err(ParseError::NoParse(place_at(left, end))),
+    }
 }
 
 #[cycle(parser)]

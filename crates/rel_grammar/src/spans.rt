@@ -1,8 +1,10 @@
-ghost use Rattle.std.specs.Prelude.{◌≡◌, List};
+ghost use Rattle.std.specs.Prelude.{◌≡◌, ℕ, List};
 ghost use Rattle.rel_grammar.specs.Grammar.{Question};
 ghost use Rattle.rel_grammar.specs.Holding.{shown_held};
+ghost use Rattle.rel_grammar.specs.Readings.{Reading, reading_marks, reading_tree};
 ghost use Rattle.rel_grammar.specs.Sentences.{Sentence};
 ghost use Rattle.rel_grammar.specs.Shapes.{Shaped};
+ghost use Rattle.rel_grammar.specs.Spelling.{shapes_of};
 ghost use Rattle.rel_grammar.specs.Spans.{Spans, begin_of, casts_end, end_of, held_end, links_end, parts_begin, parts_end, span_of_tree};
 ghost use Rattle.rel_grammar.specs.Trees.{question_tree};
 ghost use Rattle.rel_grammar.specs.Views.{shown, shown_links, shown_parts};
@@ -20,10 +22,14 @@ pub fn span(tree: &Tree) -> Place
     }
 }
 
-/// The span of the tree of a question goes from the question's first token to its last. Each part of a tree is the tree of a
-/// question over its own tokens, so it holds of parts as well.
+/// The span of the tree of a question goes from the question's first token to its last.
 pub fn span_of_question()
     ensures { (tokens : List Shaped) (q : Question) → Sentence tokens q → Spans tokens (span_of_tree (question_tree q)) }
+{}
+
+/// The span of the tree of any part goes from the part's first token to its last, however deep it stands.
+pub fn span_of_part()
+    ensures { (depth : ℕ) (part : Reading) → Spans (shapes_of (reading_marks depth part)) (span_of_tree (reading_tree part)) }
 {}
 
 #[cycle(begins)]

@@ -8,7 +8,7 @@ use std::alloc::{AllocError, Global};
 
 /// A question, or a part of one. A place counts the bytes of the question's text.
 #[cycle(tree)]
-#[derive(Debug, Drop)]
+#[derive(Drop)]
 pub enum Tree {
     /// From 0 on.
     Number {
@@ -75,7 +75,7 @@ pub enum Tree {
 
 /// An operator, the place of its words, and its right operand.
 #[cycle(tree)]
-#[derive(Debug, Drop)]
+#[derive(Drop)]
 pub struct Link2 {
     pub place: Place,
     pub sign: BinarySign,
@@ -84,14 +84,14 @@ pub struct Link2 {
 
 /// Operators with their right operands, in their order.
 #[cycle(tree)]
-#[derive(Debug, Drop)]
+#[derive(Drop)]
 pub struct LinkList {
     pub(crate) items: Vec<Link2>,
 }
 
 /// Trees in their order.
 #[cycle(tree)]
-#[derive(Debug, Drop)]
+#[derive(Drop)]
 pub struct TreeList {
     pub(crate) items: Vec<Tree>,
 }

@@ -9,7 +9,7 @@ ghost use Rattle.rel_grammar.specs.Reads.{IsNoWord, IsWord, fixed_kind};
 use rel_lexer::{Sign, Text, TokenKind};
 
 /// The words that never stand in a name, in the order in which the language lists them.
-#[derive(Clone, Copy, Debug, PartialEq, Eq)]
+#[derive(Clone, Copy)]
 pub enum Reserved {
     Of,
     Whose,
@@ -55,7 +55,7 @@ const RESERVED: [Reserved; 19] = [
 ];
 
 /// The words that are part of a relation's sign directly after its first words, and words like others elsewhere.
-#[derive(Clone, Copy, Debug, PartialEq, Eq)]
+#[derive(Clone, Copy)]
 pub enum Helper {
     By,
     With,
@@ -65,7 +65,7 @@ pub enum Helper {
 }
 
 /// A token that is always the same.
-#[derive(Clone, Copy, PartialEq, Eq)]
+#[derive(Clone, Copy)]
 pub(crate) enum Fixed {
     Sign(Sign),
     Reserved(Reserved),

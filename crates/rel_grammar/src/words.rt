@@ -1,10 +1,11 @@
 // Names, and the casts that follow what they cast.
-ghost use Rattle.std.specs.Prelude.{◌≡◌, IfOk, MatchResult};
+ghost use Rattle.std.specs.Prelude.{◌≡◌, IfOk, MatchOption, MatchResult};
 ghost use Rattle.rel_grammar.specs.Grammar.{Reference};
-ghost use Rattle.rel_grammar.specs.Reads.{CastsFail, CastsRead, WordsEnd, WordsRead};
-ghost use Rattle.rel_grammar.specs.Shapes.{AnyWord, all_shaped, word_spelling};
+ghost use Rattle.rel_grammar.specs.Reads.{CastReads, CastsEnd, CastsFail, CastsRead, Lacks, LacksCast, WordsEnd, WordsRead};
+ghost use Rattle.rel_grammar.specs.Shapes.{AnyWord, all_shaped, reserved, word_spelling};
 ghost use Rattle.rel_grammar.specs.Trees.{reference_tree};
 ghost use Rattle.rel_grammar.specs.Views.{shown};
+ghost use Rattle.rel_grammar.specs.declared.vocabulary.Reserved.TheVariants.{As};
 
 use crate::parser::Read;
 use crate::peek::{after, after_word, place_at};
@@ -51,19 +52,46 @@ pub(crate) fn casts<'a>(
         (λ r. (x : Reference) → shown first ≡ reference_tree x → CastsRead x (all_shaped rest.now) (shown r.0) (all_shaped r.1.now))
         (λ e. (x : Reference) → CastsFail x end (all_shaped rest.now) e) }
 {
+    match read_casts(alloc, rest, end)? {
+        Some((list, left)) => Ok((make::cast(alloc, first, list)?, left)),
+        None => Ok((first, rest)),
+    }
+}
+
+/// The casts that the tokens begin with, if there are any.
+fn read_casts<'a>(
+    alloc: Global,
+    rest: &'a [Token],
+    end: u32,
+) -> Result<Option<(CastList, &'a [Token])>, ParseError>
+    ensures { MatchResult result
+        (λ o. MatchOption o (Lacks (reserved As) (all_shaped rest.now))
+        (λ r. (x : Reference) → CastsEnd x (all_shaped rest.now) r.0 (all_shaped r.1.now)))
+        (λ e. (x : Reference) → CastsFail x end (all_shaped rest.now) e) }
+{
     let Some((_, mut next)) = after(rest, Fixed::Reserved(Reserved::As)) else {
-        return Ok((first, rest));
+        return Ok(None);
     };
     let mut list = CastList::new(alloc);
     loop {
-        let Some((place, word, more)) = after_word(next) else {
-            return Err(ParseError::NoParse(place_at(next, end)));
-        };
-        let (text, place, left) = read_words(word, place, more)?;
-        list.push(CastTo { place, words: text })?;
+        let (cast, left) = read_cast(next, end)?;
+        list.push(cast)?;
         match after(left, Fixed::Reserved(Reserved::As)) {
             Some((_, more)) => next = more,
-            None => return Ok((make::cast(alloc, first, list)?, left)),
+            None => return Ok(Some((list, left))),
         }
     }
+}
+
+/// One cast after its `as`.
+fn read_cast<'a>(rest: &'a [Token], end: u32) -> Result<(CastTo, &'a [Token]), ParseError>
+    ensures { MatchResult result
+        (λ r. CastReads (all_shaped rest.now) r.0 (all_shaped r.1.now))
+        (λ e. LacksCast end (all_shaped rest.now) e) }
+{
+    let Some((place, word, more)) = after_word(rest) else {
+        return Err(ParseError::NoParse(place_at(rest, end)));
+    };
+    let (words, place, left) = read_words(word, place, more)?;
+    Ok((CastTo { place, words }, left))
 }

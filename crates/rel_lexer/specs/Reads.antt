@@ -1,4 +1,4 @@
--- What the functions do that read one piece.
+-- What the functions do that read one piece. Only private functions cite it.
 use Rattle.std.specs.Prelude.{◌≡◌, ℕ, Bool, true, List, [], ◌∷◌, ◌++◌, Option, Result, Ok, Err, ⊤, IsUtf8}
 use Rattle.rel_lexer.specs.declared.token.TokenKind.{TokenKind}
 use Rattle.rel_lexer.specs.declared.piece.Taken.{Taken}

@@ -1,4 +1,4 @@
--- The bytes of which runs consist.
+-- The bytes of which runs consist. Only private functions cite it.
 use Rattle.std.specs.Prelude.{ℕ, Bool}
 use Rattle.std.specs.Char.{is_ascii_digit}
 use Rattle.rel_lexer.specs.declared.bytes.Run.{Run}

@@ -5,7 +5,7 @@ use crate::Place;
 use std::alloc::{AllocError, AllocFailed};
 
 /// Why a text has no tokens: its first fault from the left, or its length.
-#[derive(Clone, Copy, Debug, PartialEq, Eq)]
+#[derive(Clone, Copy)]
 pub enum LexError {
     /// One byte: one that begins no blank, comment, word, number, string or sign; or, in a string that is closed and isn't
     /// UTF-8, the first after the longest front of it that is.

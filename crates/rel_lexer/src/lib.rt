@@ -26,6 +26,3 @@ pub use sign::Sign;
 pub use text::Text;
 pub use token::{Token, TokenKind};
 pub use token_list::{TokenList, Tokens};
-
-#[cfg(test)]
-mod tests;

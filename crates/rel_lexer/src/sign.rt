@@ -5,7 +5,7 @@ ghost use Rattle.rel_lexer.specs.Signs.{BeginsNoSign, IsWhole, spelling};
 use crate::bytes::after;
 
 /// A sign of a question, in the order in which the language lists them.
-#[derive(Clone, Copy, Debug, PartialEq, Eq)]
+#[derive(Clone, Copy, PartialEq, Eq)]
 pub enum Sign {
     /// `(`
     OpenBracket,

@@ -4,7 +4,7 @@ use crate::{Place, Sign, Text};
 use std::alloc::AllocError;
 
 /// What a token is.
-#[derive(Debug, Drop)]
+#[derive(Drop)]
 pub enum TokenKind {
     /// In lower case.
     Word(Text),
@@ -17,7 +17,7 @@ pub enum TokenKind {
 }
 
 /// A token, and the place of its bytes.
-#[derive(Debug, Drop)]
+#[derive(Drop)]
 pub struct Token {
     pub kind: TokenKind,
     pub place: Place,

@@ -5,7 +5,7 @@ use std::alloc::AllocError;
 use std::marker::Model;
 
 /// Tokens in their order. Contracts see the list of them.
-#[derive(Debug, Drop)]
+#[derive(Drop)]
 pub struct TokenList {
     items: Vec<Token>,
 }
@@ -54,7 +54,7 @@ impl TokenList {
 }
 
 /// The tokens of a text, and the number of its bytes, blanks and comments at its end included.
-#[derive(Debug, Drop)]
+#[derive(Drop)]
 pub struct Tokens {
     pub list: TokenList,
     pub end: u32,

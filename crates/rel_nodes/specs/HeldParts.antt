@@ -1,4 +1,4 @@
--- Parts that may be there, in the forms of a plan.
+-- Parts that may be there, in the forms of a plan. No public contract speaks of it.
 use Rattle.std.specs.Prelude.{⊤, Bool, true, false, Option, Some, None}
 use Rattle.std.specs.declared.alloc.Global.{Global}
 use Rattle.std.specs.declared.boxed.Box.{Box}

@@ -1,4 +1,4 @@
--- Lists of parts, each put together with what stands before it.
+-- Lists of parts, each put together with what stands before it. No public contract speaks of it.
 use Rattle.std.specs.Prelude.{List, [], ◌∷◌, map}
 use Rattle.rel_trace.specs.Twos.{TwoKind, then_kind, bar_kind, left_kind}
 use Rattle.rel_nodes.specs.declared.runs.Joint.{Joint}

@@ -21,6 +21,3 @@ pub use property::Property;
 pub use pure::Pure;
 pub use spans::span;
 pub use walking::Walking;
-
-#[cfg(test)]
-mod tests;

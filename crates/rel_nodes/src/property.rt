@@ -132,11 +132,8 @@ impl Property {
 fn put(place: &mut Option<Walking>, walk: Option<Walking>)
     ensures { place.new ≡ walk }
 {
-    discard(mem::replace(place, walk));
+    drop(mem::replace(place, walk));
 }
-
-/// One function that drops a walk, so that no other goes through its forms.
-fn discard(walk: Option<Walking>) {}
 
 /// What is handed down, where it is asked for.
 fn asked_for(asked: bool, held: Option<&Held>) -> Option<&Value>

@@ -1,5 +1,5 @@
--- Tokens written one after another, with a blank where two would run together. A pen is the text so far and the kind of its last
--- token.
+-- Tokens written one after another, with a blank where two would run together. Only private functions cite it.
+-- A pen is the text so far and the kind of its last token.
 use Rattle.std.specs.Prelude.{ℕ, ℤ, Bool, true, false, ◌&&◌, ◌==◌, if◌then◌else◌, List, [], ◌∷◌, ◌++◌, codes}
 use Rattle.std.specs.Char.{is_ascii_hexdigit}
 use Rattle.std.specs.Fmt.{signed_decimal}

@@ -1,4 +1,4 @@
--- What is written for a tree: the pen after it, from the pen before.
+-- What is written for a tree: the pen after it, from the pen before. Only private functions cite it.
 use Rattle.std.specs.Prelude.{Bool, true, false, ◌&&◌, List, [], ◌∷◌, codes}
 use Rattle.rel_lexer.specs.declared.sign.Sign.{Sign}
 use Rattle.rel_lexer.specs.declared.sign.Sign.TheVariants as lex

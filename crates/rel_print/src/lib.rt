@@ -6,6 +6,3 @@ mod pen;
 mod printing;
 
 pub use printing::print;
-
-#[cfg(test)]
-mod tests;

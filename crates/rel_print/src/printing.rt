@@ -3,7 +3,6 @@ ghost use Rattle.std.specs.Prelude.{◌≡◌, ◌≤◌, ℕ, List, IfOk, lengt
 ghost use Rattle.rel_grammar.specs.Answers.{IsTreeOf};
 ghost use Rattle.rel_print.specs.Bare.{ReadsAs};
 ghost use Rattle.rel_grammar.specs.Holding.{shown_held};
-ghost use Rattle.rel_print.specs.Pages.{blank_page};
 ghost use Rattle.rel_grammar.specs.Views.{shown, shown_links, shown_parts};
 ghost use Rattle.rel_print.specs.Written.{is_single, written, written_argument, written_binary, written_casts, written_filter, written_head, written_links, written_object, written_parts, written_unary};
 
@@ -18,7 +17,6 @@ pub fn print(alloc: Global, tree: &Tree) -> Result<Text, AllocError>
     ensures reads { IfOk result (λ text. (source : List ℕ) → IsTreeOf source (shown tree.now) → ReadsAs text (shown tree.now)) }
     // It is no longer than any text that has the tree.
     ensures no_longer { IfOk result (λ text. (source : List ℕ) → IsTreeOf source (shown tree.now) → length text ≤ length source) }
-    ensures text { IfOk result (λ text. text ≡ (written (shown tree.now) blank_page).text) }
 {
     let mut pen = Pen::new(alloc)?;
     write_tree(tree, &mut pen)?;

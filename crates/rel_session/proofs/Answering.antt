@@ -1,11 +1,10 @@
 -- What is said of a line, piece by piece.
-use Rattle.std.proofs.Common.{◌≡◌, ◌⊎◌, ℕ, zero, suc, ◌+◌, ◌-◌, ◌<◌, ◌≤◌, ℤ, List, [], ◌∷◌, ◌++◌, length, drop, map, Result, Ok, Err, None, Some, MatchResult, inl, inr, refl, sym, ap, ◌∙◌, append_assoc, append-nil, subst, arith}
+use Rattle.std.proofs.Common.{◌≡◌, ℕ, ◌+◌, ◌-◌, ◌≤◌, ℤ, List, [], ◌∷◌, ◌++◌, length, drop, map, Result, Ok, Err, None, Some, MatchResult, inl, inr, refl, sym, ap, ◌∙◌, append_assoc, append-nil, subst, arith}
 use Rattle.std.proofs.lemmas.List.{drop-append-le, drop-map, length-append, length-map, map_push}
 use Rattle.std.specs.declared.option.Option.{Option}
 use Rattle.std.specs.Io.KnownBytes.{Appends, Keeps}
 use Rattle.std.proofs.KnownBytes.{Appends-nil, Appends-trans, Keeps-refl}
 use Rattle.desk_base.specs.Flow.{AppendsSome, IsFront}
-use Rattle.bf_machine.specs.Told.{Grows}
 use Rattle.bf_world.specs.declared.key.Key.{Key}
 use Rattle.bf_world.specs.Worlds.{WorldState}
 use Rattle.rel_lexer.specs.declared.place.Place.{Place}
@@ -18,69 +17,75 @@ use Rattle.rel_session.specs.declared.line.Line.{Line}
 use Rattle.rel_session.specs.declared.paused.Left.{Left}
 use Rattle.rel_session.specs.declared.paused.Left.TheVariants as left
 use Rattle.rel_session.specs.declared.paused.Paused as code_paused
-use Rattle.rel_session.specs.Devices.{Dates, Did, Began, RoseBy, devices_of}
+use Rattle.rel_session.specs.Devices.{Dates, Did, RoseBy, devices_of}
 use Rattle.rel_session.specs.Printed.{said_question, said_error, said_nothing_paused, said_undefined}
-use Rattle.rel_session.specs.Sessions.{Asks, Paused, Session, Run, saying, after, told_run, pausing, last_sixteen, TellsOf, AnswersText, GoesOnWith, Answers, RunsLine, IsFrontOfLine}
-use Rattle.rel_session.specs.Tellings.{Telling, Tells, room_of}
-use Rattle.rel_session.specs.Waiting.{IsLeft, State, state_of, paused_of, left_of, meaning_of, span_of, IsRead, IsStarted, IsOpened, last_fifteen, Says, Stops, SaysRefusal, Unwritten, Obeys, SaysAll, SaysFront, SaysOf, StopsEarly, StopsIn}
-use Rattle.rel_session.proofs.Lasting.{Grows-nil, RoseBy-none}
+use Rattle.rel_session.specs.Sessions.{Asks, Paused, Session, Run, nothing, saying, after, told_run, pausing, last_sixteen, IsGiven, TellsOf, AnswersText, GoesOnWith, Answers, RunsLine, IsFrontOfLine}
+use Rattle.rel_session.specs.Tellings.{Telling, TellsSome, room_of}
+use Rattle.rel_session.specs.Waiting.{IsLeft, State, state_of, paused_of, left_of, some_given, meaning_of, span_of, IsRead, IsStarted, IsOpened, last_fifteen, Says, Stops, SaysRefusal, Unwritten, Obeys, SaysAll, SaysFront, SaysOf, StopsEarly, StopsIn}
+use Rattle.rel_session.proofs.Lasting.{LooksUp-nil, LooksFront-none, LooksFront-all, RoseBy-none}
 use Rattle.rel_session.proofs.Running.{Dates-nil}
 
 -- some bytes are said at once, and no look is made
-pub Says-bytes : (held : Option (List ℕ)) (old new : List ℕ) (looked : Option (List Key)) (faults : ℕ) (bytes : List ℕ) → new ≡ old ++ bytes → Says (state_of held old looked faults) (state_of held new looked faults) (saying bytes)
-Says-bytes held old new looked faults bytes is = record {
+pub Says-bytes : (world : Option WorldState) (held : Option (List ℕ)) (old new : List ℕ) (looked : Option (List Key)) (faults : ℕ) (bytes : List ℕ) → new ≡ old ++ bytes → Says world (state_of held old looked faults) (state_of held new looked faults) (saying bytes)
+Says-bytes world held old new looked faults bytes is = record {
   written = [];
   appended = Appends-nil held;
   whole = sym is;
-  looked = Grows-nil looked;
+  looked = LooksUp-nil world looked;
   faults = RoseBy-none faults faults (omega arith);
 }
 
 -- nothing is written
-pub Unwritten-refl : (held : Option (List ℕ)) (faults : ℕ) → Unwritten held held faults faults
-Unwritten-refl held faults = (Keeps-refl held, refl)
+pub Unwritten-refl : (world : Option WorldState) (held : Option (List ℕ)) (looked : Option (List Key)) (faults : ℕ) → Unwritten world (state_of held [] looked faults) (state_of held [] looked faults)
+Unwritten-refl world held looked faults = (Keeps-refl held, LooksUp-nil world looked, refl)
 
 -- what was said waits in full or in part, and memory runs out
-pub Stops-Says : (old new : State) (run : Run) → Says old new run → Stops old new run
-Stops-Says old new run says = record {
+pub Stops-Says : (world : Option WorldState) (old new : State) (run : Run) → Says world old new run → Stops world old new run
+Stops-Says world old new run says = record {
   written = says.written;
   appended = says.appended;
   unsaid = new.waiting;
   whole = says.whole;
+  looks = LooksFront-all world old.looked new.looked run.looks says.looked;
   faults = says.faults;
 }
 
 -- ---- a question's text
 
 -- a refusal is said
-pub answers_refusal : (w : WorldState) (moment offset : ℤ) (s : Session) (text : List ℕ) (refusal : Refusal) (held : Option (List ℕ)) (old new : List ℕ) (looked : Option (List Key)) (faults : ℕ)
+pub answers_refusal : (world : Option WorldState) (moment offset : ℤ) (s : Session) (text : List ℕ) (refusal : Refusal) (held : Option (List ℕ)) (old new : List ℕ) (looked : Option (List Key)) (faults : ℕ)
     → IsRead text (Err refusal) → SaysRefusal refusal old new
-    → SaysOf (AnswersText w moment offset s text) s (state_of held old looked faults) (state_of held new looked faults)
+    → SaysOf world (AnswersText world moment offset s text) s (state_of held old looked faults) (state_of held new looked faults)
 unfolding AnswersText IsRead
-answers_refusal w moment offset s text (At kind place) held old new looked faults prepares says =
-    (saying (said_error kind place), (refused kind place, prepares, (refl, refl)), Says-bytes held old new looked faults (said_error kind place) says)
-answers_refusal w moment offset s text (NotDefined place words) held old new looked faults prepares says =
-    (saying (said_undefined place words), (undefined place words, prepares, (refl, refl)), Says-bytes held old new looked faults (said_undefined place words) says)
-answers_refusal w moment offset s text Memory held old new looked faults prepares says = absurd says
+answers_refusal world moment offset s text (At kind place) held old new looked faults prepares says =
+    (saying (said_error kind place), (refused kind place, prepares, (refl, refl)), Says-bytes world held old new looked faults (said_error kind place) says)
+answers_refusal world moment offset s text (NotDefined place words) held old new looked faults prepares says =
+    (saying (said_undefined place words), (undefined place words, prepares, (refl, refl)), Says-bytes world held old new looked faults (said_undefined place words) says)
+answers_refusal world moment offset s text Memory held old new looked faults prepares says = absurd says
+
+-- what a started question has to give is what it means
+given_at_start : (world : Option WorldState) (moment offset : ℤ) (q : Question) (started : code_paused.Paused) (t : Trace) → IsStarted moment offset q started → IsGiven world (left_of started.cursor) t
+    → IsGiven world (λ w. meaning_of w moment offset q) t
+given_at_start None moment offset q started t begins is = tt
+given_at_start (Some w) moment offset q started t begins is = is ∙ begins.left w
 
 -- a question is told
-pub answers_question : (w : WorldState) (moment offset : ℤ) (s : Session) (text : List ℕ) (started : code_paused.Paused) (run : Run) (s' : Session)
-    → IsOpened w moment offset text started → TellsOf offset s (left_of w started.cursor) started.span run s' → AnswersText w moment offset s text run s'
+pub answers_question : (world : Option WorldState) (moment offset : ℤ) (s : Session) (text : List ℕ) (started : code_paused.Paused) (run : Run) (s' : Session)
+    → IsOpened moment offset text started → TellsOf offset s (IsGiven world (left_of started.cursor)) started.span run s' → AnswersText world moment offset s text run s'
 unfolding AnswersText IsRead meaning_of span_of
-answers_question w moment offset s text started run s' (q, is, begins) tells =
-    let Whole : Trace → Type 0 = λ x. TellsOf offset s x started.span run s' in
-    let At : Place → Type 0 = λ p. TellsOf offset s (meaning_of w moment offset q) p run s' in
-    (question (plan_of q), is, subst At begins.span (subst Whole begins.left tells))
+answers_question world moment offset s text started run s' (q, is, begins) (told, (t, given, tells), ran, next) =
+    let At : Place → Type 0 = λ p. TellsOf offset s (IsGiven world (λ w. meaning_of w moment offset q)) p run s' in
+    (question (plan_of q), is, subst At begins.span (told, (t, given_at_start world moment offset q started t begins given, tells), ran, next))
 
 -- ---- paused questions
 
 -- nothing is paused, or the latest question goes on
-pub goes_on_latest : (offset : ℤ) (s : Session) (paused before : List Paused) (latest : Paused) (run : Run) (s' : Session) → paused ≡ before ++ latest ∷ [] → s.paused ≡ before ++ latest ∷ []
-    → TellsOf offset (record s { paused = before }) latest.left latest.span run s' → GoesOnWith offset s paused run s'
-goes_on_latest offset s [] before latest run s' is all tells =
+pub goes_on_latest : (world : Option WorldState) (offset : ℤ) (s : Session) (paused before : List Paused) (latest : Paused) (run : Run) (s' : Session) → paused ≡ before ++ latest ∷ [] → s.paused ≡ before ++ latest ∷ []
+    → TellsOf offset (record s { paused = before }) (IsGiven world (λ w. latest.left)) latest.span run s' → GoesOnWith world offset s paused run s'
+goes_on_latest world offset s [] before latest run s' is all tells =
     let long : 0 ≡ length before + 1 = ap length is ∙ length-append before (latest ∷ []) in
     absurd (omega arith)
-goes_on_latest offset s (first ∷ rest) before latest run s' is all tells = (before, latest, all, tells)
+goes_on_latest world offset s (first ∷ rest) before latest run s' is all tells = (before, latest, all, tells)
 
 -- a question is paused, or over
 pub pauses : (s new : Session) (why : Left) (told : Option Trace) (t : Trace) (span span' : Place) → why ≡ left.More → IsLeft why told t → span' ≡ span → new ≡ pausing s (Some t) span' → new ≡ pausing s told span
@@ -113,10 +118,10 @@ echoed old echo mid more written rest is whole = sym (append_assoc old echo more
 behind_echo : (n x y : ℕ) → RoseBy n x y → RoseBy (0 + n) x y
 behind_echo n x y rose = let Rises : ℕ → Type 0 = λ m. RoseBy m x y in let same : n ≡ 0 + n = omega arith in subst Rises same rose
 
-pub line_says_all : (w : WorldState) (offset : ℤ) (s : Session) (line : List ℕ) (fixed : Option ℤ) (given given' : Option (List ℤ)) (s' : Session) (held : Option (List ℕ)) (old mid : List ℕ) (looked : Option (List Key)) (faults : ℕ) (new : State)
-    → mid ≡ old ++ said_question line → SaysAll fixed given given' (Obeys w offset s line) s' (state_of held mid looked faults) new
-    → SaysAll fixed given given' (RunsLine w offset s line) s' (state_of held old looked faults) new
-line_says_all w offset s line fixed given given' s' held old mid looked faults new is all = record {
+pub line_says_all : (world : Option WorldState) (offset : ℤ) (s : Session) (line : List ℕ) (fixed : Option ℤ) (given given' : Option (List ℤ)) (s' : Session) (held : Option (List ℕ)) (old mid : List ℕ) (looked : Option (List Key)) (faults : ℕ) (new : State)
+    → mid ≡ old ++ said_question line → SaysAll world fixed given given' (Obeys world offset s line) s' (state_of held mid looked faults) new
+    → SaysAll world fixed given given' (RunsLine world offset s line) s' (state_of held old looked faults) new
+line_says_all world offset s line fixed given given' s' held old mid looked faults new is all = record {
   moments = all.moments;
   run = after (saying (said_question line)) all.run;
   runs = (all.runs.0, all.runs.1, (all.run, all.runs.2, refl));
@@ -130,10 +135,10 @@ line_says_all w offset s line fixed given given' s' held old mid looked faults n
   dated = all.dated;
 }
 
-line_stops : (w : WorldState) (offset : ℤ) (s : Session) (line : List ℕ) (moments : List ℤ) (held : Option (List ℕ)) (old mid : List ℕ) (looked : Option (List Key)) (faults : ℕ) (new : State) → mid ≡ old ++ said_question line
-    → StopsEarly (Obeys w offset s line moments) (state_of held mid looked faults) new → StopsEarly (RunsLine w offset s line moments) (state_of held old looked faults) new
-line_stops w offset s line moments held old mid looked faults new is (inl none) = inl none
-line_stops w offset s line moments held old mid looked faults new is (inr (run, s', obeys, stops)) =
+line_stops : (world : Option WorldState) (offset : ℤ) (s : Session) (line : List ℕ) (moments : List ℤ) (held : Option (List ℕ)) (old mid : List ℕ) (looked : Option (List Key)) (faults : ℕ) (new : State) → mid ≡ old ++ said_question line
+    → StopsEarly world (Obeys world offset s line moments) (state_of held mid looked faults) new → StopsEarly world (RunsLine world offset s line moments) (state_of held old looked faults) new
+line_stops world offset s line moments held old mid looked faults new is (inl none) = inl none
+line_stops world offset s line moments held old mid looked faults new is (inr (run, s', obeys, stops)) =
     inr (
       after (saying (said_question line)) run,
       s',
@@ -143,37 +148,38 @@ line_stops w offset s line moments held old mid looked faults new is (inr (run, 
         appended = stops.appended;
         unsaid = stops.unsaid;
         whole = echoed old (said_question line) mid run.bytes stops.written stops.unsaid is stops.whole;
+        looks = stops.looks;
         faults = behind_echo run.faults faults new.faults stops.faults;
       },
     )
 
-pub line_says_front : (w : WorldState) (offset : ℤ) (s : Session) (line : List ℕ) (fixed : Option ℤ) (given given' : Option (List ℤ)) (held : Option (List ℕ)) (old mid : List ℕ) (looked : Option (List Key)) (faults : ℕ) (new : State)
-    → mid ≡ old ++ said_question line → SaysFront fixed given given' (Obeys w offset s line) (state_of held mid looked faults) new
-    → SaysFront fixed given given' (RunsLine w offset s line) (state_of held old looked faults) new
-line_says_front w offset s line fixed given given' held old mid looked faults new is some = record {
+pub line_says_front : (world : Option WorldState) (offset : ℤ) (s : Session) (line : List ℕ) (fixed : Option ℤ) (given given' : Option (List ℤ)) (held : Option (List ℕ)) (old mid : List ℕ) (looked : Option (List Key)) (faults : ℕ) (new : State)
+    → mid ≡ old ++ said_question line → SaysFront world fixed given given' (Obeys world offset s line) (state_of held mid looked faults) new
+    → SaysFront world fixed given given' (RunsLine world offset s line) (state_of held old looked faults) new
+line_says_front world offset s line fixed given given' held old mid looked faults new is some = record {
   moments = some.moments;
   few = some.few;
   dated = some.dated;
-  front = line_stops w offset s line some.moments held old mid looked faults new is some.front;
+  front = line_stops world offset s line some.moments held old mid looked faults new is some.front;
 }
 
 -- nothing is said so far
-pub says_nothing : (fixed : Option ℤ) (given : Option (List ℤ)) (Runs : List ℤ → Run → Session → Type 0) (held : Option (List ℕ)) (old new : List ℕ) (looked : Option (List Key)) (faults : ℕ)
-    → SaysFront fixed given given Runs (state_of held old looked faults) (state_of held new looked faults)
-says_nothing fixed given Runs held old new looked faults = record {
+pub says_nothing : (world : Option WorldState) (fixed : Option ℤ) (given : Option (List ℤ)) (Runs : List ℤ → Run → Session → Type 0) (held : Option (List ℕ)) (old new : List ℕ) (looked : Option (List Key)) (faults : ℕ)
+    → SaysFront world fixed given given Runs (state_of held old looked faults) (state_of held new looked faults)
+says_nothing world fixed given Runs held old new looked faults = record {
   moments = [];
   few = omega arith;
   dated = Dates-nil fixed given;
-  front = inl (Unwritten-refl held faults);
+  front = inl (Unwritten-refl world held looked faults);
 }
 
 -- ---- what a line does to the devices
 
 -- all of it is written
-pub line_ran : (w : WorldState) (offset : ℤ) (s : Session) (line : List ℕ) (fixed : Option ℤ) (given given' : Option (List ℤ)) (s' : Session) (held mid held' : Option (List ℕ)) (old waits : List ℕ) (looked looked' : Option (List Key)) (faults faults' : ℕ)
-    → old ≡ [] → SaysAll fixed given given' (RunsLine w offset s line) s' (state_of held old looked faults) (state_of mid waits looked' faults') → Appends mid held' waits
-    → (moments : List ℤ) × (run : Run) × RunsLine w offset s line moments run s' × Did fixed (devices_of held looked faults given) (devices_of held' looked' faults' given') moments run
-line_ran w offset s line fixed given given' s' held mid held' old waits looked looked' faults faults' none all flushed =
+pub line_ran : (world : Option WorldState) (offset : ℤ) (s : Session) (line : List ℕ) (fixed : Option ℤ) (given given' : Option (List ℤ)) (s' : Session) (held mid held' : Option (List ℕ)) (old waits : List ℕ) (looked looked' : Option (List Key)) (faults faults' : ℕ)
+    → old ≡ [] → SaysAll world fixed given given' (RunsLine world offset s line) s' (state_of held old looked faults) (state_of mid waits looked' faults') → Appends mid held' waits
+    → (moments : List ℤ) × (run : Run) × RunsLine world offset s line moments run s' × Did world fixed (devices_of held looked faults given) (devices_of held' looked' faults' given') moments run
+line_ran world offset s line fixed given given' s' held mid held' old waits looked looked' faults faults' none all flushed =
     let Written : List ℕ → Type 0 = λ l. Appends held held' l in
     let whole : all.run.bytes ≡ all.says.written ++ waits = ap (λ l. l ++ all.run.bytes) (sym none) ∙ all.says.whole in (
       all.moments,
@@ -188,19 +194,19 @@ line_ran w offset s line fixed given given' s' held mid held' old waits looked l
     )
 
 -- a write at the end failed
-pub line_unwritten : (w : WorldState) (offset : ℤ) (s : Session) (line : List ℕ) (fixed : Option ℤ) (given given' : Option (List ℤ)) (s' : Session) (held mid held' : Option (List ℕ)) (old waits : List ℕ) (looked looked' : Option (List Key)) (faults faults' : ℕ)
-    → old ≡ [] → SaysAll fixed given given' (RunsLine w offset s line) s' (state_of held old looked faults) (state_of mid waits looked' faults') → AppendsSome mid held' (IsFront waits)
-    → (moments : List ℤ) × (failed : ℕ) × (front : List ℕ) × IsFrontOfLine w offset s line moments failed front × Began fixed (devices_of held looked faults given) (devices_of held' looked' faults' given') moments failed front
-line_unwritten w offset s line fixed given given' s' held mid held' old waits looked looked' faults faults' none all front =
+pub line_unwritten : (world : Option WorldState) (offset : ℤ) (s : Session) (line : List ℕ) (fixed : Option ℤ) (given given' : Option (List ℤ)) (s' : Session) (held mid held' : Option (List ℕ)) (old waits : List ℕ) (looked looked' : Option (List Key)) (faults faults' : ℕ)
+    → old ≡ [] → SaysAll world fixed given given' (RunsLine world offset s line) s' (state_of held old looked faults) (state_of mid waits looked' faults') → AppendsSome mid held' (IsFront waits)
+    → (moments : List ℤ) × (front : Run) × IsFrontOfLine world offset s line moments front × Did world fixed (devices_of held looked faults given) (devices_of held' looked' faults' given') moments front
+line_unwritten world offset s line fixed given given' s' held mid held' old waits looked looked' faults faults' none all front =
     let whole : all.run.bytes ≡ all.says.written ++ waits = ap (λ l. l ++ all.run.bytes) (sym none) ∙ all.says.whole in
     let said : all.run.bytes ≡ (all.says.written ++ front.0) ++ front.1.0 = whole ∙ ap (λ l. all.says.written ++ l) front.1.1 ∙ sym (append_assoc all.says.written front.0 front.1.0) in (
       all.moments,
-      all.run.faults,
-      all.says.written ++ front.0,
-      inr (all.run, s', all.runs, refl, (front.1.0, said)),
+      record { bytes = all.says.written ++ front.0; looks = all.run.looks; faults = all.run.faults },
+      inr (all.run, s', all.runs, record { written = (front.1.0, said); unlooked = []; looked = sym (append-nil all.run.looks); faults = refl }),
       record {
         written = Appends-trans held mid held' all.says.written front.0 all.says.appended front.2;
-        failed = all.says.faults;
+        looked = all.says.looked;
+        faults = all.says.faults;
         dated = all.dated;
       },
     )
@@ -211,144 +217,151 @@ kept None b p = tt
 kept (Some x) None p = absurd p
 kept (Some x) (Some y) p = p ∙ sym (append-nil x)
 
-began : (w : WorldState) (offset : ℤ) (s : Session) (line : List ℕ) (fixed : Option ℤ) (given given' : Option (List ℤ)) (held held' : Option (List ℕ)) (old waits : List ℕ) (looked looked' : Option (List Key)) (faults faults' : ℕ) (moments : List ℤ)
+began : (world : Option WorldState) (offset : ℤ) (s : Session) (line : List ℕ) (fixed : Option ℤ) (given given' : Option (List ℤ)) (held held' : Option (List ℕ)) (old waits : List ℕ) (looked looked' : Option (List Key)) (faults faults' : ℕ) (moments : List ℤ)
     → old ≡ [] → length moments ≤ 1 → Dates fixed given given' moments
-    → StopsEarly (RunsLine w offset s line moments) (state_of held old looked faults) (state_of held' waits looked' faults')
-    → (moments : List ℤ) × (failed : ℕ) × (front : List ℕ) × IsFrontOfLine w offset s line moments failed front × Began fixed (devices_of held looked faults given) (devices_of held' looked' faults' given') moments failed front
-began w offset s line fixed given given' held held' old waits looked looked' faults faults' moments none few dated (inl unwritten) =
+    → StopsEarly world (RunsLine world offset s line moments) (state_of held old looked faults) (state_of held' waits looked' faults')
+    → (moments : List ℤ) × (front : Run) × IsFrontOfLine world offset s line moments front × Did world fixed (devices_of held looked faults given) (devices_of held' looked' faults' given') moments front
+began world offset s line fixed given given' held held' old waits looked looked' faults faults' moments none few dated (inl unwritten) =
     let Later : ℕ → Type 0 = λ n. RoseBy 0 faults n in (
       moments,
-      0,
-      [],
-      inl (few, refl, refl),
+      nothing,
+      inl (few, refl),
       record {
         written = kept held held' unwritten.0;
-        failed = subst Later (sym unwritten.1) (RoseBy-none faults faults (omega arith));
+        looked = unwritten.1;
+        faults = subst Later (sym unwritten.2) (RoseBy-none faults faults (omega arith));
         dated = dated;
       },
     )
-began w offset s line fixed given given' held held' old waits looked looked' faults faults' moments none few dated (inr (run, s', runs, stops)) =
+began world offset s line fixed given given' held held' old waits looked looked' faults faults' moments none few dated (inr (run, s', runs, stops)) =
     let whole : run.bytes ≡ stops.written ++ stops.unsaid = ap (λ l. l ++ run.bytes) (sym none) ∙ stops.whole in (
       moments,
-      run.faults,
-      stops.written,
-      inr (run, s', runs, refl, (stops.unsaid, whole)),
+      record { bytes = stops.written; looks = stops.looks.keys; faults = run.faults },
+      inr (run, s', runs, record { written = (stops.unsaid, whole); unlooked = stops.looks.unlooked; looked = stops.looks.whole; faults = refl }),
       record {
         written = stops.appended;
-        failed = stops.faults;
+        looked = stops.looks.looked;
+        faults = stops.faults;
         dated = dated;
       },
     )
 
-pub line_began : (w : WorldState) (offset : ℤ) (s : Session) (line : List ℕ) (fixed : Option ℤ) (given given' : Option (List ℤ)) (held held' : Option (List ℕ)) (old waits : List ℕ) (looked looked' : Option (List Key)) (faults faults' : ℕ)
-    → old ≡ [] → SaysFront fixed given given' (RunsLine w offset s line) (state_of held old looked faults) (state_of held' waits looked' faults')
-    → (moments : List ℤ) × (failed : ℕ) × (front : List ℕ) × IsFrontOfLine w offset s line moments failed front × Began fixed (devices_of held looked faults given) (devices_of held' looked' faults' given') moments failed front
-line_began w offset s line fixed given given' held held' old waits looked looked' faults faults' none some =
-    began w offset s line fixed given given' held held' old waits looked looked' faults faults' some.moments none some.few some.dated some.front
+pub line_began : (world : Option WorldState) (offset : ℤ) (s : Session) (line : List ℕ) (fixed : Option ℤ) (given given' : Option (List ℤ)) (held held' : Option (List ℕ)) (old waits : List ℕ) (looked looked' : Option (List Key)) (faults faults' : ℕ)
+    → old ≡ [] → SaysFront world fixed given given' (RunsLine world offset s line) (state_of held old looked faults) (state_of held' waits looked' faults')
+    → (moments : List ℤ) × (front : Run) × IsFrontOfLine world offset s line moments front × Did world fixed (devices_of held looked faults given) (devices_of held' looked' faults' given') moments front
+line_began world offset s line fixed given given' held held' old waits looked looked' faults faults' none some =
+    began world offset s line fixed given given' held held' old waits looked looked' faults faults' some.moments none some.few some.dated some.front
 
 -- ---- the code's sessions
 
-abbrev Held : WorldState → ℕ → List code_paused.Paused → Session
-Held w page items = record { page = page; paused = map (paused_of w) items }
+abbrev Held : Option WorldState → ℕ → List code_paused.Paused → Session
+Held world page items = record { page = page; paused = map (paused_of world) items }
+
+-- what a session keeps of a trace that is given is given
+given_as_left : (world : Option WorldState) (given : WorldState → Trace) (t : Trace) → IsGiven world given t → IsGiven world (λ w. some_given world given) t
+given_as_left None given t is = tt
+given_as_left (Some w) given t is = is
 
 -- the latest question goes on
-pub goes_on_popped : (offset : ℤ) (w : WorldState) (page : ℕ) (items rest : List code_paused.Paused) (latest : code_paused.Paused) (run : Run) (s' : Session) → items ≡ rest ++ latest ∷ []
-    → TellsOf offset (Held w page rest) (left_of w latest.cursor) latest.span run s' → GoesOnWith offset (Held w page items) (map (paused_of w) items) run s'
-goes_on_popped offset w page items rest latest run s' is tells =
-    let all : map (paused_of w) items ≡ map (paused_of w) rest ++ paused_of w latest ∷ [] = ap (map (paused_of w)) is ∙ map_push (paused_of w) rest latest in
-    goes_on_latest offset (Held w page items) (map (paused_of w) items) (map (paused_of w) rest) (paused_of w latest) run s' all all tells
+pub goes_on_popped : (offset : ℤ) (world : Option WorldState) (page : ℕ) (items rest : List code_paused.Paused) (latest : code_paused.Paused) (run : Run) (s' : Session) → items ≡ rest ++ latest ∷ []
+    → TellsOf offset (Held world page rest) (IsGiven world (left_of latest.cursor)) latest.span run s' → GoesOnWith world offset (Held world page items) (map (paused_of world) items) run s'
+goes_on_popped offset world page items rest latest run s' is tells =
+    let all : map (paused_of world) items ≡ map (paused_of world) rest ++ paused_of world latest ∷ [] = ap (map (paused_of world)) is ∙ map_push (paused_of world) rest latest in
+    goes_on_latest world offset (Held world page items) (map (paused_of world) items) (map (paused_of world) rest) (paused_of world latest) run s' all all
+    (tells.0, (tells.1.0, given_as_left world (left_of latest.cursor) tells.1.0 tells.1.1, tells.1.2), tells.2, tells.3)
 
 none_left : {X : Type 0} (items : List X) → length items ≡ 0 → items ≡ []
 none_left [] none = refl
 none_left (x ∷ xs) none = absurd (omega arith)
 
 -- no question is paused
-pub goes_on_nowhere : (offset : ℤ) (w : WorldState) (page : ℕ) (items rest : List code_paused.Paused) → items ≡ rest ++ [] → length items ≡ 0
-    → GoesOnWith offset (Held w page items) (map (paused_of w) items) (saying said_nothing_paused) (Held w page rest)
-goes_on_nowhere offset w page items rest is none =
-    let Goes : List code_paused.Paused → Type 0 = λ l. GoesOnWith offset (Held w page l) (map (paused_of w) l) (saying said_nothing_paused) (Held w page rest) in
+pub goes_on_nowhere : (offset : ℤ) (world : Option WorldState) (page : ℕ) (items rest : List code_paused.Paused) → items ≡ rest ++ [] → length items ≡ 0
+    → GoesOnWith world offset (Held world page items) (map (paused_of world) items) (saying said_nothing_paused) (Held world page rest)
+goes_on_nowhere offset world page items rest is none =
+    let Goes : List code_paused.Paused → Type 0 = λ l. GoesOnWith world offset (Held world page l) (map (paused_of world) l) (saying said_nothing_paused) (Held world page rest) in
     let over : rest ≡ [] = sym (is ∙ append-nil rest) ∙ none_left items none in
-    subst Goes (sym (none_left items none)) (refl, ap (Held w page) over)
+    subst Goes (sym (none_left items none)) (refl, ap (Held world page) over)
 
 -- a question is paused behind the last fifteen
-pub pauses_behind : (w : WorldState) (page page' : ℕ) (items new : List code_paused.Paused) (latest : code_paused.Paused) → page' ≡ page → length items ≤ 16 → new ≡ last_fifteen items ++ latest ∷ []
-    → Held w page' new ≡ pausing (Held w page items) (Some (left_of w latest.cursor)) latest.span
-pauses_behind w page page' items new latest same few is =
-    let shown : List Paused = map (paused_of w) items in
-    let long : length shown ≡ length items = length-map items (paused_of w) in
+pub pauses_behind : (world : Option WorldState) (page page' : ℕ) (items new : List code_paused.Paused) (latest : code_paused.Paused) → page' ≡ page → length items ≤ 16 → new ≡ last_fifteen items ++ latest ∷ []
+    → Held world page' new ≡ pausing (Held world page items) (Some (some_given world (left_of latest.cursor))) latest.span
+pauses_behind world page page' items new latest same few is =
+    let shown : List Paused = map (paused_of world) items in
+    let long : length shown ≡ length items = length-map items (paused_of world) in
     let number : length items - 15 ≡ length shown - 15 = omega arith in
-    let all : map (paused_of w) new ≡ last_sixteen (shown ++ paused_of w latest ∷ []) =
-    ap (map (paused_of w)) is ∙ map_push (paused_of w) (last_fifteen items) latest ∙ ap (λ l. l ++ paused_of w latest ∷ []) (sym (drop-map (paused_of w) (length items - 15) items) ∙ ap (λ n. drop n shown) number)
-    ∙ sym (last_sixteen_of shown (paused_of w latest) (omega arith)) in
-    ap (λ n. record { page = n; paused = map (paused_of w) new }) same ∙ ap (λ l. record { page = page; paused = l }) all
+    let all : map (paused_of world) new ≡ last_sixteen (shown ++ paused_of world latest ∷ []) =
+    ap (map (paused_of world)) is ∙ map_push (paused_of world) (last_fifteen items) latest ∙ ap (λ l. l ++ paused_of world latest ∷ []) (sym (drop-map (paused_of world) (length items - 15) items) ∙ ap (λ n. drop n shown) number)
+    ∙ sym (last_sixteen_of shown (paused_of world latest) (omega arith)) in
+    ap (λ n. record { page = n; paused = map (paused_of world) new }) same ∙ ap (λ l. record { page = page; paused = l }) all
 
 -- ---- calls that are answered as they are
 
 -- a page is told
-pub tells_page : (offset : ℤ) (s : Session) (t : Trace) (span : Place) (told : Telling) (room : Option ℕ) (s' : Session) → room ≡ room_of s.page → Tells offset span room t told → s' ≡ pausing s told.left span → TellsOf offset s t span (told_run told) s'
-tells_page offset s t span told room s' is tells next = let In : Option ℕ → Type 0 = λ r. Tells offset span r t told in (told, subst In is tells, refl, next)
+pub tells_page : (offset : ℤ) (s : Session) (P : Trace → Type 0) (span : Place) (told : Telling) (room : Option ℕ) (s' : Session) → room ≡ room_of s.page → TellsSome offset span room P told → s' ≡ pausing s told.left span → TellsOf offset s P span (told_run told) s'
+tells_page offset s P span told room s' is tells next = let In : Option ℕ → Type 0 = λ r. TellsSome offset span r P told in (told, subst In is tells, refl, next)
 
 -- nothing of it is written
-pub Stops-nothing : (held : Option (List ℕ)) (old new : List ℕ) (looked looked' : Option (List Key)) (faults : ℕ) (bytes : List ℕ) → Stops (state_of held old looked faults) (state_of held new looked' faults) (saying bytes)
-Stops-nothing held old new looked looked' faults bytes = record {
+pub Stops-nothing : (world : Option WorldState) (held : Option (List ℕ)) (old new : List ℕ) (looked : Option (List Key)) (faults : ℕ) (bytes : List ℕ) → Stops world (state_of held old looked faults) (state_of held new looked faults) (saying bytes)
+Stops-nothing world held old new looked faults bytes = record {
   written = [];
   appended = Appends-nil held;
   unsaid = old ++ bytes;
   whole = refl;
+  looks = LooksFront-none world looked [];
   faults = RoseBy-none faults faults (omega arith);
 }
 
 -- a run of one kind is one of another
-stops_as : (old new : State) (Was Is : Run → Session → Type 0) → ((run : Run) (s : Session) → Was run s → Is run s) → StopsEarly Was old new → StopsEarly Is old new
-stops_as old new Was Is turn (inl none) = inl none
-stops_as old new Was Is turn (inr (run, s, was, stops)) = inr (run, s, turn run s was, stops)
+stops_as : (world : Option WorldState) (old new : State) (Was Is : Run → Session → Type 0) → ((run : Run) (s : Session) → Was run s → Is run s) → StopsEarly world Was old new → StopsEarly world Is old new
+stops_as world old new Was Is turn (inl none) = inl none
+stops_as world old new Was Is turn (inr (run, s, was, stops)) = inr (run, s, turn run s was, stops)
 
-pub said_as : {T E : Type 0} (r : Result T E) (Was Is : Run → Session → Type 0) (now : Session) (old new : State) → ((run : Run) (s : Session) → Was run s → Is run s)
-    → MatchResult r (λ _. SaysOf Was now old new) (λ _. StopsIn Was old new) → MatchResult r (λ _. SaysOf Is now old new) (λ _. StopsIn Is old new)
-said_as (Ok x) Was Is now old new turn said = (said.0, turn said.0 now said.1, said.2)
-said_as (Err e) Was Is now old new turn said = (said.0, said.1, turn said.0 said.1 said.2, said.3)
+pub said_as : {T E : Type 0} (r : Result T E) (world : Option WorldState) (Was Is : Run → Session → Type 0) (now : Session) (old new : State) → ((run : Run) (s : Session) → Was run s → Is run s)
+    → MatchResult r (λ _. SaysOf world Was now old new) (λ _. StopsIn world Was old new) → MatchResult r (λ _. SaysOf world Is now old new) (λ _. StopsIn world Is old new)
+said_as (Ok x) world Was Is now old new turn said = (said.0, turn said.0 now said.1, said.2)
+said_as (Err e) world Was Is now old new turn said = (said.0, said.1, turn said.0 said.1 said.2, said.3)
 
-pub said_early : {T E : Type 0} (r : Result T E) (Was Is : Run → Session → Type 0) (now : Session) (old new : State) → ((run : Run) (s : Session) → Was run s → Is run s)
-    → MatchResult r (λ _. SaysOf Was now old new) (λ _. StopsIn Was old new) → MatchResult r (λ _. SaysOf Is now old new) (λ _. StopsEarly Is old new)
-said_early (Ok x) Was Is now old new turn said = (said.0, turn said.0 now said.1, said.2)
-said_early (Err e) Was Is now old new turn said = inr (said.0, said.1, turn said.0 said.1 said.2, said.3)
+pub said_early : {T E : Type 0} (r : Result T E) (world : Option WorldState) (Was Is : Run → Session → Type 0) (now : Session) (old new : State) → ((run : Run) (s : Session) → Was run s → Is run s)
+    → MatchResult r (λ _. SaysOf world Was now old new) (λ _. StopsIn world Was old new) → MatchResult r (λ _. SaysOf world Is now old new) (λ _. StopsEarly world Is old new)
+said_early (Ok x) world Was Is now old new turn said = (said.0, turn said.0 now said.1, said.2)
+said_early (Err e) world Was Is now old new turn said = inr (said.0, said.1, turn said.0 said.1 said.2, said.3)
 
 -- with the moments had
-pub said_dated : {T E : Type 0} (r : Result T E) (Was : Run → Session → Type 0) (Runs : List ℤ → Run → Session → Type 0) (fixed : Option ℤ) (given given' : Option (List ℤ)) (moments : List ℤ) (now : Session) (old new : State)
+pub said_dated : {T E : Type 0} (r : Result T E) (world : Option WorldState) (Was : Run → Session → Type 0) (Runs : List ℤ → Run → Session → Type 0) (fixed : Option ℤ) (given given' : Option (List ℤ)) (moments : List ℤ) (now : Session) (old new : State)
     → length moments ≤ 1 → Dates fixed given given' moments → ((run : Run) (s : Session) → Was run s → Runs moments run s)
-    → MatchResult r (λ _. SaysOf Was now old new) (λ _. StopsEarly Was old new) → MatchResult r (λ _. SaysAll fixed given given' Runs now old new) (λ _. SaysFront fixed given given' Runs old new)
-said_dated (Ok x) Was Runs fixed given given' moments now old new few dated turn said = record { moments = moments; run = said.0; runs = turn said.0 now said.1; says = said.2; dated = dated }
-said_dated (Err e) Was Runs fixed given given' moments now old new few dated turn said = record { moments = moments; few = few; dated = dated; front = stops_as old new Was (Runs moments) turn said }
+    → MatchResult r (λ _. SaysOf world Was now old new) (λ _. StopsEarly world Was old new) → MatchResult r (λ _. SaysAll world fixed given given' Runs now old new) (λ _. SaysFront world fixed given given' Runs old new)
+said_dated (Ok x) world Was Runs fixed given given' moments now old new few dated turn said = record { moments = moments; run = said.0; runs = turn said.0 now said.1; says = said.2; dated = dated }
+said_dated (Err e) world Was Runs fixed given given' moments now old new few dated turn said = record { moments = moments; few = few; dated = dated; front = stops_as world old new Was (Runs moments) turn said }
 
 -- what a line asks for is done
-pub obeyed : {T E : Type 0} (r : Result T E) (w : WorldState) (offset : ℤ) (s : Session) (line : List ℕ) (what : Line) (fixed : Option ℤ) (given given' : Option (List ℤ)) (now : Session) (old new : State) → Asks line what
-    → MatchResult r (λ _. SaysAll fixed given given' (Answers w offset s line what) now old new) (λ _. SaysFront fixed given given' (Answers w offset s line what) old new)
-    → MatchResult r (λ _. SaysAll fixed given given' (Obeys w offset s line) now old new) (λ _. SaysFront fixed given given' (Obeys w offset s line) old new)
-obeyed (Ok x) w offset s line what fixed given given' now old new asks all = record { moments = all.moments; run = all.run; runs = (what, asks, all.runs); says = all.says; dated = all.dated }
-obeyed (Err e) w offset s line what fixed given given' now old new asks some = record {
+pub obeyed : {T E : Type 0} (r : Result T E) (world : Option WorldState) (offset : ℤ) (s : Session) (line : List ℕ) (what : Line) (fixed : Option ℤ) (given given' : Option (List ℤ)) (now : Session) (old new : State) → Asks line what
+    → MatchResult r (λ _. SaysAll world fixed given given' (Answers world offset s line what) now old new) (λ _. SaysFront world fixed given given' (Answers world offset s line what) old new)
+    → MatchResult r (λ _. SaysAll world fixed given given' (Obeys world offset s line) now old new) (λ _. SaysFront world fixed given given' (Obeys world offset s line) old new)
+obeyed (Ok x) world offset s line what fixed given given' now old new asks all = record { moments = all.moments; run = all.run; runs = (what, asks, all.runs); says = all.says; dated = all.dated }
+obeyed (Err e) world offset s line what fixed given given' now old new asks some = record {
   moments = some.moments;
   few = some.few;
   dated = some.dated;
-  front = stops_as old new (Answers w offset s line what some.moments) (Obeys w offset s line some.moments) (λ run s' is. (what, asks, is)) some.front;
+  front = stops_as world old new (Answers world offset s line what some.moments) (Obeys world offset s line some.moments) (λ run s' is. (what, asks, is)) some.front;
 }
 
 -- bytes are said, and no moment is used
-pub says_bytes : (fixed : Option ℤ) (given : Option (List ℤ)) (Runs : List ℤ → Run → Session → Type 0) (now : Session) (held : Option (List ℕ)) (old new : List ℕ) (looked : Option (List Key)) (faults : ℕ) (bytes : List ℕ) → new ≡ old ++ bytes → Runs [] (saying bytes) now
-    → SaysAll fixed given given Runs now (state_of held old looked faults) (state_of held new looked faults)
-says_bytes fixed given Runs now held old new looked faults bytes is runs = record { moments = []; run = saying bytes; runs = runs; says = Says-bytes held old new looked faults bytes is; dated = Dates-nil fixed given }
+pub says_bytes : (world : Option WorldState) (fixed : Option ℤ) (given : Option (List ℤ)) (Runs : List ℤ → Run → Session → Type 0) (now : Session) (held : Option (List ℕ)) (old new : List ℕ) (looked : Option (List Key)) (faults : ℕ) (bytes : List ℕ) → new ≡ old ++ bytes → Runs [] (saying bytes) now
+    → SaysAll world fixed given given Runs now (state_of held old looked faults) (state_of held new looked faults)
+says_bytes world fixed given Runs now held old new looked faults bytes is runs = record { moments = []; run = saying bytes; runs = runs; says = Says-bytes world held old new looked faults bytes is; dated = Dates-nil fixed given }
 
 -- a line is said behind its echo
-pub line_said : {T E : Type 0} (r : Result T E) (w : WorldState) (offset : ℤ) (s : Session) (line : List ℕ) (fixed : Option ℤ) (given given' : Option (List ℤ)) (now : Session) (held : Option (List ℕ)) (old mid : List ℕ) (looked : Option (List Key)) (faults : ℕ) (new : State) → mid ≡ old ++ said_question line
-    → MatchResult r (λ _. SaysAll fixed given given' (Obeys w offset s line) now (state_of held mid looked faults) new) (λ _. SaysFront fixed given given' (Obeys w offset s line) (state_of held mid looked faults) new)
-    → MatchResult r (λ _. SaysAll fixed given given' (RunsLine w offset s line) now (state_of held old looked faults) new) (λ _. SaysFront fixed given given' (RunsLine w offset s line) (state_of held old looked faults) new)
-line_said (Ok x) w offset s line fixed given given' now held old mid looked faults new is all = line_says_all w offset s line fixed given given' now held old mid looked faults new is all
-line_said (Err e) w offset s line fixed given given' now held old mid looked faults new is some = line_says_front w offset s line fixed given given' held old mid looked faults new is some
+pub line_said : {T E : Type 0} (r : Result T E) (world : Option WorldState) (offset : ℤ) (s : Session) (line : List ℕ) (fixed : Option ℤ) (given given' : Option (List ℤ)) (now : Session) (held : Option (List ℕ)) (old mid : List ℕ) (looked : Option (List Key)) (faults : ℕ) (new : State) → mid ≡ old ++ said_question line
+    → MatchResult r (λ _. SaysAll world fixed given given' (Obeys world offset s line) now (state_of held mid looked faults) new) (λ _. SaysFront world fixed given given' (Obeys world offset s line) (state_of held mid looked faults) new)
+    → MatchResult r (λ _. SaysAll world fixed given given' (RunsLine world offset s line) now (state_of held old looked faults) new) (λ _. SaysFront world fixed given given' (RunsLine world offset s line) (state_of held old looked faults) new)
+line_said (Ok x) world offset s line fixed given given' now held old mid looked faults new is all = line_says_all world offset s line fixed given given' now held old mid looked faults new is all
+line_said (Err e) world offset s line fixed given given' now held old mid looked faults new is some = line_says_front world offset s line fixed given given' held old mid looked faults new is some
 
 -- a line is written, or a front of it
-pub line_written : {T E : Type 0} (r : Result T E) (w : WorldState) (offset : ℤ) (s : Session) (line : List ℕ) (fixed : Option ℤ) (given given' : Option (List ℤ)) (s' : Session) (held mid held' : Option (List ℕ)) (old waits : List ℕ) (looked looked' : Option (List Key)) (faults faults' : ℕ)
-    → old ≡ [] → SaysAll fixed given given' (RunsLine w offset s line) s' (state_of held old looked faults) (state_of mid waits looked' faults')
+pub line_written : {T E : Type 0} (r : Result T E) (world : Option WorldState) (offset : ℤ) (s : Session) (line : List ℕ) (fixed : Option ℤ) (given given' : Option (List ℤ)) (s' : Session) (held mid held' : Option (List ℕ)) (old waits : List ℕ) (looked looked' : Option (List Key)) (faults faults' : ℕ)
+    → old ≡ [] → SaysAll world fixed given given' (RunsLine world offset s line) s' (state_of held old looked faults) (state_of mid waits looked' faults')
     → MatchResult r (λ _. Appends mid held' waits) (λ _. AppendsSome mid held' (IsFront waits))
-    → MatchResult r (λ _. (moments : List ℤ) × (run : Run) × RunsLine w offset s line moments run s' × Did fixed (devices_of held looked faults given) (devices_of held' looked' faults' given') moments run)
-    (λ _. (moments : List ℤ) × (failed : ℕ) × (front : List ℕ) × IsFrontOfLine w offset s line moments failed front × Began fixed (devices_of held looked faults given) (devices_of held' looked' faults' given') moments failed front)
-line_written (Ok x) w offset s line fixed given given' s' held mid held' old waits looked looked' faults faults' none all flushed = line_ran w offset s line fixed given given' s' held mid held' old waits looked looked' faults faults' none all flushed
-line_written (Err e) w offset s line fixed given given' s' held mid held' old waits looked looked' faults faults' none all front = line_unwritten w offset s line fixed given given' s' held mid held' old waits looked looked' faults faults' none all front
+    → MatchResult r (λ _. (moments : List ℤ) × (run : Run) × RunsLine world offset s line moments run s' × Did world fixed (devices_of held looked faults given) (devices_of held' looked' faults' given') moments run)
+    (λ _. (moments : List ℤ) × (front : Run) × IsFrontOfLine world offset s line moments front × Did world fixed (devices_of held looked faults given) (devices_of held' looked' faults' given') moments front)
+line_written (Ok x) world offset s line fixed given given' s' held mid held' old waits looked looked' faults faults' none all flushed = line_ran world offset s line fixed given given' s' held mid held' old waits looked looked' faults faults' none all flushed
+line_written (Err e) world offset s line fixed given given' s' held mid held' old waits looked looked' faults faults' none all front = line_unwritten world offset s line fixed given given' s' held mid held' old waits looked looked' faults faults' none all front

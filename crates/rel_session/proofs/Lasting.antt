@@ -1,25 +1,31 @@
 -- What is told step by step, and written piece by piece.
-use Rattle.std.proofs.Common.{◌≡◌, ℕ, ◌+◌, ◌-◌, ◌^◌, ◌≤◌, max, min, ℤ, List, [], ◌∷◌, ◌++◌, length, Result, Ok, Err, None, Some, IfOk, MatchResult, refl, sym, ap, ◌∙◌, append_assoc, append-nil, subst, arith}
+use Rattle.std.proofs.Common.{◌≡◌, ℕ, ◌+◌, ◌-◌, ◌^◌, ◌≤◌, max, min, ℤ, List, [], ◌++◌, Result, Ok, Err, None, Some, IfOk, MatchResult, refl, sym, ap, ◌∙◌, append_assoc, append-nil, subst, arith}
+use Rattle.std.specs.Prelude.{⊤}
 use Rattle.std.specs.declared.option.Option.{Option}
 use Rattle.std.specs.Io.KnownBytes.{Appends}
 use Rattle.std.proofs.KnownBytes.{Appends-nil, Appends-trans}
 use Rattle.desk_base.specs.Flow.{AppendsSome, IsFront}
 use Rattle.rel_lexer.specs.declared.place.Place.{Place}
 use Rattle.bf_world.specs.declared.key.Key.{Key}
-use Rattle.bf_machine.specs.Told.{Told, Grows}
+use Rattle.bf_machine.specs.Told.{Grows}
 use Rattle.std.specs.declared.alloc.AllocError.{AllocError}
 use Rattle.rel_value.specs.Plain.{Plain}
-use Rattle.rel_trace.specs.Trace.{Give, Trace, After}
-use Rattle.rel_eval.specs.Pulls.{Skips}
+use Rattle.rel_trace.specs.Trace.{Stop, Error, Give, Trace, Ends, After}
+use Rattle.rel_eval.specs.declared.cursor.Pulled.{Pulled}
+use Rattle.rel_eval.specs.declared.cursor.Pulled.TheVariants as pulled
+use Rattle.rel_eval.specs.Pulls.{Draws, Pulls, Skips}
+use Rattle.rel_value.specs.Views.{shown}
+use Rattle.rel_value.specs.declared.value.Value.{Value}
+use Rattle.bf_world.specs.Worlds.{WorldState}
 use Rattle.rel_session.specs.declared.paused.Left.{Left}
 use Rattle.rel_session.specs.declared.paused.Left.TheVariants as left
 use Rattle.rel_session.specs.declared.paused.Step.{Step}
 use Rattle.rel_session.specs.declared.paused.Step.TheVariants.{On, Out}
-use Rattle.rel_session.specs.Devices.{RoseBy}
-use Rattle.rel_session.specs.Sessions.{told_run}
-use Rattle.rel_session.specs.Tellings.{Telling, Tells, onto}
-use Rattle.rel_session.specs.Waiting.{State, state_of, Says, Stops, Flushes, IsLeft, TellsStep, TellsValue, Stays}
-use Rattle.rel_session.proofs.Tellings.{can_be_told, comes_past_value, comes_at_end}
+use Rattle.rel_session.specs.Devices.{LooksUp, RoseBy}
+use Rattle.rel_session.specs.Sessions.{IsGiven, told_run}
+use Rattle.rel_session.specs.Tellings.{Telling, Tells, TellsSome, onto}
+use Rattle.rel_session.specs.Waiting.{some_given, State, state_of, Comes, Says, Stops, LooksFront, Flushes, IsLeft, TellsStep, TellsValue, Stays}
+use Rattle.rel_session.proofs.Tellings.{can_be_told, told_past}
 
 pub Grows-nil : {T : Type 0} (a : Option (List T)) → Grows a a []
 Grows-nil None = refl
@@ -31,6 +37,29 @@ Grows-trans None (Some b) c xs ys p q = absurd (cc)
 Grows-trans (Some a) None c xs ys p q = absurd p
 Grows-trans (Some a) (Some b) None xs ys p q = absurd q
 Grows-trans (Some a) (Some b) (Some c) xs ys p q = q ∙ ap (λ l. l ++ ys) p ∙ append_assoc a xs ys
+
+pub LooksUp-nil : (world : Option WorldState) (a : Option (List Key)) → LooksUp world a a []
+LooksUp-nil None a = tt
+LooksUp-nil (Some w) a = Grows-nil a
+
+pub LooksUp-trans : (world : Option WorldState) (a b c : Option (List Key)) (xs ys : List Key) → LooksUp world a b xs → LooksUp world b c ys → LooksUp world a c (xs ++ ys)
+LooksUp-trans None a b c xs ys p q = tt
+LooksUp-trans (Some w) a b c xs ys p q = Grows-trans a b c xs ys p q
+
+-- a front of the keys that are looked up later
+pub LooksFront-behind : (world : Option WorldState) (a b c : Option (List Key)) (keys all : List Key) → LooksUp world a b keys → LooksFront world b c all → LooksFront world a c (keys ++ all)
+LooksFront-behind world a b c keys all p q = record {
+  keys = keys ++ q.keys;
+  looked = LooksUp-trans world a b c keys q.keys p q.looked;
+  unlooked = q.unlooked;
+  whole = ap (λ l. keys ++ l) q.whole ∙ sym (append_assoc keys q.keys q.unlooked);
+}
+
+pub LooksFront-none : (world : Option WorldState) (a : Option (List Key)) (all : List Key) → LooksFront world a a all
+LooksFront-none world a all = record { keys = []; looked = LooksUp-nil world a; unlooked = all; whole = refl }
+
+pub LooksFront-all : (world : Option WorldState) (a b : Option (List Key)) (all : List Key) → LooksUp world a b all → LooksFront world a b all
+LooksFront-all world a b all p = record { keys = all; looked = p; unlooked = []; whole = sym (append-nil all) }
 
 -- ---- counts
 
@@ -55,65 +84,161 @@ later-RoseBy a x y p = grind arith
 
 -- ---- one step
 
--- memory ran out
-pub stays_somehow : (offset : ℤ) (span : Place) (room : Option ℕ) (t : Trace) (before now : ℕ) → before ≤ now → Stays offset span room t before now
-stays_somehow offset span room t before now later =
-    let some = can_be_told offset span room t in
+-- Some trace of these was drawn up to this place, and these keys were looked up.
+pub record Drawn (world : Option WorldState) (P : Trace → Type 0) (looked looked' : Option (List Key)) (At : Trace → Type 0) : Type 0 where
+  pub keys : List Key
+  pub looks : LooksUp world looked looked' keys
+  pub whole : Trace
+  pub is : P whole
+  pub later : Trace
+  pub skips : Skips whole keys later
+  pub at : At later
+
+Skips-nil : (t : Trace) → Skips t [] t
+Skips-nil t = record { events = []; quiet = refl; whole = refl; looked = refl }
+
+-- where the world is told, the trace that was left in it, and else one that begins with what was met
+pub drawn : (world : Option WorldState) (old : WorldState → Trace) (looked looked' : Option (List Key)) (At : Trace → Type 0) (some : Trace) → At some
+    → ((w : WorldState) → world ≡ Some w → (keys : List Key) × Grows looked looked' keys × ((later : Trace) × Skips (old w) keys later × At later))
+    → Drawn world (IsGiven world old) looked looked' At
+drawn None old looked looked' At some at draws = record { keys = []; looks = tt; whole = some; is = tt; later = some; skips = Skips-nil some; at = at }
+drawn (Some w) old looked looked' At some at draws =
+    let d = draws w refl in
+    record { keys = d.0; looks = d.1; whole = old w; is = refl; later = d.2.0; skips = d.2.1; at = d.2.2 }
+
+-- what was looked up in a pull is that of some stretch, whatever it answered
+some_stretch : (old new : Trace) (result : Pulled) (looks : List Key) → Pulls old result looks new → (later : Trace) × Skips old looks later × ⊤
+some_stretch old new (pulled.Value v) looks is = (After (Give (shown v)) new, is, tt)
+some_stretch old new pulled.End looks is = (Ends Stop, is.0, tt)
+some_stretch old new (pulled.Error kind place) looks is = (Ends (Error kind place), is.0, tt)
+some_stretch old new (pulled.Failed place) looks is = (new, is.0, tt)
+some_stretch old new pulled.Memory looks is = (is.0, is.1, tt)
+some_stretch old new pulled.Closed looks is = let Looks : List Key → Type 0 = λ l. Skips old l old in (old, subst Looks (sym is) (Skips-nil old), tt)
+
+pub drawn_somehow : (world : Option WorldState) (old new : WorldState → Trace) (result : Pulled) (looked looked' : Option (List Key))
+    → ((w : WorldState) → world ≡ Some w → Draws looked (old w) result looked' (new w)) → Drawn world (IsGiven world old) looked looked' (λ t. ⊤)
+drawn_somehow world old new result looked looked' draws =
+    drawn world old looked looked' (λ t. ⊤) (Ends Stop) tt (λ w is. let d = draws w is in (d.0, d.1, some_stretch (old w) (new w) result d.0 d.2))
+
+-- The next value of these traces was drawn, and what is left behind it is one of those.
+pub record DrawnValue (world : Option WorldState) (old new : WorldState → Trace) (looked looked' : Option (List Key)) (v : Plain) : Type 0 where
+  pub keys : List Key
+  pub looks : LooksUp world looked looked' keys
+  pub before : (left : Trace) → IsGiven world new left → (t : Trace) × IsGiven world old t × Skips t keys (After (Give v) left)
+
+pub drawn_value : (world : Option WorldState) (old new : WorldState → Trace) (looked looked' : Option (List Key)) (v : Value)
+    → ((w : WorldState) → world ≡ Some w → Draws looked (old w) (pulled.Value v) looked' (new w)) → DrawnValue world old new looked looked' (shown v)
+drawn_value None old new looked looked' v draws = record { keys = []; looks = tt; before = λ left is. (After (Give (shown v)) left, tt, Skips-nil (After (Give (shown v)) left)) }
+drawn_value (Some w) old new looked looked' v draws =
+    let d = draws w refl in
+    record {
+      keys = d.0;
+      looks = d.1;
+      before = λ left is. let Behind : Trace → Type 0 = λ x. Skips (old w) d.0 (After (Give (shown v)) x) in (old w, refl, subst Behind (sym is) d.2);
+    }
+
+some_is_given : (world : Option WorldState) (given : WorldState → Trace) → IsGiven world given (some_given world given)
+some_is_given None given = tt
+some_is_given (Some w) given = refl
+
+-- memory ran out behind a place that was drawn to
+pub stays_drawn : (world : Option WorldState) (offset : ℤ) (span : Place) (room : Option ℕ) (P : Trace → Type 0) (At : Trace → Type 0) (looked looked' : Option (List Key)) (before now : ℕ) → before ≤ now
+    → Drawn world P looked looked' At → Stays world (TellsSome offset span room P) looked before looked' now
+stays_drawn world offset span room P At looked looked' before now later d =
+    let some = can_be_told offset span room d.later in
     let Rises : ℕ → Type 0 = λ n. RoseBy n before now in
-    (some.0, some.1, subst Rises (sym some.2) (RoseBy-none before now later))
+    record {
+      told = onto [] d.keys some.0;
+      is = (d.whole, d.is, told_past offset span room d.whole d.keys d.later some.0 d.skips some.1);
+      looks = record { keys = d.keys; looked = d.looks; unlooked = some.0.looks; whole = refl };
+      rose = subst Rises (sym some.2) (RoseBy-none before now later);
+    }
 
 -- the next value was drawn, and told where memory was left
-pub step_at_value : (offset : ℤ) (span : Place) (room : Option ℕ) (t : Trace) (v : Plain) (left : Trace) (looks : List Key) (result : Result Step AllocError) (old new : List ℕ) (looked looked' : Option (List Key)) (before now : ℕ)
-    → Skips t looks (After (Give v) left) → Grows looked looked' looks → before ≤ now
-    → IfOk result (λ step. TellsValue offset span (Tells offset span room (After (Give v) left)) step left old new)
-    → MatchResult result (λ step. TellsStep offset span (Tells offset span room t) step left old looked before new looked' now) (λ _. Stays offset span room t before now)
-step_at_value offset span room t v left looks (Ok step) old new looked looked' before now skips grows later value = record {
-  said = value.said;
-  keys = looks;
-  faults = 0;
-  comes = comes_past_value offset span room t looks v left step value.said skips value.comes;
-  appended = value.appended;
-  grows = grows;
-  rose = RoseBy-none before now later;
-}
-step_at_value offset span room t v left looks (Err error) old new looked looked' before now skips grows later value = stays_somehow offset span room t before now later
+value_step : (world : Option WorldState) (offset : ℤ) (span : Place) (room : Option ℕ) (old new : WorldState → Trace) (v : Plain) (looked looked' : Option (List Key)) (step : Step) (said : List ℕ)
+    → (d : DrawnValue world old new looked looked' v) → ((t : Trace) → Comes (λ next. Tells offset span next t) (Tells offset span room (After (Give v) t)) step t said [] 0)
+    → Comes (λ next. TellsSome offset span next (IsGiven world new)) (TellsSome offset span room (IsGiven world old)) step (some_given world new) said d.keys 0
+value_step world offset span room old new v looked looked' (On next) said d comes = (
+  λ u (left, is, told).
+      let b = d.before left is in
+      (b.0, b.1, told_past offset span room b.0 d.keys (After (Give v) left) (onto said [] u) b.2 ((comes left).0 u told)),
+  refl,
+)
+value_step world offset span room old new v looked looked' (Out why) said d comes =
+    let c = comes (some_given world new) in
+    let b = d.before (some_given world new) (some_is_given world new) in (
+      onto [] d.keys c.0,
+      (b.0, b.1, told_past offset span room b.0 d.keys (After (Give v) (some_given world new)) c.0 b.2 c.1),
+      c.2,
+      c.3,
+      sym (append-nil d.keys) ∙ ap (λ l. d.keys ++ l) c.4,
+      c.5,
+    )
+
+pub step_at_value : (world : Option WorldState) (offset : ℤ) (span : Place) (room : Option ℕ) (old_left new_left : WorldState → Trace) (v : Plain) (left : Trace) (result : Result Step AllocError) (old new : List ℕ) (looked looked' : Option (List Key)) (before now : ℕ)
+    → left ≡ some_given world new_left → DrawnValue world old_left new_left looked looked' v → before ≤ now
+    → IfOk result (λ step. TellsValue offset span (λ t. Tells offset span room (After (Give v) t)) step old new)
+    → MatchResult result (λ step. TellsStep world (λ next. TellsSome offset span next (IsGiven world new_left)) (TellsSome offset span room (IsGiven world old_left)) step left old looked before new looked' now)
+    (λ _. Stays world (TellsSome offset span room (IsGiven world old_left)) looked before looked' now)
+step_at_value world offset span room old_left new_left v left (Ok step) old new looked looked' before now same d later value =
+    let At : Trace → Type 0 = λ l. Comes (λ next. TellsSome offset span next (IsGiven world new_left)) (TellsSome offset span room (IsGiven world old_left)) step l value.said d.keys 0 in
+    record {
+      said = value.said;
+      keys = d.keys;
+      faults = 0;
+      comes = subst At (sym same) (value_step world offset span room old_left new_left v looked looked' step value.said d value.comes);
+      appended = value.appended;
+      looks = d.looks;
+      rose = RoseBy-none before now later;
+    }
+step_at_value world offset span room old_left new_left v left (Err error) old new looked looked' before now same d later value =
+    let b = d.before (some_given world new_left) (some_is_given world new_left) in
+    stays_drawn world offset span room (IsGiven world old_left) (λ t. t ≡ t) looked looked' before now later
+    (record { keys = d.keys; looks = d.looks; whole = b.0; is = b.1; later = After (Give v) (some_given world new_left); skips = b.2; at = refl })
 
 -- the question is over, and this is told of how it ended
-pub step_at_end : (offset : ℤ) (span : Place) (room : Option ℕ) (t later rest : Trace) (looks : List Key) (told : Telling) (old new : List ℕ) (looked looked' : Option (List Key)) (before now : ℕ)
-    → Skips t looks later → Grows looked looked' looks → Tells offset span room later told → told.looks ≡ [] → told.left ≡ None → new ≡ old ++ told.bytes → RoseBy told.faults before now
-    → TellsStep offset span (Tells offset span room t) (Out left.Nothing) rest old looked before new looked' now
-step_at_end offset span room t later rest looks told old new looked looked' before now skips grows tells none over said rose = record {
+pub step_at_end : (world : Option WorldState) (offset : ℤ) (span : Place) (room : Option ℕ) (later : Option ℕ → Telling → Type 0) (P At : Trace → Type 0) (rest : Trace) (told : Telling) (old new : List ℕ) (looked looked' : Option (List Key)) (before now : ℕ)
+    → Drawn world P looked looked' At → ((t : Trace) → At t → Tells offset span room t told) → told.looks ≡ [] → told.left ≡ None → new ≡ old ++ told.bytes → RoseBy told.faults before now
+    → TellsStep world later (TellsSome offset span room P) (Out left.Nothing) rest old looked before new looked' now
+step_at_end world offset span room later P At rest told old new looked looked' before now d tells none over said rose = record {
   said = told.bytes;
-  keys = looks;
+  keys = d.keys;
   faults = told.faults;
-  comes = comes_at_end offset span room t looks later rest told skips tells none over;
+  comes = (
+    onto [] d.keys told,
+    (d.whole, d.is, told_past offset span room d.whole d.keys d.later told d.skips (tells d.later d.at)),
+    over,
+    refl,
+    sym (append-nil d.keys) ∙ ap (λ l. d.keys ++ l) (sym none),
+    refl,
+  );
   appended = said;
-  grows = grows;
+  looks = d.looks;
   rose = rose;
 }
 
 -- ---- a telling that goes on
 
 -- Some of it was said, of which a front was written and the rest waits; what is told of what is left goes on from there.
-pub record ToldSoFar (offset : ℤ) (span : Place) (first : Option ℕ) (t : Trace) (old : State) (room : Option ℕ) (left : Trace) (now : State) : Type 0 where
+pub record ToldSoFar (world : Option WorldState) (first : Telling → Type 0) (old : State) (rest : Telling → Type 0) (now : State) : Type 0 where
   pub said : List ℕ
   pub keys : List Key
   pub written : List ℕ
-  pub goes : (u : Telling) → Tells offset span room left u → Tells offset span first t (onto said keys u)
+  pub goes : (u : Telling) → rest u → first (onto said keys u)
   pub appended : Appends old.held now.held written
   pub whole : old.waiting ++ said ≡ written ++ now.waiting
-  pub looked : Grows old.looked now.looked keys
+  pub looked : LooksUp world old.looked now.looked keys
   pub faults : old.faults ≤ now.faults
 
-pub ToldSoFar-start : (offset : ℤ) (span : Place) (room : Option ℕ) (t : Trace) (s : State) → ToldSoFar offset span room t s room t s
-ToldSoFar-start offset span room t s = record {
+pub ToldSoFar-start : (world : Option WorldState) (first : Telling → Type 0) (s : State) → ToldSoFar world first s first s
+ToldSoFar-start world first s = record {
   said = [];
   keys = [];
   written = [];
   goes = λ u told. told;
   appended = Appends-nil s.held;
   whole = append-nil s.waiting;
-  looked = Grows-nil s.looked;
+  looked = LooksUp-nil world s.looked;
   faults = omega arith;
 }
 
@@ -127,31 +252,30 @@ onto_onto a b k l u =
     ap (λ x. With x (k ++ (l ++ u.looks))) (sym (append_assoc a b u.bytes)) ∙ ap (λ y. With ((a ++ b) ++ u.bytes) y) (sym (append_assoc k l u.looks))
 
 -- a value was told, and it goes on
-pub ToldSoFar-on : (offset : ℤ) (span here : Place) (first : Option ℕ) (t : Trace) (old : State) (room next : Option ℕ) (left later : Trace) (held : Option (List ℕ)) (waits waits' : List ℕ) (looked looked' : Option (List Key)) (faults faults' : ℕ)
-    → here ≡ span → ToldSoFar offset span first t old room left (state_of held waits looked faults) → TellsStep offset here (Tells offset here room left) (On next) later waits looked faults waits' looked' faults'
-    → ToldSoFar offset span first t old next later (state_of held waits' looked' faults')
-ToldSoFar-on offset span here first t old room next left later held waits waits' looked looked' faults faults' same before stepped =
-    let At : Place → Type 0 = λ p. TellsStep offset p (Tells offset p room left) (On next) later waits looked faults waits' looked' faults' in
-    let step : At span = subst At same stepped in
-    let Whole : Telling → Type 0 = λ u. Tells offset span first t u in
+pub ToldSoFar-on : (world : Option WorldState) (first : Telling → Type 0) (old : State) (rest : Telling → Type 0) (later : Option ℕ → Telling → Type 0) (step : Step) (next : Option ℕ) (left : Trace) (held : Option (List ℕ)) (waits waits' : List ℕ) (looked looked' : Option (List Key)) (faults faults' : ℕ)
+    → step ≡ On next → ToldSoFar world first old rest (state_of held waits looked faults) → TellsStep world later rest step left waits looked faults waits' looked' faults'
+    → ToldSoFar world first old (later next) (state_of held waits' looked' faults')
+ToldSoFar-on world first old rest later step next left held waits waits' looked looked' faults faults' is before stepped =
+    let At : Step → Type 0 = λ s. TellsStep world later rest s left waits looked faults waits' looked' faults' in
+    let step : At (On next) = subst At is stepped in
     let now : faults ≤ faults' = later-RoseBy step.faults faults faults' step.rose in
     let earlier : old.faults ≤ faults = before.faults in
     record {
       said = before.said ++ step.said;
       keys = before.keys ++ step.keys;
       written = before.written;
-      goes = λ u told. subst Whole (onto_onto before.said step.said before.keys step.keys u) (before.goes (onto step.said step.keys u) (step.comes.0 u told));
+      goes = λ u told. subst first (onto_onto before.said step.said before.keys step.keys u) (before.goes (onto step.said step.keys u) (step.comes.0 u told));
       appended = before.appended;
       whole = grown old.waiting before.said before.written waits waits' step.said before.whole step.appended;
-      looked = Grows-trans old.looked looked looked' before.keys step.keys before.looked step.grows;
+      looked = LooksUp-trans world old.looked looked looked' before.keys step.keys before.looked step.looks;
       faults = omega arith;
     }
 
 -- some of what waited was written
-pub ToldSoFar-flushed : (offset : ℤ) (span : Place) (first : Option ℕ) (t : Trace) (old : State) (room : Option ℕ) (left : Trace) (held held' : Option (List ℕ)) (waits waits' : List ℕ) (looked : Option (List Key)) (faults : ℕ)
-    → ToldSoFar offset span first t old room left (state_of held waits looked faults) → Flushes held held' waits waits'
-    → ToldSoFar offset span first t old room left (state_of held' waits' looked faults)
-ToldSoFar-flushed offset span first t old room left held held' waits waits' looked faults before flushed = record {
+pub ToldSoFar-flushed : (world : Option WorldState) (first : Telling → Type 0) (old : State) (rest : Telling → Type 0) (held held' : Option (List ℕ)) (waits waits' : List ℕ) (looked : Option (List Key)) (faults : ℕ)
+    → ToldSoFar world first old rest (state_of held waits looked faults) → Flushes held held' waits waits'
+    → ToldSoFar world first old rest (state_of held' waits' looked faults)
+ToldSoFar-flushed world first old rest held held' waits waits' looked faults before flushed = record {
   said = before.said;
   keys = before.keys;
   written = before.written ++ flushed.0;
@@ -163,14 +287,14 @@ ToldSoFar-flushed offset span first t old room left held held' waits waits' look
 }
 
 -- it is over, or pauses
-pub ToldSoFar-out : (offset : ℤ) (span here : Place) (first : Option ℕ) (t : Trace) (old : State) (room : Option ℕ) (why : Left) (left later : Trace) (held : Option (List ℕ)) (waits waits' : List ℕ) (looked looked' : Option (List Key)) (faults faults' : ℕ)
-    → here ≡ span → ToldSoFar offset span first t old room left (state_of held waits looked faults) → TellsStep offset here (Tells offset here room left) (Out why) later waits looked faults waits' looked' faults'
-    → (told : Telling) × Tells offset span first t told × (IsLeft why told.left later × Says old (state_of held waits' looked' faults') (told_run told))
-ToldSoFar-out offset span here first t old room why left later held waits waits' looked looked' faults faults' same before stepped =
-    let At : Place → Type 0 = λ p. TellsStep offset p (Tells offset p room left) (Out why) later waits looked faults waits' looked' faults' in
-    let step : At span = subst At same stepped in
+pub ToldSoFar-out : (world : Option WorldState) (first : Telling → Type 0) (old : State) (rest : Telling → Type 0) (later : Option ℕ → Telling → Type 0) (step : Step) (why : Left) (left : Trace) (held : Option (List ℕ)) (waits waits' : List ℕ) (looked looked' : Option (List Key)) (faults faults' : ℕ)
+    → step ≡ Out why → ToldSoFar world first old rest (state_of held waits looked faults) → TellsStep world later rest step left waits looked faults waits' looked' faults'
+    → (told : Telling) × first told × (IsLeft why told.left left × Says world old (state_of held waits' looked' faults') (told_run told))
+ToldSoFar-out world first old rest later step why left held waits waits' looked looked' faults faults' is before stepped =
+    let At : Step → Type 0 = λ s. TellsStep world later rest s left waits looked faults waits' looked' faults' in
+    let step : At (Out why) = subst At is stepped in
     let u : Telling = step.comes.0 in
-    let Looked : List Key → Type 0 = λ l. Grows looked looked' l in
+    let Looked : List Key → Type 0 = λ l. LooksUp world looked looked' l in
     let Rises : ℕ → Type 0 = λ n. RoseBy n faults faults' in
     let more : waits' ≡ waits ++ u.bytes = step.appended ∙ ap (λ l. waits ++ l) step.comes.3 in (
       onto before.said before.keys u,
@@ -181,63 +305,48 @@ ToldSoFar-out offset span here first t old room why left later held waits waits'
           written = before.written;
           appended = before.appended;
           whole = grown old.waiting before.said before.written waits waits' u.bytes before.whole more;
-          looked = Grows-trans old.looked looked looked' before.keys u.looks before.looked (subst Looked step.comes.4 step.grows);
+          looked = LooksUp-trans world old.looked looked looked' before.keys u.looks before.looked (subst Looked step.comes.4 step.looks);
           faults = RoseBy-later u.faults old.faults faults faults' before.faults (subst Rises step.comes.5 step.rose);
         },
       ),
     )
 
 -- memory ran out in a step
-pub ToldSoFar-stays : (offset : ℤ) (span here : Place) (first : Option ℕ) (t : Trace) (old : State) (room : Option ℕ) (left : Trace) (held : Option (List ℕ)) (waits waits' : List ℕ) (looked looked' : Option (List Key)) (faults faults' : ℕ)
-    → here ≡ span → ToldSoFar offset span first t old room left (state_of held waits looked faults) → Stays offset here room left faults faults'
-    → (told : Telling) × Tells offset span first t told × Stops old (state_of held waits' looked' faults') (told_run told)
-ToldSoFar-stays offset span here first t old room left held waits waits' looked looked' faults faults' same before stayed =
-    let At : Place → Type 0 = λ p. Stays offset p room left faults faults' in
-    let stays : At span = subst At same stayed in
-    let u : Telling = stays.0 in (
+pub ToldSoFar-stays : (world : Option WorldState) (first : Telling → Type 0) (old : State) (rest : Telling → Type 0) (held : Option (List ℕ)) (waits waits' : List ℕ) (looked looked' : Option (List Key)) (faults faults' : ℕ)
+    → ToldSoFar world first old rest (state_of held waits looked faults) → Stays world rest looked faults looked' faults'
+    → (told : Telling) × first told × Stops world old (state_of held waits' looked' faults') (told_run told)
+ToldSoFar-stays world first old rest held waits waits' looked looked' faults faults' before stays =
+    let u : Telling = stays.told in (
       onto before.said before.keys u,
-      before.goes u stays.1,
+      before.goes u stays.is,
       record {
         written = before.written;
         appended = before.appended;
         unsaid = waits ++ u.bytes;
         whole = grown old.waiting before.said before.written waits (waits ++ u.bytes) u.bytes before.whole refl;
-        faults = RoseBy-later u.faults old.faults faults faults' before.faults stays.2;
+        looks = LooksFront-behind world old.looked looked looked' before.keys u.looks before.looked stays.looks;
+        faults = RoseBy-later u.faults old.faults faults faults' before.faults stays.rose;
       },
     )
 
 -- a write failed
-pub ToldSoFar-unwritten : (offset : ℤ) (span : Place) (first : Option ℕ) (t : Trace) (old : State) (room : Option ℕ) (left : Trace) (held held' : Option (List ℕ)) (waits waits' : List ℕ) (looked : Option (List Key)) (faults : ℕ)
-    → ToldSoFar offset span first t old room left (state_of held waits looked faults) → AppendsSome held held' (IsFront waits)
-    → (told : Telling) × Tells offset span first t told × Stops old (state_of held' waits' looked faults) (told_run told)
-ToldSoFar-unwritten offset span first t old room left held held' waits waits' looked faults before front =
-    let some = can_be_told offset span room left in
+pub ToldSoFar-unwritten : (world : Option WorldState) (first : Telling → Type 0) (old : State) (offset : ℤ) (span : Place) (room : Option ℕ) (given : WorldState → Trace) (held held' : Option (List ℕ)) (waits waits' : List ℕ) (looked : Option (List Key)) (faults : ℕ)
+    → ToldSoFar world first old (TellsSome offset span room (IsGiven world given)) (state_of held waits looked faults) → AppendsSome held held' (IsFront waits)
+    → (told : Telling) × first told × Stops world old (state_of held' waits' looked faults) (told_run told)
+ToldSoFar-unwritten world first old offset span room given held held' waits waits' looked faults before front =
+    let some = can_be_told offset span room (some_given world given) in
     let u : Telling = some.0 in
     let rest : List ℕ = front.1.0 in
     let Rises : ℕ → Type 0 = λ n. RoseBy n old.faults faults in
     let behind : waits ++ u.bytes ≡ front.0 ++ (rest ++ u.bytes) = ap (λ l. l ++ u.bytes) front.1.1 ∙ append_assoc front.0 rest u.bytes in (
       onto before.said before.keys u,
-      before.goes u some.1,
+      before.goes u (some_given world given, some_is_given world given, some.1),
       record {
         written = before.written ++ front.0;
         appended = Appends-trans old.held held held' before.written front.0 before.appended front.2;
         unsaid = rest ++ u.bytes;
         whole = grown old.waiting before.said before.written waits (waits ++ u.bytes) u.bytes before.whole refl ∙ ap (λ l. before.written ++ l) behind ∙ sym (append_assoc before.written front.0 (rest ++ u.bytes));
+        looks = LooksFront-behind world old.looked looked looked before.keys u.looks before.looked (LooksFront-none world looked u.looks);
         faults = subst Rises (sym some.2) (RoseBy-none old.faults faults before.faults);
       },
     )
-
--- the same, where the step is known to be one of these
-pub ToldSoFar-went : (offset : ℤ) (span here : Place) (first : Option ℕ) (t : Trace) (old : State) (room : Option ℕ) (step : Step) (next : Option ℕ) (left later : Trace) (held : Option (List ℕ)) (waits waits' : List ℕ) (looked looked' : Option (List Key)) (faults faults' : ℕ)
-    → step ≡ On next → here ≡ span → ToldSoFar offset span first t old room left (state_of held waits looked faults) → TellsStep offset here (Tells offset here room left) step later waits looked faults waits' looked' faults'
-    → ToldSoFar offset span first t old next later (state_of held waits' looked' faults')
-ToldSoFar-went offset span here first t old room step next left later held waits waits' looked looked' faults faults' is same before stepped =
-    let At : Step → Type 0 = λ s. TellsStep offset here (Tells offset here room left) s later waits looked faults waits' looked' faults' in
-    ToldSoFar-on offset span here first t old room next left later held waits waits' looked looked' faults faults' same before (subst At is stepped)
-
-pub ToldSoFar-over : (offset : ℤ) (span here : Place) (first : Option ℕ) (t : Trace) (old : State) (room : Option ℕ) (step : Step) (why : Left) (left later : Trace) (held : Option (List ℕ)) (waits waits' : List ℕ) (looked looked' : Option (List Key)) (faults faults' : ℕ)
-    → step ≡ Out why → here ≡ span → ToldSoFar offset span first t old room left (state_of held waits looked faults) → TellsStep offset here (Tells offset here room left) step later waits looked faults waits' looked' faults'
-    → (told : Telling) × Tells offset span first t told × (IsLeft why told.left later × Says old (state_of held waits' looked' faults') (told_run told))
-ToldSoFar-over offset span here first t old room step why left later held waits waits' looked looked' faults faults' is same before stepped =
-    let At : Step → Type 0 = λ s. TellsStep offset here (Tells offset here room left) s later waits looked faults waits' looked' faults' in
-    ToldSoFar-out offset span here first t old room why left later held waits waits' looked looked' faults faults' same before (subst At is stepped)

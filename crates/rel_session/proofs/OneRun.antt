@@ -1,5 +1,5 @@
 -- Where no look fails one thing is said of lines.
-use Rattle.std.proofs.Common.{◌≡◌, ◌⊎◌, ℕ, zero, suc, ◌+◌, ◌^◌, ◌<◌, ◌≤◌, ℤ, Bool, true, false, List, [], ◌∷◌, ◌++◌, length, drop, get_or, None, Some, inl, inr, refl, sym, ap, ◌∙◌, subst, arith}
+use Rattle.std.proofs.Common.{◌≡◌, ℕ, zero, suc, ◌+◌, ℤ, Bool, true, false, List, [], ◌∷◌, ◌++◌, drop, get_or, None, Some, inl, inr, refl, sym, ap, ◌∙◌, subst, arith}
 use Rattle.std.proofs.lemmas.Bool.{false≢true}
 use Rattle.std.proofs.lemmas.Fmt.{decimal_injective}
 use Rattle.std.proofs.lemmas.List.{append_cancel_left, same_from_push}
@@ -16,7 +16,7 @@ use Rattle.rel_eval.specs.Questions.{Reading, question, refused, undefined}
 use Rattle.rel_session.specs.declared.line.Line.{Line}
 use Rattle.rel_session.specs.declared.line.Line.TheVariants.{Question, Page, More, NoCommand}
 use Rattle.rel_session.specs.Printed.{said_question, said_value}
-use Rattle.rel_session.specs.Sessions.{Paused, Session, Run, saying, after, pausing, scene_at, more_line, begins_with_colon, IsPageLine, Asks, TellsOf, AnswersReading, AnswersText, GoesOnWith, Answers, RunsLine, Runs}
+use Rattle.rel_session.specs.Sessions.{Paused, Session, Run, saying, after, pausing, scene_at, more_line, begins_with_colon, IsPageLine, Asks, IsGiven, TellsOf, AnswersReading, AnswersText, GoesOnWith, Answers, RunsLine, Runs}
 use Rattle.rel_session.specs.Tellings.{Telling, onto, GoesOn, Tells, room_of}
 
 -- ---- a telling
@@ -54,29 +54,31 @@ tells_once offset span room (After (Give v) t) x y (inr (short, (u, goes, is))) 
 abbrev SameEnd : Run → Run → Session → Session → Type 0
 SameEnd x y s s' = (x ≡ y) × (s ≡ s')
 
-tells_of_once : (offset : ℤ) (s : Session) (t : Trace) (span : Place) (x y : Run) (a b : Session) → TellsOf offset s t span x a → TellsOf offset s t span y b → x.faults ≡ 0 → y.faults ≡ 0 → SameEnd x y a b
-tells_of_once offset s t span x y a b p q none none' =
-    let same : p.0 ≡ q.0 = tells_once offset span (room_of s.page) t p.0 q.0 p.1 q.1 (sym (ap (λ r. r.faults) p.2) ∙ none) (sym (ap (λ r. r.faults) q.2) ∙ none') in
-    (p.2 ∙ ap (λ u. record { bytes = u.bytes; looks = u.looks; faults = u.faults }) same ∙ sym q.2, p.3 ∙ ap (λ u. pausing s u.left span) same ∙ sym q.3)
+tells_of_once : (offset : ℤ) (s : Session) (given : WorldState → Trace) (w : WorldState) (span : Place) (x y : Run) (a b : Session) → TellsOf offset s (IsGiven (Some w) given) span x a → TellsOf offset s (IsGiven (Some w) given) span y b
+    → x.faults ≡ 0 → y.faults ≡ 0 → SameEnd x y a b
+tells_of_once offset s given w span x y a b (told, (t, is, tells), ran, next) (told', (t', is', tells'), ran', next') none none' =
+    let Of : Trace → Type 0 = λ z. Tells offset span (room_of s.page) z told' in
+    let same : told ≡ told' = tells_once offset span (room_of s.page) t told told' tells (subst Of (is' ∙ sym is) tells') (sym (ap (λ r. r.faults) ran) ∙ none) (sym (ap (λ r. r.faults) ran') ∙ none') in
+    (ran ∙ ap (λ u. record { bytes = u.bytes; looks = u.looks; faults = u.faults }) same ∙ sym ran', next ∙ ap (λ u. pausing s u.left span) same ∙ sym next')
 
-reading_answers_once : (w : WorldState) (moment offset : ℤ) (s : Session) (reading : Reading) (x y : Run) (a b : Session) → AnswersReading w moment offset s reading x a → AnswersReading w moment offset s reading y b → x.faults ≡ 0 → y.faults ≡ 0 → SameEnd x y a b
-reading_answers_once w moment offset s (question plan) x y a b p q none none' = tells_of_once offset s (meaning w (scene_at moment offset) plan) (span_of_node plan) x y a b p q none none'
+reading_answers_once : (w : WorldState) (moment offset : ℤ) (s : Session) (reading : Reading) (x y : Run) (a b : Session) → AnswersReading (Some w) moment offset s reading x a → AnswersReading (Some w) moment offset s reading y b → x.faults ≡ 0 → y.faults ≡ 0 → SameEnd x y a b
+reading_answers_once w moment offset s (question plan) x y a b p q none none' = tells_of_once offset s (λ v. meaning v (scene_at moment offset) plan) w (span_of_node plan) x y a b p q none none'
 reading_answers_once w moment offset s (refused kind place) x y a b p q none none' = (p.0 ∙ sym q.0, p.1 ∙ sym q.1)
 reading_answers_once w moment offset s (undefined place words) x y a b p q none none' = (p.0 ∙ sym q.0, p.1 ∙ sym q.1)
 
-text_answers_once : (w : WorldState) (moment offset : ℤ) (s : Session) (text : List ℕ) (x y : Run) (a b : Session) → AnswersText w moment offset s text x a → AnswersText w moment offset s text y b → x.faults ≡ 0 → y.faults ≡ 0 → SameEnd x y a b
+text_answers_once : (w : WorldState) (moment offset : ℤ) (s : Session) (text : List ℕ) (x y : Run) (a b : Session) → AnswersText (Some w) moment offset s text x a → AnswersText (Some w) moment offset s text y b → x.faults ≡ 0 → y.faults ≡ 0 → SameEnd x y a b
 unfolding AnswersText
 text_answers_once w moment offset s text x y a b p q none none' =
-    let Answered : Reading → Type 0 = λ r. AnswersReading w moment offset s r y b in
+    let Answered : Reading → Type 0 = λ r. AnswersReading (Some w) moment offset s r y b in
     reading_answers_once w moment offset s p.0 x y a b p.2 (subst Answered (sym (reading_is_one text p.0 q.0 p.1 q.1)) q.2) none none'
 
-goes_on_with_once : (offset : ℤ) (s : Session) (paused : List Paused) (x y : Run) (a b : Session) → GoesOnWith offset s paused x a → GoesOnWith offset s paused y b → x.faults ≡ 0 → y.faults ≡ 0 → SameEnd x y a b
-goes_on_with_once offset s [] x y a b p q none none' = (p.0 ∙ sym q.0, p.1 ∙ sym q.1)
-goes_on_with_once offset s (first ∷ rest) x y a b (before, latest, is, tells) (before', latest', is', tells') none none' =
+goes_on_with_once : (w : WorldState) (offset : ℤ) (s : Session) (paused : List Paused) (x y : Run) (a b : Session) → GoesOnWith (Some w) offset s paused x a → GoesOnWith (Some w) offset s paused y b → x.faults ≡ 0 → y.faults ≡ 0 → SameEnd x y a b
+goes_on_with_once w offset s [] x y a b p q none none' = (p.0 ∙ sym q.0, p.1 ∙ sym q.1)
+goes_on_with_once w offset s (first ∷ rest) x y a b (before, latest, is, tells) (before', latest', is', tells') none none' =
     let same = same_from_push before before' latest latest' (sym is ∙ is') in
-    let Before : List Paused → Type 0 = λ l. TellsOf offset (record s { paused = l }) latest'.left latest'.span y b in
-    let Latest : Paused → Type 0 = λ l. TellsOf offset (record s { paused = before }) l.left l.span y b in
-    tells_of_once offset (record s { paused = before }) latest.left latest.span x y a b tells (subst Latest (sym same.1) (subst Before (sym same.0) tells')) none none'
+    let Before : List Paused → Type 0 = λ l. TellsOf offset (record s { paused = l }) (IsGiven (Some w) (λ v. latest'.left)) latest'.span y b in
+    let Latest : Paused → Type 0 = λ l. TellsOf offset (record s { paused = before }) (IsGiven (Some w) (λ v. l.left)) l.span y b in
+    tells_of_once offset (record s { paused = before }) (λ v. latest.left) w latest.span x y a b tells (subst Latest (sym same.1) (subst Before (sym same.0) tells')) none none'
 
 page_begins : (line : List ℕ) (size : ℕ) → IsPageLine line size → begins_with_colon line ≡ true
 page_begins line size is = ap begins_with_colon is.1
@@ -122,22 +124,22 @@ none_used : (now now' later later' : List ℤ) → now ≡ [] → now' ≡ [] �
 none_used now now' later later' p q is = sym (ap (λ l. l ++ later) p) ∙ is ∙ ap (λ l. l ++ later') q
 
 answers_once : (w : WorldState) (offset : ℤ) (s : Session) (line : List ℕ) (what : Line) (now now' later later' : List ℤ) (x y : Run) (a b : Session)
-    → Answers w offset s line what now x a → Answers w offset s line what now' y b → now ++ later ≡ now' ++ later' → x.faults ≡ 0 → y.faults ≡ 0 → SameLine later later' x y a b
+    → Answers (Some w) offset s line what now x a → Answers (Some w) offset s line what now' y b → now ++ later ≡ now' ++ later' → x.faults ≡ 0 → y.faults ≡ 0 → SameLine later later' x y a b
 answers_once w offset s line Question now now' later later' x y a b (moment, is, p) (moment', is', q) all none none' =
     let same = head_same moment moment' later later' (sym (ap (λ l. l ++ later) is) ∙ all ∙ ap (λ l. l ++ later') is') in
-    let At : ℤ → Type 0 = λ m. AnswersText w m offset s line y b in
+    let At : ℤ → Type 0 = λ m. AnswersText (Some w) m offset s line y b in
     let one = text_answers_once w moment offset s line x y a b p (subst At (sym same.0) q) none none' in
     (same.1, one.0, one.1)
 answers_once w offset s line (Page size) now now' later later' x y a b (is, ran, next) (is', ran', next') all none none' = (none_used now now' later later' is is' all, ran ∙ sym ran', next ∙ sym next')
 answers_once w offset s line More now now' later later' x y a b (is, p) (is', q) all none none' =
-    let one = goes_on_with_once offset s s.paused x y a b p q none none' in
+    let one = goes_on_with_once w offset s s.paused x y a b p q none none' in
     (none_used now now' later later' is is' all, one.0, one.1)
 answers_once w offset s line NoCommand now now' later later' x y a b (is, ran, next) (is', ran', next') all none none' = (none_used now now' later later' is is' all, ran ∙ sym ran', next ∙ sym next')
 
 line_runs_once : (w : WorldState) (offset : ℤ) (s : Session) (line : List ℕ) (now now' later later' : List ℤ) (x y : Run) (a b : Session)
-    → RunsLine w offset s line now x a → RunsLine w offset s line now' y b → now ++ later ≡ now' ++ later' → x.faults ≡ 0 → y.faults ≡ 0 → SameLine later later' x y a b
+    → RunsLine (Some w) offset s line now x a → RunsLine (Some w) offset s line now' y b → now ++ later ≡ now' ++ later' → x.faults ≡ 0 → y.faults ≡ 0 → SameLine later later' x y a b
 line_runs_once w offset s line now now' later later' x y a b (what, asks, (answer, p, is)) (what', asks', (answer', q, is')) all none none' =
-    let Asked : Line → Type 0 = λ l. Answers w offset s line l now' answer' b in
+    let Asked : Line → Type 0 = λ l. Answers (Some w) offset s line l now' answer' b in
     let zero : 0 + answer.faults ≡ 0 = sym (ap (λ r. r.faults) is) ∙ none in
     let zero' : 0 + answer'.faults ≡ 0 = sym (ap (λ r. r.faults) is') ∙ none' in
     let one = answers_once w offset s line what now now' later later' answer answer' a b p (subst Asked (sym (asks_once line what what' asks asks')) q) all (omega arith) (omega arith) in
@@ -145,13 +147,13 @@ line_runs_once w offset s line now now' later later' x y a b (what, asks, (answe
 
 -- ---- lines
 
-pub runs_once : (w : WorldState) (offset : ℤ) (s : Session) (lines : List (List ℕ)) (moments : List ℤ) (a b : Run) → Runs w offset s lines moments a → Runs w offset s lines moments b → a.faults ≡ 0 → b.faults ≡ 0 → a ≡ b
+pub runs_once : (w : WorldState) (offset : ℤ) (s : Session) (lines : List (List ℕ)) (moments : List ℤ) (a b : Run) → Runs (Some w) offset s lines moments a → Runs (Some w) offset s lines moments b → a.faults ≡ 0 → b.faults ≡ 0 → a ≡ b
 runs_once w offset s [] moments a b p q none none' = p.1 ∙ sym q.1
 runs_once w offset s (line ∷ lines) moments a b (now, later, all, (first, next, ran, (rest, runs, is))) (now', later', all', (first', next', ran', (rest', runs', is'))) none none' =
     let sum : first.faults + rest.faults ≡ 0 = sym (ap (λ r. r.faults) is) ∙ none in
     let sum' : first'.faults + rest'.faults ≡ 0 = sym (ap (λ r. r.faults) is') ∙ none' in
     let one = line_runs_once w offset s line now now' later later' first first' next next' ran ran' (sym all ∙ all') (omega arith) (omega arith) in
-    let Later : List ℤ → Type 0 = λ l. Runs w offset next lines l rest' in
-    let Next : Session → Type 0 = λ z. Runs w offset z lines later' rest' in
+    let Later : List ℤ → Type 0 = λ l. Runs (Some w) offset next lines l rest' in
+    let Next : Session → Type 0 = λ z. Runs (Some w) offset z lines later' rest' in
     let others : rest ≡ rest' = runs_once w offset next lines later rest rest' runs (subst Later (sym one.0) (subst Next (sym one.2) runs')) (omega arith) (omega arith) in
     is ∙ ap (λ r. after r rest) one.1 ∙ ap (after first') others ∙ sym is'

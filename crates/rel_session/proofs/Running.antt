@@ -1,14 +1,13 @@
 -- Lines that are run one after another, and what the devices did of them.
-use Rattle.std.proofs.Common.{◌≡◌, ℕ, ◌+◌, ℤ, List, [], ◌∷◌, ◌++◌, None, Some, All, inl, inr, refl, sym, ap, ◌∙◌, append_assoc, append-nil, subst, arith}
+use Rattle.std.proofs.Common.{◌≡◌, ℕ, ◌+◌, ℤ, List, [], ◌∷◌, ◌++◌, None, Some, inl, inr, refl, sym, ap, ◌∙◌, append_assoc, append-nil, subst, arith}
 use Rattle.std.proofs.lemmas.List.Elements.{All-append, All-nil}
 use Rattle.std.specs.declared.option.Option.{Option}
-use Rattle.std.specs.Io.KnownBytes.{Appends}
 use Rattle.std.proofs.KnownBytes.{Appends-nil, Appends-trans}
 use Rattle.desk_base.specs.Moments.{AppendsMoments}
 use Rattle.bf_world.specs.Worlds.{WorldState}
-use Rattle.rel_session.specs.Devices.{Devices, RoseBy, Dates, Did, Began, DidAll, DidFront}
+use Rattle.rel_session.specs.Devices.{Devices, Dates, Did, DidAll, DidFront}
 use Rattle.rel_session.specs.Sessions.{Session, Run, nothing, after, RunsLine, Runs, IsFrontOfLine, IsFrontOfRun}
-use Rattle.rel_session.proofs.Lasting.{Grows-nil, Grows-trans, RoseBy-more, RoseBy-none}
+use Rattle.rel_session.proofs.Lasting.{LooksUp-nil, LooksUp-trans, RoseBy-more, RoseBy-none}
 
 AppendsMoments-nil : (a : Option (List ℤ)) → AppendsMoments a a []
 AppendsMoments-nil None = tt
@@ -28,26 +27,19 @@ pub Dates-trans : (fixed : Option ℤ) (a b c : Option (List ℤ)) (xs ys : List
 Dates-trans None a b c xs ys p q = AppendsMoments-trans a b c xs ys p q
 Dates-trans (Some moment) a b c xs ys p q = (All-append (λ x. x ≡ moment) xs ys p.0 q.0, q.1 ∙ p.1)
 
-Did-nil : (fixed : Option ℤ) (a : Devices) → Did fixed a a [] nothing
-Did-nil fixed a = record {
+Did-nil : (world : Option WorldState) (fixed : Option ℤ) (a : Devices) → Did world fixed a a [] nothing
+Did-nil world fixed a = record {
   written = Appends-nil a.held;
-  looked = Grows-nil a.looked;
+  looked = LooksUp-nil world a.looked;
   faults = RoseBy-none a.faults a.faults (omega arith);
   dated = Dates-nil fixed a.given;
 }
 
-Did-trans : (fixed : Option ℤ) (a b c : Devices) (xs ys : List ℤ) (r s : Run) → Did fixed a b xs r → Did fixed b c ys s → Did fixed a c (xs ++ ys) (after r s)
-Did-trans fixed a b c xs ys r s p q = record {
+Did-trans : (world : Option WorldState) (fixed : Option ℤ) (a b c : Devices) (xs ys : List ℤ) (r s : Run) → Did world fixed a b xs r → Did world fixed b c ys s → Did world fixed a c (xs ++ ys) (after r s)
+Did-trans world fixed a b c xs ys r s p q = record {
   written = Appends-trans a.held b.held c.held r.bytes s.bytes p.written q.written;
-  looked = Grows-trans a.looked b.looked c.looked r.looks s.looks p.looked q.looked;
+  looked = LooksUp-trans world a.looked b.looked c.looked r.looks s.looks p.looked q.looked;
   faults = RoseBy-more r.faults s.faults a.faults b.faults c.faults p.faults q.faults;
-  dated = Dates-trans fixed a.given b.given c.given xs ys p.dated q.dated;
-}
-
-Began-behind : (fixed : Option ℤ) (a b c : Devices) (xs ys : List ℤ) (r : Run) (faults : ℕ) (front : List ℕ) → Did fixed a b xs r → Began fixed b c ys faults front → Began fixed a c (xs ++ ys) (r.faults + faults) (r.bytes ++ front)
-Began-behind fixed a b c xs ys r faults front p q = record {
-  written = Appends-trans a.held b.held c.held r.bytes front p.written q.written;
-  failed = RoseBy-more r.faults faults a.faults b.faults c.faults p.faults q.failed;
   dated = Dates-trans fixed a.given b.given c.given xs ys p.dated q.dated;
 }
 
@@ -67,60 +59,58 @@ after_after a b c =
     ∙ ap (λ n. With (a.bytes ++ (b.bytes ++ c.bytes)) (a.looks ++ (b.looks ++ c.looks)) n) (omega arith)
 
 -- Some first lines are run; what is run of the rest, or a front of it, goes on from there.
-pub record RanSoFar (w : WorldState) (offset : ℤ) (fixed : Option ℤ) (first : Session) (lines : List (List ℕ)) (old : Devices) (s : Session) (rest : List (List ℕ)) (now : Devices) : Type 0 where
+pub record RanSoFar (world : Option WorldState) (offset : ℤ) (fixed : Option ℤ) (first : Session) (lines : List (List ℕ)) (old : Devices) (s : Session) (rest : List (List ℕ)) (now : Devices) : Type 0 where
   pub moments : List ℤ
   pub run : Run
-  pub did : Did fixed old now moments run
-  pub whole : (later : List ℤ) (r : Run) → Runs w offset s rest later r → Runs w offset first lines (moments ++ later) (after run r)
-  pub front : (later : List ℤ) (faults : ℕ) (bytes : List ℕ) → IsFrontOfRun w offset s rest later faults bytes → IsFrontOfRun w offset first lines (moments ++ later) (run.faults + faults) (run.bytes ++ bytes)
+  pub did : Did world fixed old now moments run
+  pub whole : (later : List ℤ) (r : Run) → Runs world offset s rest later r → Runs world offset first lines (moments ++ later) (after run r)
+  pub front : (later : List ℤ) (r : Run) → IsFrontOfRun world offset s rest later r → IsFrontOfRun world offset first lines (moments ++ later) (after run r)
 
-pub RanSoFar-start : (w : WorldState) (offset : ℤ) (fixed : Option ℤ) (s : Session) (lines : List (List ℕ)) (a : Devices) → RanSoFar w offset fixed s lines a s lines a
-RanSoFar-start w offset fixed s lines a = record {
+pub RanSoFar-start : (world : Option WorldState) (offset : ℤ) (fixed : Option ℤ) (s : Session) (lines : List (List ℕ)) (a : Devices) → RanSoFar world offset fixed s lines a s lines a
+RanSoFar-start world offset fixed s lines a = record {
   moments = [];
   run = nothing;
-  did = Did-nil fixed a;
-  whole = λ later r runs. let Ran : Run → Type 0 = λ z. Runs w offset s lines later z in subst Ran (nothing_after r) runs;
-  front = λ later faults bytes is. let Failed : ℕ → Type 0 = λ n. IsFrontOfRun w offset s lines later n bytes in let same : faults ≡ 0 + faults = omega arith in subst Failed same is;
+  did = Did-nil world fixed a;
+  whole = λ later r runs. let Ran : Run → Type 0 = λ z. Runs world offset s lines later z in subst Ran (nothing_after r) runs;
+  front = λ later r is. let Ran : Run → Type 0 = λ z. IsFrontOfRun world offset s lines later z in subst Ran (nothing_after r) is;
 }
 
 -- the next line is run
-pub RanSoFar-step : (w : WorldState) (offset : ℤ) (fixed : Option ℤ) (first : Session) (lines : List (List ℕ)) (old : Devices) (s s' : Session) (rest more : List (List ℕ)) (line : List ℕ) (now new : Devices) (moments : List ℤ) (run : Run)
-    → RanSoFar w offset fixed first lines old s rest now → rest ≡ line ∷ more → RunsLine w offset s line moments run s' → Did fixed now new moments run
-    → RanSoFar w offset fixed first lines old s' more new
-RanSoFar-step w offset fixed first lines old s s' rest more line now new moments run before is runs did =
-    let Before : List (List ℕ) → Type 0 = λ l. RanSoFar w offset fixed first lines old s l now in
-    let b : RanSoFar w offset fixed first lines old s (line ∷ more) now = subst Before is before in
-    let Moments : Run → List ℤ → Type 0 = λ r l. Runs w offset first lines l r in
-    let Faults : List ℤ → List ℕ → ℕ → Type 0 = λ l x n. IsFrontOfRun w offset first lines l n x in
+pub RanSoFar-step : (world : Option WorldState) (offset : ℤ) (fixed : Option ℤ) (first : Session) (lines : List (List ℕ)) (old : Devices) (s s' : Session) (rest more : List (List ℕ)) (line : List ℕ) (now new : Devices) (moments : List ℤ) (run : Run)
+    → RanSoFar world offset fixed first lines old s rest now → rest ≡ line ∷ more → RunsLine world offset s line moments run s' → Did world fixed now new moments run
+    → RanSoFar world offset fixed first lines old s' more new
+RanSoFar-step world offset fixed first lines old s s' rest more line now new moments run before is runs did =
+    let Before : List (List ℕ) → Type 0 = λ l. RanSoFar world offset fixed first lines old s l now in
+    let b : RanSoFar world offset fixed first lines old s (line ∷ more) now = subst Before is before in
+    let Ran : Run → List ℤ → Type 0 = λ r l. Runs world offset first lines l r in
+    let Front : Run → List ℤ → Type 0 = λ r l. IsFrontOfRun world offset first lines l r in
     record {
       moments = b.moments ++ moments;
       run = after b.run run;
-      did = Did-trans fixed old now new b.moments moments b.run run b.did did;
+      did = Did-trans world fixed old now new b.moments moments b.run run b.did did;
       whole = λ later r goes.
-          subst (λ z. Moments z ((b.moments ++ moments) ++ later)) (sym (after_after b.run run r))
-          (subst (Moments (after b.run (after run r))) (sym (append_assoc b.moments moments later)) (b.whole (moments ++ later) (after run r) (moments, later, refl, (run, s', runs, (r, goes, refl)))));
-      front = λ later faults bytes goes.
-          subst (Faults ((b.moments ++ moments) ++ later) ((b.run.bytes ++ run.bytes) ++ bytes)) (omega arith)
-          (subst (λ x. Faults ((b.moments ++ moments) ++ later) x (b.run.faults + (run.faults + faults))) (sym (append_assoc b.run.bytes run.bytes bytes))
-          (subst (λ l. Faults l (b.run.bytes ++ (run.bytes ++ bytes)) (b.run.faults + (run.faults + faults))) (sym (append_assoc b.moments moments later))
-          (b.front (moments ++ later) (run.faults + faults) (run.bytes ++ bytes) (inr (moments, later, refl, (run, s', runs, (bytes, faults, goes, refl, refl)))))));
+          subst (λ z. Ran z ((b.moments ++ moments) ++ later)) (sym (after_after b.run run r))
+          (subst (Ran (after b.run (after run r))) (sym (append_assoc b.moments moments later)) (b.whole (moments ++ later) (after run r) (moments, later, refl, (run, s', runs, (r, goes, refl)))));
+      front = λ later r goes.
+          subst (λ z. Front z ((b.moments ++ moments) ++ later)) (sym (after_after b.run run r))
+          (subst (Front (after b.run (after run r))) (sym (append_assoc b.moments moments later)) (b.front (moments ++ later) (after run r) (inr (moments, later, refl, (run, s', runs, (r, goes, refl))))));
     }
 
 -- a front of the next line is run
-pub RanSoFar-stop : (w : WorldState) (offset : ℤ) (fixed : Option ℤ) (first : Session) (lines : List (List ℕ)) (old : Devices) (s : Session) (rest more : List (List ℕ)) (line : List ℕ) (now new : Devices) (moments : List ℤ) (faults : ℕ) (bytes : List ℕ)
-    → RanSoFar w offset fixed first lines old s rest now → rest ≡ line ∷ more → IsFrontOfLine w offset s line moments faults bytes → Began fixed now new moments faults bytes
-    → DidFront w offset first lines fixed old new
-RanSoFar-stop w offset fixed first lines old s rest more line now new moments faults bytes before is front began =
-    let Before : List (List ℕ) → Type 0 = λ l. RanSoFar w offset fixed first lines old s l now in
-    let b : RanSoFar w offset fixed first lines old s (line ∷ more) now = subst Before is before in
-    (b.moments ++ moments, b.run.faults + faults, b.run.bytes ++ bytes, b.front moments faults bytes (inl front), Began-behind fixed old now new b.moments moments b.run faults bytes b.did began)
+pub RanSoFar-stop : (world : Option WorldState) (offset : ℤ) (fixed : Option ℤ) (first : Session) (lines : List (List ℕ)) (old : Devices) (s : Session) (rest more : List (List ℕ)) (line : List ℕ) (now new : Devices) (moments : List ℤ) (front : Run)
+    → RanSoFar world offset fixed first lines old s rest now → rest ≡ line ∷ more → IsFrontOfLine world offset s line moments front → Did world fixed now new moments front
+    → DidFront world offset first lines fixed old new
+RanSoFar-stop world offset fixed first lines old s rest more line now new moments front before is some did =
+    let Before : List (List ℕ) → Type 0 = λ l. RanSoFar world offset fixed first lines old s l now in
+    let b : RanSoFar world offset fixed first lines old s (line ∷ more) now = subst Before is before in
+    (b.moments ++ moments, after b.run front, b.front moments front (inl some), Did-trans world fixed old now new b.moments moments b.run front b.did did)
 
 -- all lines are run
-pub RanSoFar-end : (w : WorldState) (offset : ℤ) (fixed : Option ℤ) (first : Session) (lines : List (List ℕ)) (old : Devices) (s : Session) (rest : List (List ℕ)) (now : Devices) → RanSoFar w offset fixed first lines old s rest now → rest ≡ []
-    → DidAll w offset first lines fixed old now
-RanSoFar-end w offset fixed first lines old s rest now before is =
-    let Before : List (List ℕ) → Type 0 = λ l. RanSoFar w offset fixed first lines old s l now in
-    let b : RanSoFar w offset fixed first lines old s [] now = subst Before is before in
-    let Moments : List ℤ → Type 0 = λ l. Did fixed old now l (after b.run nothing) in
-    let Done : Run → Type 0 = λ r. Did fixed old now b.moments r in
+pub RanSoFar-end : (world : Option WorldState) (offset : ℤ) (fixed : Option ℤ) (first : Session) (lines : List (List ℕ)) (old : Devices) (s : Session) (rest : List (List ℕ)) (now : Devices) → RanSoFar world offset fixed first lines old s rest now → rest ≡ []
+    → DidAll world offset first lines fixed old now
+RanSoFar-end world offset fixed first lines old s rest now before is =
+    let Before : List (List ℕ) → Type 0 = λ l. RanSoFar world offset fixed first lines old s l now in
+    let b : RanSoFar world offset fixed first lines old s [] now = subst Before is before in
+    let Moments : List ℤ → Type 0 = λ l. Did world fixed old now l (after b.run nothing) in
+    let Done : Run → Type 0 = λ r. Did world fixed old now b.moments r in
     (b.moments ++ [], after b.run nothing, b.whole [] nothing (refl, refl), subst Moments (sym (append-nil b.moments)) (subst Done (sym (after_nothing b.run)) b.did))

@@ -84,47 +84,45 @@ told_error offset span room kind place = refl
 -- ---- what comes of a step
 
 -- a value was told, and then this came of what it leaves
-pub comes_of_value : (offset : ℤ) (span : Place) (room : Option ℕ) (v : Plain) (t : Trace) (step : Step) (old mid new : List ℕ) → length (text_of offset v) ≤ 1048576
-    → mid ≡ old ++ said_value (text_of offset v) → TellsValue offset span (GoesOn room t (λ left. Tells offset span left t)) step t mid new
-    → TellsValue offset span (Tells offset span room (After (Give v) t)) step t old new
+value_comes : (offset : ℤ) (span : Place) (room : Option ℕ) (v : Plain) (step : Step) (said : List ℕ) → length (text_of offset v) ≤ 1048576
+    → ((t : Trace) → Comes (λ next. Tells offset span next t) (GoesOn room t (λ left. Tells offset span left t)) step t said [] 0)
+    → (t : Trace) → Comes (λ next. Tells offset span next t) (Tells offset span room (After (Give v) t)) step t (said_value (text_of offset v) ++ said) [] 0
 unfolding Tells
-comes_of_value offset span room v t (On left) old mid new short said rest = record {
+value_comes offset span room v (On next) said short comes t =
+    (λ u told. inr (short, (onto said [] u, (comes t).0 u told, ap (λ l. record u { bytes = l }) (append_assoc (said_value (text_of offset v)) said u.bytes))), refl)
+value_comes offset span room v (Out why) said short comes t =
+    let c = comes t in
+    (onto (said_value (text_of offset v)) [] c.0, inr (short, (c.0, c.1, refl)), c.2, ap (λ l. said_value (text_of offset v) ++ l) c.3, c.4, c.5)
+
+pub comes_of_value : (offset : ℤ) (span : Place) (room : Option ℕ) (v : Plain) (step : Step) (old mid new : List ℕ) → length (text_of offset v) ≤ 1048576
+    → mid ≡ old ++ said_value (text_of offset v) → TellsValue offset span (λ t. GoesOn room t (λ left. Tells offset span left t)) step mid new
+    → TellsValue offset span (λ t. Tells offset span room (After (Give v) t)) step old new
+comes_of_value offset span room v step old mid new short said rest = record {
   said = said_value (text_of offset v) ++ rest.said;
-  comes = (λ u told. inr (short, (onto rest.said [] u, rest.comes.0 u told, ap (λ l. record u { bytes = l }) (append_assoc (said_value (text_of offset v)) rest.said u.bytes))), refl);
-  appended = rest.appended ∙ ap (λ l. l ++ rest.said) said ∙ append_assoc old (said_value (text_of offset v)) rest.said;
-}
-comes_of_value offset span room v t (Out left) old mid new short said rest = record {
-  said = said_value (text_of offset v) ++ rest.said;
-  comes = (onto (said_value (text_of offset v)) [] rest.comes.0, inr (short, (rest.comes.0, rest.comes.1, refl)), rest.comes.2, ap (λ l. said_value (text_of offset v) ++ l) rest.comes.3, rest.comes.4, rest.comes.5);
+  comes = value_comes offset span room v step rest.said short rest.comes;
   appended = rest.appended ∙ ap (λ l. l ++ rest.said) said ∙ append_assoc old (said_value (text_of offset v)) rest.said;
 }
 
 -- a value that is too long
-pub comes_of_long : (offset : ℤ) (span : Place) (room : Option ℕ) (v : Plain) (t : Trace) (old new : List ℕ) → 1048576 < length (text_of offset v)
-    → new ≡ old ++ said_error TextTooLong span → TellsValue offset span (Tells offset span room (After (Give v) t)) (Out left.Nothing) t old new
+pub comes_of_long : (offset : ℤ) (span : Place) (room : Option ℕ) (v : Plain) (old new : List ℕ) → 1048576 < length (text_of offset v)
+    → new ≡ old ++ said_error TextTooLong span → TellsValue offset span (λ t. Tells offset span room (After (Give v) t)) (Out left.Nothing) old new
 unfolding Tells
-comes_of_long offset span room v t old new long said = record {
+comes_of_long offset span room v old new long said = record {
   said = said_error TextTooLong span;
-  comes = (ended (said_error TextTooLong span), inl (long, refl), refl, refl, refl, refl);
+  comes = λ t. (ended (said_error TextTooLong span), inl (long, refl), refl, refl, refl, refl);
   appended = said;
 }
 
 -- a page is full
-pub comes_of_full : (offset : ℤ) (span : Place) (t : Trace) (old new : List ℕ) → new ≡ old ++ said_more → TellsValue offset span (GoesOn (Some 0) t (λ left. Tells offset span left t)) (Out left.More) t old new
-comes_of_full offset span t old new said = record { said = said_more; comes = (paused t, refl, refl, refl, refl, refl); appended = said }
+pub comes_of_full : (offset : ℤ) (span : Place) (old new : List ℕ) → new ≡ old ++ said_more → TellsValue offset span (λ t. GoesOn (Some 0) t (λ left. Tells offset span left t)) (Out left.More) old new
+comes_of_full offset span old new said = record { said = said_more; comes = λ t. (paused t, refl, refl, refl, refl, refl); appended = said }
 
--- a value was drawn, and this came of it
-pub comes_past_value : (offset : ℤ) (span : Place) (room : Option ℕ) (t : Trace) (looks : List Key) (v : Plain) (left : Trace) (step : Step) (said : List ℕ) → Skips t looks (After (Give v) left)
-    → Comes offset span (Tells offset span room (After (Give v) left)) step left said [] 0 → Comes offset span (Tells offset span room t) step left said looks 0
-comes_past_value offset span room t looks v left (On next) said skips comes = (λ u told. told_past offset span room t looks (After (Give v) left) (onto said [] u) skips (comes.0 u told), refl)
-comes_past_value offset span room t looks v left (Out why) said skips comes =
-    (onto [] looks comes.0, told_past offset span room t looks (After (Give v) left) comes.0 skips comes.1, comes.2, comes.3, sym (append-nil looks) ∙ ap (λ l. looks ++ l) comes.4, comes.5)
+-- a page goes on
+pub comes_of_more : (offset : ℤ) (span : Place) (n : ℕ) (bytes : List ℕ) → TellsValue offset span (λ t. GoesOn (Some (suc n)) t (λ left. Tells offset span left t)) (On (Some n)) bytes bytes
+comes_of_more offset span n bytes = record { said = []; comes = λ t. (λ u told. told, refl); appended = sym (append-nil bytes) }
 
--- the question is over at this place, of which this is told
-pub comes_at_end : (offset : ℤ) (span : Place) (room : Option ℕ) (t : Trace) (looks : List Key) (later rest : Trace) (told : Telling) → Skips t looks later → Tells offset span room later told → told.looks ≡ [] → told.left ≡ None
-    → Comes offset span (Tells offset span room t) (Out left.Nothing) rest told.bytes looks told.faults
-comes_at_end offset span room t looks later rest told skips tells none over =
-    (onto [] looks told, told_past offset span room t looks later told skips tells, over, refl, sym (append-nil looks) ∙ ap (λ l. looks ++ l) (sym none), refl)
+pub comes_of_all : (offset : ℤ) (span : Place) (bytes : List ℕ) → TellsValue offset span (λ t. GoesOn None t (λ left. Tells offset span left t)) (On None) bytes bytes
+comes_of_all offset span bytes = record { said = []; comes = λ t. (λ u told. told, refl); appended = sym (append-nil bytes) }
 
 -- a text that was refused for its length
 pub too_long : (text : List ℕ) (why : ValueFault) → why ≡ fault.TextTooLong → AnswersText text (Err why) → 1048576 < length text

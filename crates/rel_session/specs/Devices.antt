@@ -1,5 +1,5 @@
 -- What a run does to the sink, the machine and the clock, where they tell it.
-use Rattle.std.specs.Prelude.{◌≡◌, ⊤, ◌≤◌, ◌+◌, ◌-◌, ◌^◌, ℕ, ℤ, List, All, max, min, Result, Ok, Err}
+use Rattle.std.specs.Prelude.{◌≡◌, ⊤, ◌≤◌, ◌+◌, ◌-◌, ◌^◌, ℕ, ℤ, List, All, max, min}
 use Rattle.std.specs.declared.option.Option.{Option}
 use Rattle.std.specs.declared.option.Option.TheVariants.{None, Some}
 use Rattle.std.specs.Io.KnownBytes.{Appends}
@@ -36,27 +36,25 @@ abbrev pub Dates : Option ℤ → Option (List ℤ) → Option (List ℤ) → Li
 Dates None old new moments = AppendsMoments old new moments
 Dates (Some fixed) old new moments = All (λ moment. moment ≡ fixed) moments × (new ≡ old)
 
--- The devices did this run, with these moments.
-pub record Did (fixed : Option ℤ) (old new : Devices) (moments : List ℤ) (run : Run) : Type 0 where
+-- The keys that a machine tells grow by these, where it tells its world.
+abbrev pub LooksUp : Option WorldState → Option (List Key) → Option (List Key) → List Key → Type 0
+LooksUp None old new keys = ⊤
+LooksUp (Some w) old new keys = Grows old new keys
+
+-- The devices did this run, or this front of one, with these moments.
+pub record Did (world : Option WorldState) (fixed : Option ℤ) (old new : Devices) (moments : List ℤ) (run : Run) : Type 0 where
   pub written : Appends old.held new.held run.bytes
-  pub looked : Grows old.looked new.looked run.looks
+  pub looked : LooksUp world old.looked new.looked run.looks
   pub faults : RoseBy run.faults old.faults new.faults
   pub dated : Dates fixed old.given new.given moments
 
--- The devices wrote this front, with these moments and so many failed looks.
-pub record Began (fixed : Option ℤ) (old new : Devices) (moments : List ℤ) (faults : ℕ) (front : List ℕ) : Type 0 where
-  pub written : Appends old.held new.held front
-  pub failed : RoseBy faults old.faults new.faults
-  pub dated : Dates fixed old.given new.given moments
-
 -- All lines were run.
-abbrev pub DidAll : WorldState → ℤ → Session → List (List ℕ) → Option ℤ → Devices → Devices → Type 0
-DidAll w offset s lines fixed old new = (moments : List ℤ) × (run : Run) × Runs w offset s lines moments run × Did fixed old new moments run
+abbrev pub DidAll : Option WorldState → ℤ → Session → List (List ℕ) → Option ℤ → Devices → Devices → Type 0
+DidAll world offset s lines fixed old new = (moments : List ℤ) × (run : Run) × Runs world offset s lines moments run × Did world fixed old new moments run
 
--- A front of what is said of the lines was written.
-abbrev pub DidFront : WorldState → ℤ → Session → List (List ℕ) → Option ℤ → Devices → Devices → Type 0
-DidFront w offset s lines fixed old new = (moments : List ℤ) × (faults : ℕ) × (front : List ℕ) × IsFrontOfRun w offset s lines moments faults front
-    × Began fixed old new moments faults front
+-- A front of that was done.
+abbrev pub DidFront : Option WorldState → ℤ → Session → List (List ℕ) → Option ℤ → Devices → Devices → Type 0
+DidFront world offset s lines fixed old new = (moments : List ℤ) × (front : Run) × IsFrontOfRun world offset s lines moments front × Did world fixed old new moments front
 
 -- Where and when questions are asked: the offset is one, and a fixed moment is one.
 abbrev pub IsAsking : Asking → Type 0

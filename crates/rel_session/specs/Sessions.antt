@@ -1,5 +1,6 @@
--- A run of question lines.
-use Rattle.std.specs.Prelude.{◌≡◌, ◌⊎◌, ◌==◌, ◌+◌, ◌-◌, ◌≤◌, ℕ, ℤ, Bool, true, false, List, [], ◌∷◌, ◌++◌, length, drop, codes, decimal, Option, None, Some}
+-- A run of question lines, on a machine whose world is told or isn't.
+use Rattle.std.specs.Prelude.{◌≡◌, ◌⊎◌, ⊤, ◌==◌, ◌+◌, ◌-◌, ◌≤◌, ℕ, ℤ, Bool, true, false, List, [], ◌∷◌, ◌++◌, length, drop, codes, decimal, Option, None, Some}
+use Rattle.desk_base.specs.Flow.{IsFront}
 use Rattle.rel_lexer.specs.declared.place.Place.{Place}
 use Rattle.bf_world.specs.declared.key.Key.{Key}
 use Rattle.bf_world.specs.Worlds.{WorldState}
@@ -11,9 +12,9 @@ use Rattle.rel_eval.specs.Cuts.{meaning}
 use Rattle.rel_session.specs.declared.line.Line.{Line}
 use Rattle.rel_session.specs.declared.line.Line.TheVariants.{Question, Page, More, NoCommand}
 use Rattle.rel_session.specs.Printed.{said_question, said_error, said_undefined, said_no_command, said_nothing_paused}
-use Rattle.rel_session.specs.Tellings.{Telling, Tells, room_of}
+use Rattle.rel_session.specs.Tellings.{Telling, TellsSome, room_of}
 
--- a question that is paused: what it has still to give, and its span
+-- a question that is paused: what it has still to give, where the world is told, and its span
 pub record Paused : Type 0 where
   pub left : Trace
   pub span : Place
@@ -81,60 +82,69 @@ told_run u = record { bytes = u.bytes; looks = u.looks; faults = u.faults }
 abbrev pub scene_at : ℤ → ℤ → Scene
 scene_at moment offset = record { moment = moment; offset = offset; parameters = []; exit = None }
 
--- What is told of this goes on from a session to the next.
-abbrev pub TellsOf : ℤ → Session → Trace → Place → Run → Session → Type 0
-TellsOf offset s t span run s' = (told : Telling) × Tells offset span (room_of s.page) t told × (run ≡ told_run told) × (s' ≡ pausing s told.left span)
+-- The trace is what the world gives, where one is told, and else it is any.
+abbrev pub IsGiven : Option WorldState → (WorldState → Trace) → Trace → Type 0
+IsGiven None given t = ⊤
+IsGiven (Some w) given t = t ≡ given w
+
+-- What is told of a trace, of which P holds, goes on from a session to the next.
+abbrev pub TellsOf : ℤ → Session → (Trace → Type 0) → Place → Run → Session → Type 0
+TellsOf offset s P span run s' = (told : Telling) × TellsSome offset span (room_of s.page) P told × (run ≡ told_run told) × (s' ≡ pausing s told.left span)
 
 -- What a text is, is answered at a moment: a question by what it means, and else the refusal.
-abbrev pub AnswersReading : WorldState → ℤ → ℤ → Session → Reading → Run → Session → Type 0
-AnswersReading w moment offset s (question plan) run s' = TellsOf offset s (meaning w (scene_at moment offset) plan) (span_of_node plan) run s'
-AnswersReading w moment offset s (refused kind place) run s' = (run ≡ saying (said_error kind place)) × (s' ≡ s)
-AnswersReading w moment offset s (undefined place words) run s' = (run ≡ saying (said_undefined place words)) × (s' ≡ s)
+abbrev pub AnswersReading : Option WorldState → ℤ → ℤ → Session → Reading → Run → Session → Type 0
+AnswersReading world moment offset s (question plan) run s' = TellsOf offset s (IsGiven world (λ w. meaning w (scene_at moment offset) plan)) (span_of_node plan) run s'
+AnswersReading world moment offset s (refused kind place) run s' = (run ≡ saying (said_error kind place)) × (s' ≡ s)
+AnswersReading world moment offset s (undefined place words) run s' = (run ≡ saying (said_undefined place words)) × (s' ≡ s)
 
 -- A text is answered at a moment.
-unfoldable pub AnswersText : WorldState → ℤ → ℤ → Session → List ℕ → Run → Session → Type 0
-AnswersText w moment offset s text run s' = (reading : Reading) × Reads text reading × AnswersReading w moment offset s reading run s'
+unfoldable pub AnswersText : Option WorldState → ℤ → ℤ → Session → List ℕ → Run → Session → Type 0
+AnswersText world moment offset s text run s' = (reading : Reading) × Reads text reading × AnswersReading world moment offset s reading run s'
 
 -- The question that was paused last goes on; the first list is of those that were paused before it.
-abbrev pub GoesOnWith : ℤ → Session → List Paused → Run → Session → Type 0
-GoesOnWith offset s [] run s' = (run ≡ saying said_nothing_paused) × (s' ≡ s)
-GoesOnWith offset s (first ∷ rest) run s' = (before : List Paused) × (latest : Paused) × (s.paused ≡ before ++ latest ∷ [])
-    × TellsOf offset (record s { paused = before }) latest.left latest.span run s'
+abbrev pub GoesOnWith : Option WorldState → ℤ → Session → List Paused → Run → Session → Type 0
+GoesOnWith world offset s [] run s' = (run ≡ saying said_nothing_paused) × (s' ≡ s)
+GoesOnWith world offset s (first ∷ rest) run s' = (before : List Paused) × (latest : Paused) × (s.paused ≡ before ++ latest ∷ [])
+    × TellsOf offset (record s { paused = before }) (IsGiven world (λ w. latest.left)) latest.span run s'
 
 -- A line that asks for this is answered, with the moments that it uses.
-abbrev pub Answers : WorldState → ℤ → Session → List ℕ → Line → List ℤ → Run → Session → Type 0
-Answers w offset s line Question moments run s' = (moment : ℤ) × (moments ≡ moment ∷ []) × AnswersText w moment offset s line run s'
-Answers w offset s line (Page size) moments run s' = (moments ≡ []) × (run ≡ nothing) × (s' ≡ record s { page = size })
-Answers w offset s line More moments run s' = (moments ≡ []) × GoesOnWith offset s s.paused run s'
-Answers w offset s line NoCommand moments run s' = (moments ≡ []) × (run ≡ saying said_no_command) × (s' ≡ s)
+abbrev pub Answers : Option WorldState → ℤ → Session → List ℕ → Line → List ℤ → Run → Session → Type 0
+Answers world offset s line Question moments run s' = (moment : ℤ) × (moments ≡ moment ∷ []) × AnswersText world moment offset s line run s'
+Answers world offset s line (Page size) moments run s' = (moments ≡ []) × (run ≡ nothing) × (s' ≡ record s { page = size })
+Answers world offset s line More moments run s' = (moments ≡ []) × GoesOnWith world offset s s.paused run s'
+Answers world offset s line NoCommand moments run s' = (moments ≡ []) × (run ≡ saying said_no_command) × (s' ≡ s)
 
 -- A line is echoed and answered.
-abbrev pub RunsLine : WorldState → ℤ → Session → List ℕ → List ℤ → Run → Session → Type 0
-RunsLine w offset s line moments run s' = (what : Line) × Asks line what
-    × ((answer : Run) × Answers w offset s line what moments answer s' × (run ≡ after (saying (said_question line)) answer))
+abbrev pub RunsLine : Option WorldState → ℤ → Session → List ℕ → List ℤ → Run → Session → Type 0
+RunsLine world offset s line moments run s' = (what : Line) × Asks line what
+    × ((answer : Run) × Answers world offset s line what moments answer s' × (run ≡ after (saying (said_question line)) answer))
 
 -- Lines are answered in order, with the moments that they use.
-abbrev pub Runs : WorldState → ℤ → Session → List (List ℕ) → List ℤ → Run → Type 0
-Runs w offset s [] moments run = (moments ≡ []) × (run ≡ nothing)
-Runs w offset s (line ∷ lines) moments run =
+abbrev pub Runs : Option WorldState → ℤ → Session → List (List ℕ) → List ℤ → Run → Type 0
+Runs world offset s [] moments run = (moments ≡ []) × (run ≡ nothing)
+Runs world offset s (line ∷ lines) moments run =
     (now : List ℤ) × (later : List ℤ) × (moments ≡ now ++ later)
-    × ((first : Run) × (s' : Session) × RunsLine w offset s line now first s'
-    × ((rest : Run) × Runs w offset s' lines later rest × (run ≡ after first rest)))
+    × ((first : Run) × (s' : Session) × RunsLine world offset s line now first s'
+    × ((rest : Run) × Runs world offset s' lines later rest × (run ≡ after first rest)))
 
--- These bytes are a front of what is said of a line with these moments, in which so many looks failed; or nothing is said of it so far, and
--- it has used no moment or one.
-abbrev pub IsFrontOfLine : WorldState → ℤ → Session → List ℕ → List ℤ → ℕ → List ℕ → Type 0
-IsFrontOfLine w offset s line moments faults front =
-    ((length moments ≤ 1) × (faults ≡ 0) × (front ≡ []))
-    ⊎ ((run : Run) × (s' : Session) × RunsLine w offset s line moments run s' × (run.faults ≡ faults) × ((rest : List ℕ) × (run.bytes ≡ front ++ rest)))
+-- These are a front of the bytes that a run wrote and a front of the keys that it looked up, and as many looks failed.
+pub record IsFrontOf (run front : Run) : Type 0 where
+  pub written : IsFront run.bytes front.bytes
+  pub unlooked : List Key
+  pub looked : run.looks ≡ front.looks ++ unlooked
+  pub faults : front.faults ≡ run.faults
 
--- These bytes are a front of what is said of lines with the moments had so far, in which so many looks failed: all that is said of some
--- first lines, and a front of what is said of the next.
-abbrev pub IsFrontOfRun : WorldState → ℤ → Session → List (List ℕ) → List ℤ → ℕ → List ℕ → Type 0
-IsFrontOfRun w offset s [] moments faults front = (moments ≡ []) × (faults ≡ 0) × (front ≡ [])
-IsFrontOfRun w offset s (line ∷ lines) moments faults front =
-    IsFrontOfLine w offset s line moments faults front
+-- This is a front of what a line does with these moments; or nothing of it was done so far, and it has used no moment or one.
+abbrev pub IsFrontOfLine : Option WorldState → ℤ → Session → List ℕ → List ℤ → Run → Type 0
+IsFrontOfLine world offset s line moments front =
+    ((length moments ≤ 1) × (front ≡ nothing))
+    ⊎ ((run : Run) × (s' : Session) × RunsLine world offset s line moments run s' × IsFrontOf run front)
+
+-- This is a front of what lines do with the moments had so far: all that some first lines do, and a front of what the next does.
+abbrev pub IsFrontOfRun : Option WorldState → ℤ → Session → List (List ℕ) → List ℤ → Run → Type 0
+IsFrontOfRun world offset s [] moments front = (moments ≡ []) × (front ≡ nothing)
+IsFrontOfRun world offset s (line ∷ lines) moments front =
+    IsFrontOfLine world offset s line moments front
     ⊎ ((now : List ℤ) × (later : List ℤ) × (moments ≡ now ++ later)
-    × ((first : Run) × (s' : Session) × RunsLine w offset s line now first s'
-    × ((rest : List ℕ) × (more : ℕ) × IsFrontOfRun w offset s' lines later more rest
-    × (front ≡ first.bytes ++ rest) × (faults ≡ first.faults + more))))
+    × ((first : Run) × (s' : Session) × RunsLine world offset s line now first s'
+    × ((rest : Run) × IsFrontOfRun world offset s' lines later rest × (front ≡ after first rest))))

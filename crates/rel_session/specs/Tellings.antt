@@ -2,9 +2,7 @@
 use Rattle.std.specs.Prelude.{◌≡◌, ◌⊎◌, ℕ, zero, suc, ◌<◌, ◌≤◌, ℤ, List, [], ◌∷◌, ◌++◌, length, Option, None, Some}
 use Rattle.rel_lexer.specs.declared.place.Place.{Place}
 use Rattle.bf_world.specs.declared.key.Key.{Key}
-use Rattle.rel_value.specs.Plain.{Plain}
 use Rattle.rel_value.specs.Texts.{text_of}
-use Rattle.rel_trace.specs.declared.kind.RelKind.{RelKind}
 use Rattle.rel_trace.specs.declared.kind.RelKind.TheVariants.{TextTooLong}
 use Rattle.rel_trace.specs.Trace.{Stop, Error, Look, Turn, Give, Trace, Ends, After}
 use Rattle.rel_session.specs.Printed.{said_value, said_error, said_fault, said_more}
@@ -55,3 +53,7 @@ Tells offset span room (After (Give v) t) told =
 abbrev pub room_of : ℕ → Option ℕ
 room_of zero = None
 room_of (suc n) = Some n
+
+-- This is told of some trace, of which P holds.
+abbrev pub TellsSome : ℤ → Place → Option ℕ → (Trace → Type 0) → Telling → Type 0
+TellsSome offset span room P told = (t : Trace) × P t × Tells offset span room t told

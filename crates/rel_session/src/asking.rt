@@ -7,7 +7,7 @@ use crate::Halt;
 use desk_base::{Clock, Told};
 
 /// Where and when questions are asked.
-#[derive(Clone, Copy, Debug)]
+#[derive(Clone, Copy)]
 pub struct Asking {
     /// Minutes east of UTC, from -840 to 840.
     pub offset: i64,

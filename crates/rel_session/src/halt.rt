@@ -8,7 +8,7 @@ use desk_base::{Bytes, Put, Sink};
 use std::alloc::{AllocError, Global};
 
 /// Why a run ended early.
-#[derive(Clone, Copy, Debug, PartialEq, Eq)]
+#[derive(Clone, Copy)]
 pub enum Halt {
     /// A write failed.
     Sink,

@@ -1,10 +1,10 @@
 // What holds of every run.
-ghost use Rattle.std.specs.Prelude.{◌≡◌, ℕ, ℤ, List};
+ghost use Rattle.std.specs.Prelude.{◌≡◌, ℕ, ℤ, List, Some};
 ghost use Rattle.bf_world.specs.Worlds.{WorldState};
 ghost use Rattle.rel_session.specs.Sessions.{Run, Runs, Session};
 
-/// Where no look fails, what lines write and look up is fixed by the world, the session before them and the moments.
+/// Where no look fails, what lines write and look up is fixed by the told world, the session before them and the moments.
 pub fn one_run()
     ensures { (w : WorldState) (offset : ℤ) (s : Session) (lines : List (List ℕ)) (moments : List ℤ) (a b : Run)
-        → Runs w offset s lines moments a → Runs w offset s lines moments b → a.faults ≡ 0 → b.faults ≡ 0 → a ≡ b }
+        → Runs (Some w) offset s lines moments a → Runs (Some w) offset s lines moments b → a.faults ≡ 0 → b.faults ≡ 0 → a ≡ b }
 {}

@@ -20,6 +20,3 @@ pub use halt::{Halt, put};
 pub use laws::one_run;
 pub use line::Line;
 pub use lines::answer_lines;
-
-#[cfg(test)]
-mod tests;

@@ -5,7 +5,7 @@ ghost use Rattle.rel_session.specs.Sessions.{Asks, begins_with_colon, IsPageLine
 use line_forms::read_number;
 
 /// What a line asks for.
-#[derive(Clone, Copy, Debug, PartialEq, Eq)]
+#[derive(Clone, Copy)]
 pub enum Line {
     /// It is a question.
     Question,

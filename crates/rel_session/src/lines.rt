@@ -1,6 +1,5 @@
-ghost use Rattle.std.specs.Prelude.{◌≡◌, ◌≤◌, IsErrOf, MatchResult, Some};
+ghost use Rattle.std.specs.Prelude.{◌≡◌, ◌≤◌, IsErrOf, MatchResult};
 ghost use Rattle.desk_base.specs.Counts.{Rose};
-ghost use Rattle.bf_world.specs.Worlds.{WorldState};
 ghost use Rattle.rel_session.specs.Devices.{DidAll, DidFront, IsAsking, devices_of};
 ghost use Rattle.rel_session.specs.Lines.{lines_of};
 ghost use Rattle.rel_session.specs.Sessions.{fresh};
@@ -23,11 +22,11 @@ pub fn answer_lines<W: Sink, M: Machine, C: Clock>(
     clock: &mut C,
 ) -> Result<(), Halt>
     requires asking { IsAsking asking }
-    ensures ran { (w : WorldState) → M.world machine.old ≡ Some w → MatchResult result
-        (λ _. DidAll w asking.offset fresh (lines_of input.now) asking.moment
+    ensures ran { MatchResult result
+        (λ _. DidAll (M.world machine.old) asking.offset fresh (lines_of input.now) asking.moment
         (devices_of (W.held sink.old) (M.looked machine.old) (M.faults machine.old) (C.given clock.old))
         (devices_of (W.held sink.new) (M.looked machine.new) (M.faults machine.new) (C.given clock.new)))
-        (λ _. DidFront w asking.offset fresh (lines_of input.now) asking.moment
+        (λ _. DidFront (M.world machine.old) asking.offset fresh (lines_of input.now) asking.moment
         (devices_of (W.held sink.old) (M.looked machine.old) (M.faults machine.old) (C.given clock.old))
         (devices_of (W.held sink.new) (M.looked machine.new) (M.faults machine.new) (C.given clock.new))) }
     ensures world { M.world machine.new ≡ M.world machine.old }

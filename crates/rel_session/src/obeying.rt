@@ -1,9 +1,8 @@
-ghost use Rattle.std.specs.Prelude.{◌≡◌, ◌≤◌, ℕ, ℤ, List, MatchResult, IsErrOf, Some};
+ghost use Rattle.std.specs.Prelude.{◌≡◌, ◌≤◌, ℤ, List, MatchResult, IsErrOf};
 ghost use Rattle.desk_base.specs.Counts.{Rose};
 ghost use Rattle.desk_base.specs.Moments.{IsMoment};
-ghost use Rattle.bf_world.specs.Worlds.{WorldState};
 ghost use Rattle.line_forms.specs.Numbers.{IsOffset};
-ghost use Rattle.rel_session.specs.Devices.{Began, Did, IsAsking, devices_of};
+ghost use Rattle.rel_session.specs.Devices.{Did, IsAsking, devices_of};
 ghost use Rattle.rel_session.specs.Sessions.{Answers, AnswersText, IsFrontOfLine, Run, RunsLine};
 ghost use Rattle.rel_session.specs.Waiting.{IsFew, Obeys, SaysAll, SaysFront, SaysOf, StopsEarly, session_of, state_of};
 
@@ -29,15 +28,15 @@ impl Session {
     ) -> Result<(), Halt>
         requires asking { IsAsking asking }
         requires few { IsFew self.old }
-        ensures ran { (w : WorldState) → M.world machine.old ≡ Some w → MatchResult result
-            (λ _. (moments : List ℤ) × (run : Run) × RunsLine w asking.offset (session_of w self.old) line.now moments run (session_of w self.new)
-            × Did asking.moment
+        ensures ran { MatchResult result
+            (λ _. (moments : List ℤ) × (run : Run) × RunsLine (M.world machine.old) asking.offset (session_of (M.world machine.old) self.old) line.now moments run (session_of (M.world machine.old) self.new)
+            × Did (M.world machine.old) asking.moment
             (devices_of (W.held sink.old) (M.looked machine.old) (M.faults machine.old) (C.given clock.old))
             (devices_of (W.held sink.new) (M.looked machine.new) (M.faults machine.new) (C.given clock.new)) moments run)
-            (λ _. (moments : List ℤ) × (faults : ℕ) × (front : List ℕ) × IsFrontOfLine w asking.offset (session_of w self.old) line.now moments faults front
-            × Began asking.moment
+            (λ _. (moments : List ℤ) × (front : Run) × IsFrontOfLine (M.world machine.old) asking.offset (session_of (M.world machine.old) self.old) line.now moments front
+            × Did (M.world machine.old) asking.moment
             (devices_of (W.held sink.old) (M.looked machine.old) (M.faults machine.old) (C.given clock.old))
-            (devices_of (W.held sink.new) (M.looked machine.new) (M.faults machine.new) (C.given clock.new)) moments faults front) }
+            (devices_of (W.held sink.new) (M.looked machine.new) (M.faults machine.new) (C.given clock.new)) moments front) }
         ensures few { IsFew self.new }
         ensures world { M.world machine.new ≡ M.world machine.old }
         ensures acted { M.acted machine.new ≡ M.acted machine.old }
@@ -68,12 +67,12 @@ impl Session {
     ) -> Result<(), Halt>
         requires asking { IsAsking asking }
         requires few { IsFew self.old }
-        ensures said { (w : WorldState) → M.world machine.old ≡ Some w → MatchResult result
-            (λ _. SaysAll asking.moment (C.given clock.old) (C.given clock.new) (RunsLine w asking.offset (session_of w self.old) line.now)
-            (session_of w self.new)
+        ensures said { MatchResult result
+            (λ _. SaysAll (M.world machine.old) asking.moment (C.given clock.old) (C.given clock.new) (RunsLine (M.world machine.old) asking.offset (session_of (M.world machine.old) self.old) line.now)
+            (session_of (M.world machine.old) self.new)
             (state_of (W.held sink.old) out.old (M.looked machine.old) (M.faults machine.old))
             (state_of (W.held sink.new) out.new (M.looked machine.new) (M.faults machine.new)))
-            (λ _. SaysFront asking.moment (C.given clock.old) (C.given clock.new) (RunsLine w asking.offset (session_of w self.old) line.now)
+            (λ _. SaysFront (M.world machine.old) asking.moment (C.given clock.old) (C.given clock.new) (RunsLine (M.world machine.old) asking.offset (session_of (M.world machine.old) self.old) line.now)
             (state_of (W.held sink.old) out.old (M.looked machine.old) (M.faults machine.old))
             (state_of (W.held sink.new) out.new (M.looked machine.new) (M.faults machine.new))) }
         ensures few { IsFew self.new }
@@ -105,12 +104,12 @@ impl Session {
     ) -> Result<(), Halt>
         requires asking { IsAsking asking }
         requires few { IsFew self.old }
-        ensures said { (w : WorldState) → M.world machine.old ≡ Some w → MatchResult result
-            (λ _. SaysAll asking.moment (C.given clock.old) (C.given clock.new) (Obeys w asking.offset (session_of w self.old) line.now)
-            (session_of w self.new)
+        ensures said { MatchResult result
+            (λ _. SaysAll (M.world machine.old) asking.moment (C.given clock.old) (C.given clock.new) (Obeys (M.world machine.old) asking.offset (session_of (M.world machine.old) self.old) line.now)
+            (session_of (M.world machine.old) self.new)
             (state_of (W.held sink.old) out.old (M.looked machine.old) (M.faults machine.old))
             (state_of (W.held sink.new) out.new (M.looked machine.new) (M.faults machine.new)))
-            (λ _. SaysFront asking.moment (C.given clock.old) (C.given clock.new) (Obeys w asking.offset (session_of w self.old) line.now)
+            (λ _. SaysFront (M.world machine.old) asking.moment (C.given clock.old) (C.given clock.new) (Obeys (M.world machine.old) asking.offset (session_of (M.world machine.old) self.old) line.now)
             (state_of (W.held sink.old) out.old (M.looked machine.old) (M.faults machine.old))
             (state_of (W.held sink.new) out.new (M.looked machine.new) (M.faults machine.new))) }
         ensures few { IsFew self.new }
@@ -149,12 +148,12 @@ impl Session {
     ) -> Result<(), Halt>
         requires asking { IsAsking asking }
         requires few { IsFew self.old }
-        ensures said { (w : WorldState) → M.world machine.old ≡ Some w → MatchResult result
-            (λ _. SaysAll asking.moment (C.given clock.old) (C.given clock.new) (Answers w asking.offset (session_of w self.old) text.now Line.Question)
-            (session_of w self.new)
+        ensures said { MatchResult result
+            (λ _. SaysAll (M.world machine.old) asking.moment (C.given clock.old) (C.given clock.new) (Answers (M.world machine.old) asking.offset (session_of (M.world machine.old) self.old) text.now Line.Question)
+            (session_of (M.world machine.old) self.new)
             (state_of (W.held sink.old) out.old (M.looked machine.old) (M.faults machine.old))
             (state_of (W.held sink.new) out.new (M.looked machine.new) (M.faults machine.new)))
-            (λ _. SaysFront asking.moment (C.given clock.old) (C.given clock.new) (Answers w asking.offset (session_of w self.old) text.now Line.Question)
+            (λ _. SaysFront (M.world machine.old) asking.moment (C.given clock.old) (C.given clock.new) (Answers (M.world machine.old) asking.offset (session_of (M.world machine.old) self.old) text.now Line.Question)
             (state_of (W.held sink.old) out.old (M.looked machine.old) (M.faults machine.old))
             (state_of (W.held sink.new) out.new (M.looked machine.new) (M.faults machine.new))) }
         ensures few { IsFew self.new }
@@ -186,11 +185,11 @@ impl Session {
         requires offset { IsOffset asked.asking.offset }
         requires moment { IsMoment asked.moment }
         requires few { IsFew self.old }
-        ensures said { (w : WorldState) → M.world machine.old ≡ Some w → MatchResult result
-            (λ _. SaysOf (AnswersText w asked.moment asked.asking.offset (session_of w self.old) text.now) (session_of w self.new)
+        ensures said { MatchResult result
+            (λ _. SaysOf (M.world machine.old) (AnswersText (M.world machine.old) asked.moment asked.asking.offset (session_of (M.world machine.old) self.old) text.now) (session_of (M.world machine.old) self.new)
             (state_of (W.held sink.old) out.old (M.looked machine.old) (M.faults machine.old))
             (state_of (W.held sink.new) out.new (M.looked machine.new) (M.faults machine.new)))
-            (λ _. StopsEarly (AnswersText w asked.moment asked.asking.offset (session_of w self.old) text.now)
+            (λ _. StopsEarly (M.world machine.old) (AnswersText (M.world machine.old) asked.moment asked.asking.offset (session_of (M.world machine.old) self.old) text.now)
             (state_of (W.held sink.old) out.old (M.looked machine.old) (M.faults machine.old))
             (state_of (W.held sink.new) out.new (M.looked machine.new) (M.faults machine.new))) }
         ensures few { IsFew self.new }

@@ -1,6 +1,5 @@
 ghost use Rattle.std.specs.Prelude.{Err, IfOk, MatchResult, OnOk};
 ghost use Rattle.desk_base.specs.Moments.{IsMoment};
-ghost use Rattle.bf_world.specs.Worlds.{WorldState};
 ghost use Rattle.line_forms.specs.Numbers.{IsOffset};
 ghost use Rattle.rel_session.specs.Waiting.{IsOpened, IsRead, IsStarted, SaysRefusal};
 
@@ -25,7 +24,7 @@ pub(crate) struct Asked {
 pub(crate) fn open_question(alloc: Global, text: &[u8], asked: Asked) -> Result<Paused, Refusal>
     requires moment { IsMoment asked.moment }
     requires offset { IsOffset asked.asking.offset }
-    ensures { (w : WorldState) → MatchResult result (IsOpened w asked.moment asked.asking.offset text.now) (λ refusal. IsRead text.now (Err refusal)) }
+    ensures { MatchResult result (IsOpened asked.moment asked.asking.offset text.now) (λ refusal. IsRead text.now (Err refusal)) }
 {
     let question = match read_question(alloc, text) {
         Ok(question) => question,
@@ -48,7 +47,7 @@ fn read_question(alloc: Global, text: &[u8]) -> Result<Question, Refusal>
 fn start(alloc: Global, question: &Question, asked: Asked) -> Result<Paused, AllocError>
     requires moment { IsMoment asked.moment }
     requires offset { IsOffset asked.asking.offset }
-    ensures { (w : WorldState) → IfOk result (IsStarted w asked.moment asked.asking.offset question.now) }
+    ensures { IfOk result (IsStarted asked.moment asked.asking.offset question.now) }
 {
     let scene = Scene {
         moment: asked.moment,

@@ -1,16 +1,15 @@
-ghost use Rattle.std.specs.Prelude.{◌≡◌, ◌≤◌, ℤ, IfOk, MatchResult, IsErrOf, Some};
+ghost use Rattle.std.specs.Prelude.{◌≡◌, ◌≤◌, ℤ, IfOk, MatchResult, IsErrOf};
 ghost use Rattle.desk_base.specs.Counts.{Rose};
 ghost use Rattle.desk_base.specs.Flow.{AppendsSome, IsFront};
-ghost use Rattle.bf_world.specs.Worlds.{WorldState};
 ghost use Rattle.line_forms.specs.Numbers.{IsOffset};
 ghost use Rattle.rel_lexer.specs.declared.place.Place.{Place};
 ghost use Rattle.rel_value.specs.Operands.{IsSound};
 ghost use Rattle.rel_value.specs.Views.{shown};
-ghost use Rattle.rel_trace.specs.Trace.{Trace, After, Give};
+ghost use Rattle.rel_trace.specs.Trace.{After, Give};
 ghost use Rattle.rel_eval.specs.Cursors.{weight};
 ghost use Rattle.rel_session.specs.Sessions.{told_run};
 ghost use Rattle.rel_session.specs.Tellings.{GoesOn, Telling, Tells};
-ghost use Rattle.rel_session.specs.Waiting.{Flushes, IsLeft, IsNearer, Says, Stays, Stops, TellsStep, TellsValue, left_of, state_of};
+ghost use Rattle.rel_session.specs.Waiting.{Flushes, IsLeft, IsNearer, Says, Stays, Stops, TellsLeft, TellsStep, TellsValue, left_of, some_given, state_of};
 
 use crate::Asking;
 use crate::answers::{say_error, say_fault, say_more, say_value};
@@ -34,7 +33,7 @@ pub(crate) struct Paused {
 }
 
 /// Whether a question goes on after a value.
-#[derive(Clone, Copy, Debug, PartialEq, Eq)]
+#[derive(Clone, Copy)]
 pub(crate) enum Left {
     /// It is over.
     Nothing,
@@ -43,7 +42,7 @@ pub(crate) enum Left {
 }
 
 /// What telling one value leaves to do.
-#[derive(Clone, Copy, Debug, PartialEq, Eq)]
+#[derive(Clone, Copy)]
 pub(crate) enum Step {
     /// Telling goes on with this room.
     On(Option<u64>),
@@ -64,13 +63,13 @@ impl Paused {
         out: &mut Bytes,
     ) -> Result<Left, Halt>
         requires offset { IsOffset asking.offset }
-        ensures told { (w : WorldState) → M.world machine.old ≡ Some w → (told : Telling)
-            × Tells asking.offset self.old.span room (left_of w self.old.cursor) told × MatchResult result
-            (λ left. IsLeft left told.left (left_of w self.new.cursor) × Says
+        ensures told { (told : Telling)
+            × TellsLeft (M.world machine.old) asking.offset self.old.span self.old.cursor room told × MatchResult result
+            (λ left. IsLeft left told.left (some_given (M.world machine.old) (left_of self.new.cursor)) × Says (M.world machine.old)
             (state_of (W.held sink.old) out.old (M.looked machine.old) (M.faults machine.old))
             (state_of (W.held sink.new) out.new (M.looked machine.new) (M.faults machine.new))
             (told_run told))
-            (λ _. Stops
+            (λ _. Stops (M.world machine.old)
             (state_of (W.held sink.old) out.old (M.looked machine.old) (M.faults machine.old))
             (state_of (W.held sink.new) out.new (M.looked machine.new) (M.faults machine.new))
             (told_run told)) }
@@ -104,10 +103,13 @@ impl Paused {
         out: &mut Bytes,
     ) -> Result<Step, AllocError>
         requires offset { IsOffset asking.offset }
-        ensures told { (w : WorldState) → M.world machine.old ≡ Some w → MatchResult result
-            (λ step. TellsStep asking.offset self.old.span (Tells asking.offset self.old.span room (left_of w self.old.cursor)) step (left_of w self.new.cursor)
+        ensures told { MatchResult result
+            (λ step. TellsStep (M.world machine.old) (TellsLeft (M.world machine.old) asking.offset self.old.span self.new.cursor)
+            (TellsLeft (M.world machine.old) asking.offset self.old.span self.old.cursor room)
+            step (some_given (M.world machine.old) (left_of self.new.cursor))
             out.old (M.looked machine.old) (M.faults machine.old) out.new (M.looked machine.new) (M.faults machine.new))
-            (λ _. Stays asking.offset self.old.span room (left_of w self.old.cursor) (M.faults machine.old) (M.faults machine.new)) }
+            (λ _. Stays (M.world machine.old) (TellsLeft (M.world machine.old) asking.offset self.old.span self.old.cursor room)
+            (M.looked machine.old) (M.faults machine.old) (M.looked machine.new) (M.faults machine.new)) }
         ensures nearer { MatchResult result (λ step. IsNearer step (weight self.old.cursor) (weight self.new.cursor)) (λ _. Unit {0}) }
         ensures span { self.new.span ≡ self.old.span }
         ensures world { M.world machine.new ≡ M.world machine.old }
@@ -158,7 +160,7 @@ fn tell_value(
 ) -> Result<Step, AllocError>
     requires sound { IsSound (shown value.now) }
     requires offset { IsOffset asking.offset }
-    ensures { (t : Trace) → IfOk result (λ step. TellsValue asking.offset span (Tells asking.offset span room (After (Give (shown value.now)) t)) step t out.old out.new) }
+    ensures { IfOk result (λ step. TellsValue asking.offset span (λ t. Tells asking.offset span room (After (Give (shown value.now)) t)) step out.old out.new) }
 {
     match text(alloc, value, asking.offset) {
         Ok(text) => {
@@ -175,8 +177,8 @@ fn tell_value(
 
 /// Pauses the question where a page is full.
 fn after_value(room: Option<u64>, out: &mut Bytes) -> Result<Step, AllocError>
-    ensures { (offset : ℤ) (span : Place) (t : Trace) → IfOk result
-        (λ step. TellsValue offset span (GoesOn room t (λ left. Tells offset span left t)) step t out.old out.new) }
+    ensures { (offset : ℤ) (span : Place) → IfOk result
+        (λ step. TellsValue offset span (λ t. GoesOn room t (λ left. Tells offset span left t)) step out.old out.new) }
 {
     match room {
         None => Ok(Step::On(None)),

@@ -1,10 +1,10 @@
-ghost use Rattle.std.specs.Prelude.{◌≡◌, ◌≤◌, MatchResult, IsErrOf, OnOk, Some};
+ghost use Rattle.std.specs.Prelude.{◌≡◌, ◌≤◌, MatchResult, IsErrOf, OnOk, Option, Some};
 ghost use Rattle.desk_base.specs.Counts.{Rose};
 ghost use Rattle.bf_world.specs.Worlds.{WorldState};
 ghost use Rattle.line_forms.specs.Numbers.{IsOffset};
-ghost use Rattle.rel_session.specs.Sessions.{GoesOnWith, TellsOf, fresh, pausing};
+ghost use Rattle.rel_session.specs.Sessions.{GoesOnWith, IsGiven, TellsOf, fresh, pausing};
 ghost use Rattle.rel_session.specs.Tellings.{room_of};
-ghost use Rattle.rel_session.specs.Waiting.{IsFew, SaysOf, StopsIn, last_fifteen, left_of, session_of, state_of};
+ghost use Rattle.rel_session.specs.Waiting.{IsFew, SaysOf, StopsIn, last_fifteen, left_of, session_of, some_given, state_of};
 
 use crate::answers::say_nothing_paused;
 use crate::paused::{Left, Paused};
@@ -29,7 +29,7 @@ pub(crate) struct Session {
 impl Session {
     /// All values at once, and no question is paused.
     pub(crate) fn new(alloc: Global) -> Session
-        ensures fresh { (w : WorldState) → session_of w result ≡ fresh }
+        ensures fresh { (world : Option WorldState) → session_of world result ≡ fresh }
         ensures few { IsFew result }
     {
         Session {
@@ -49,11 +49,11 @@ impl Session {
     ) -> Result<(), Halt>
         requires offset { IsOffset asking.offset }
         requires few { IsFew self.old }
-        ensures said { (w : WorldState) → M.world machine.old ≡ Some w → MatchResult result
-            (λ _. SaysOf (GoesOnWith asking.offset (session_of w self.old) (session_of w self.old).paused) (session_of w self.new)
+        ensures said { MatchResult result
+            (λ _. SaysOf (M.world machine.old) (GoesOnWith (M.world machine.old) asking.offset (session_of (M.world machine.old) self.old) (session_of (M.world machine.old) self.old).paused) (session_of (M.world machine.old) self.new)
             (state_of (W.held sink.old) out.old (M.looked machine.old) (M.faults machine.old))
             (state_of (W.held sink.new) out.new (M.looked machine.new) (M.faults machine.new)))
-            (λ _. StopsIn (GoesOnWith asking.offset (session_of w self.old) (session_of w self.old).paused)
+            (λ _. StopsIn (M.world machine.old) (GoesOnWith (M.world machine.old) asking.offset (session_of (M.world machine.old) self.old) (session_of (M.world machine.old) self.old).paused)
             (state_of (W.held sink.old) out.old (M.looked machine.old) (M.faults machine.old))
             (state_of (W.held sink.new) out.new (M.looked machine.new) (M.faults machine.new))) }
         ensures few { IsFew self.new }
@@ -84,11 +84,11 @@ impl Session {
     ) -> Result<(), Halt>
         requires offset { IsOffset asking.offset }
         requires few { IsFew self.old }
-        ensures said { (w : WorldState) → M.world machine.old ≡ Some w → MatchResult result
-            (λ _. SaysOf (TellsOf asking.offset (session_of w self.old) (left_of w question.cursor) question.span) (session_of w self.new)
+        ensures said { MatchResult result
+            (λ _. SaysOf (M.world machine.old) (TellsOf asking.offset (session_of (M.world machine.old) self.old) (IsGiven (M.world machine.old) (left_of question.cursor)) question.span) (session_of (M.world machine.old) self.new)
             (state_of (W.held sink.old) out.old (M.looked machine.old) (M.faults machine.old))
             (state_of (W.held sink.new) out.new (M.looked machine.new) (M.faults machine.new)))
-            (λ _. StopsIn (TellsOf asking.offset (session_of w self.old) (left_of w question.cursor) question.span)
+            (λ _. StopsIn (M.world machine.old) (TellsOf asking.offset (session_of (M.world machine.old) self.old) (IsGiven (M.world machine.old) (left_of question.cursor)) question.span)
             (state_of (W.held sink.old) out.old (M.looked machine.old) (M.faults machine.old))
             (state_of (W.held sink.new) out.new (M.looked machine.new) (M.faults machine.new))) }
         ensures few { IsFew self.new }
@@ -118,8 +118,8 @@ impl Session {
     /// Pauses a question. Of seventeen the oldest is dropped.
     fn pause(&mut self, question: Paused) -> Result<(), AllocError>
         requires { IsFew self.old }
-        ensures paused { (w : WorldState) → OnOk result (session_of w self.new
-            ≡ pausing (session_of w self.old) (Some (left_of w question.cursor)) question.span) }
+        ensures paused { (world : Option WorldState) → OnOk result (session_of world self.new
+            ≡ pausing (session_of world self.old) (Some (some_given world (left_of question.cursor))) question.span) }
         ensures few { IsFew self.new }
     {
         self.make_room();

@@ -9,6 +9,7 @@ pub mod Heads
 pub mod Casts
 pub mod Signs
 pub mod Typing
+pub mod Arms
 pub mod WellTyped
 pub mod Agreement
 pub mod Tables

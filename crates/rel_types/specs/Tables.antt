@@ -4,9 +4,6 @@ use Rattle.rel_types.specs.declared.row.Asked.{Asked}
 use Rattle.rel_types.specs.declared.row.Asked.TheVariants.{OneOf, NoneOr, Integers, Anything}
 use Rattle.rel_types.specs.declared.row.Row.{Row}
 use Rattle.rel_types.specs.declared.cast_words.CastRow.{CastRow}
-use Rattle.rel_types.specs.declared.operand.Operand.{Operand}
-use Rattle.rel_types.specs.declared.operand.Operand.TheVariants.{Boolean, Integer, Text, Time, Interval, Version, Other}
-use Rattle.rel_value.specs.Kinds.{Sort, truths, whole_numbers, words_or_parts, instants, spans, number_lists, others}
 use Rattle.rel_types.specs.Rows as plain
 use Rattle.rel_types.specs.declared.naming.Headed.{Headed}
 use Rattle.rel_types.specs.Casts as casts
@@ -29,15 +26,6 @@ shown_row r = record { head = r.head; singular = r.singular.now; plural = option
 
 abbrev pub shown_cast_row : CastRow → casts.CastRow
 shown_cast_row r = record { cast = r.cast; words = r.words.now }
-
-abbrev pub shown_operand : Operand → Sort
-shown_operand Boolean = truths
-shown_operand Integer = whole_numbers
-shown_operand Text = words_or_parts
-shown_operand Time = instants
-shown_operand Interval = spans
-shown_operand Version = number_lists
-shown_operand Other = others
 
 abbrev pub shown_headed : Headed → heads.Headed
 shown_headed h = record { head = h.head; plural = h.plural; kind = shown_kind h.kind }

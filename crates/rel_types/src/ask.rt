@@ -7,11 +7,10 @@ ghost use Rattle.rel_types.specs.Views.{shown_node, shown_nodes};
 ghost use Rattle.rel_value.specs.Views.{shown_kind};
 
 use crate::alike::same_kind;
-use crate::operand::binary_kind;
 use crate::sign_words::sign_words;
 use crate::{Node, NodeList, TypeError};
 use rel_lexer::{BinarySign, Place, Text};
-use rel_value::Kind;
+use rel_value::{Kind, binary_kind};
 use std::alloc::Global;
 
 /// The node, which is singular.

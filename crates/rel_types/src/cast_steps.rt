@@ -6,14 +6,14 @@ use std::alloc::{AllocError, Global};
 use std::marker::Model;
 
 /// What a value is cast to, and the place of the words that say so.
-#[derive(Clone, Copy, Debug, PartialEq, Eq)]
+#[derive(Clone, Copy)]
 pub struct CastStep {
     pub place: Place,
     pub cast: Cast,
 }
 
 /// Casts in the order in which they are done. Contracts see the list of them.
-#[derive(Debug, Drop)]
+#[derive(Drop)]
 pub struct CastSteps {
     items: Vec<CastStep>,
 }

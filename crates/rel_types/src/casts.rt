@@ -7,10 +7,9 @@ ghost use Rattle.rel_value.specs.Views.{shown_kind};
 
 use crate::ask::not_defined;
 use crate::cast_words::cast_named;
-use crate::operand::cast_kind;
 use crate::{CastStep, CastSteps, TypeError};
 use rel_grammar::{CastList, CastTo};
-use rel_value::{Cast, Kind};
+use rel_value::{Cast, Kind, cast_kind};
 use std::alloc::Global;
 
 /// A cast, and the kind that it gives.

@@ -1,8 +1,10 @@
+ghost use Rattle.std.specs.Prelude.{◌≡◌, IfOk};
+
 use rel_lexer::{Place, Text};
 use std::alloc::{AllocError, AllocFailed};
 
 /// Why a question has no plan: the first fault in the order of checking.
-#[derive(Debug, Drop)]
+#[derive(Drop)]
 pub enum TypeError {
     /// Nothing is defined of these words here, which are those of a name, a sign, a cast or `it`, in lower case and
     /// joined by one space.
@@ -12,6 +14,20 @@ pub enum TypeError {
     /// This has another kind than what it stands beside, or is no test.
     Incompatible(Place),
     Memory,
+}
+
+impl TypeError {
+    /// The same error once more.
+    pub fn copy(&self) -> Result<TypeError, AllocError>
+        ensures { IfOk result (λ error. error ≡ self.now) }
+    {
+        match self {
+            TypeError::NotDefined(place, words) => Ok(TypeError::NotDefined(*place, words.copy()?)),
+            TypeError::NotSingular(place) => Ok(TypeError::NotSingular(*place)),
+            TypeError::Incompatible(place) => Ok(TypeError::Incompatible(*place)),
+            TypeError::Memory => Ok(TypeError::Memory),
+        }
+    }
 }
 
 impl From<AllocError> for TypeError {

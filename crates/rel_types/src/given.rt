@@ -7,7 +7,7 @@ use crate::scalar::Scalar;
 use rel_value::{Kind, Kinds};
 
 /// What stands as an argument or an object, as far as the tables of names tell it apart.
-#[derive(Clone, Copy, Debug, PartialEq, Eq)]
+#[derive(Clone, Copy)]
 pub(crate) enum Given {
     Nothing,
     Scalar(Scalar),

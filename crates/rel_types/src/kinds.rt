@@ -1,20 +1,20 @@
 // The kinds of parts, or the faults that there are none.
-ghost use Rattle.std.specs.Prelude.{codes};
+ghost use Rattle.std.specs.Prelude.{◌≡◌, codes, option_map};
 ghost use Rattle.rel_types.specs.Heads.{head_of};
 ghost use Rattle.rel_types.specs.Outcomes.{Answers, defined, fitting};
 ghost use Rattle.rel_types.specs.Plans.{first_kind, kind_of, tuple_kind};
-ghost use Rattle.rel_types.specs.Signs.{unary_kind, unary_words};
+ghost use Rattle.rel_types.specs.Signs.{denied_kind, unary_kind, unary_words};
 ghost use Rattle.rel_types.specs.Tables.{shown_headed};
 ghost use Rattle.rel_types.specs.Views.{shown_held, shown_lent, shown_node, shown_nodes};
+ghost use Rattle.rel_value.specs.Kinds.{sort_of};
 ghost use Rattle.rel_value.specs.Views.{shown_kind};
 
 use crate::ask::not_defined;
 use crate::naming::{Headed, head_of};
-use crate::operand::unary_kind;
 use crate::sign_words::unary_words;
 use crate::{Node, NodeList, TypeError};
 use rel_lexer::{Place, UnarySign};
-use rel_value::Kind;
+use rel_value::{Kind, negated_kind};
 use std::alloc::Global;
 
 /// The kind of `it`.
@@ -58,6 +58,27 @@ pub(crate) fn signed_kind(
     match unary_kind(sign, &right.kind) {
         Some(kind) => Ok(kind),
         None => Err(not_defined(alloc, place, unary_words(sign))),
+    }
+}
+
+/// The kind that a sign before an operand gives, if it has a row for it.
+fn unary_kind(sign: UnarySign, right: &Kind) -> Option<Kind>
+    ensures { option_map shown_kind result ≡ unary_kind sign (shown_kind right.now) }
+{
+    match sign {
+        UnarySign::Not => denied_kind(right),
+        UnarySign::Exists => Some(Kind::Boolean),
+        UnarySign::Exist => Some(Kind::Boolean),
+        UnarySign::Minus => negated_kind(right),
+    }
+}
+
+fn denied_kind(right: &Kind) -> Option<Kind>
+    ensures { option_map shown_kind result ≡ denied_kind (sort_of (shown_kind right.now)) }
+{
+    match right {
+        Kind::Boolean => Some(Kind::Boolean),
+        _ => None,
     }
 }
 

@@ -19,7 +19,6 @@ mod make;
 mod naming;
 mod node;
 mod nodes;
-mod operand;
 mod plan;
 mod properties;
 mod row;
@@ -34,6 +33,3 @@ pub use head::{Aggregate, Head};
 pub use laws::plans_agree;
 pub use node::{Form, Link, Links, Node, NodeList};
 pub use plan::{Kind2, Plan};
-
-#[cfg(test)]
-mod tests;

@@ -1,14 +1,19 @@
 // Nodes from their parts.
-ghost use Rattle.std.specs.Prelude.{◌≡◌, IfOk, false, true};
-ghost use Rattle.rel_types.specs.Plans.{a_node, any_plural, cast, chain, collection, held_plural, it, literal, node, numeral, tuple, unary};
+ghost use Rattle.std.specs.Prelude.{◌≡◌, IfOk, Ok, codes, false};
+ghost use Rattle.rel_types.specs.Arms.{casted, collected, signed, tupled};
+ghost use Rattle.rel_types.specs.Outcomes.{Answers, after, defined};
+ghost use Rattle.rel_types.specs.Plans.{a_node, chain, held_plural, it, literal, node, numeral};
 ghost use Rattle.rel_types.specs.Tables.{shown_headed};
 ghost use Rattle.rel_types.specs.Typing.{body_node, choice_node, named_node};
-ghost use Rattle.rel_types.specs.Views.{shown_form, shown_held, shown_links, shown_node, shown_nodes};
+ghost use Rattle.rel_types.specs.Views.{shown_form, shown_held, shown_lent, shown_links, shown_node, shown_nodes};
 ghost use Rattle.rel_value.specs.Plain.{integers, texts};
 ghost use Rattle.rel_value.specs.Views.{shown_kind};
 
+use crate::casts::casts;
+use crate::kinds::{it_kind, shared_kind, signed_kind, tuple_kind};
 use crate::naming::Headed;
-use crate::{CastSteps, Form, Links, Node, NodeList};
+use crate::{Form, Links, Node, NodeList, TypeError};
+use rel_grammar::CastList;
 use rel_lexer::{Place, Text, UnarySign};
 use rel_value::Kind;
 use std::alloc::{AllocError, Global};
@@ -19,16 +24,20 @@ pub(crate) fn numeral(place: Place, number: i64) -> Node
     singular(Kind::Integer, Form::Number { place, number })
 }
 
-pub(crate) fn literal(place: Place, text: Text) -> Node
-    ensures { shown_node result ≡ node texts false (literal place text) }
+#[tactic(auto, unfolding(crate::specs::Outcomes::Fails), using(crate::proofs::Steps::no_memory))]
+pub(crate) fn literal(place: Place, text: &Text) -> Result<Node, TypeError>
+    ensures { Answers shown_node (Ok (node texts false (literal place text.now))) result }
 {
-    singular(Kind::Text, Form::Literal { place, text })
+    let text = text.copy()?;
+    Ok(singular(Kind::Text, Form::Literal { place, text }))
 }
 
-pub(crate) fn it(place: Place, kind: Kind) -> Node
-    ensures { shown_node result ≡ node (shown_kind kind) false (it place) }
+#[tactic(auto, unfolding(crate::specs::Outcomes::after, crate::specs::Outcomes::Fails))]
+pub(crate) fn it(alloc: Global, place: Place, around: Option<&Kind>) -> Result<Node, TypeError>
+    ensures { Answers shown_node (after (defined place (codes "it") (shown_lent around.entry)) (λ kind. Ok (node kind false (it place)))) result }
 {
-    singular(kind, Form::It { place })
+    let kind = it_kind(alloc, place, around)?;
+    Ok(singular(kind, Form::It { place }))
 }
 
 fn singular(kind: Kind, form: Form) -> Node
@@ -44,7 +53,13 @@ fn singular(kind: Kind, form: Form) -> Node
 pub(crate) fn held(alloc: Global, node: Node) -> Result<Option<Box<Node>>, AllocError>
     ensures { IfOk result (λ h. shown_held h ≡ a_node (shown_node node)) }
 {
-    Ok(Some(Box::new(alloc, node)?))
+    Ok(Some(boxed(alloc, node)?))
+}
+
+fn boxed(alloc: Global, node: Node) -> Result<Box<Node>, AllocError>
+    ensures { IfOk result (λ b. shown_node b.value ≡ shown_node node) }
+{
+    Ok(Box::new(alloc, node)?)
 }
 
 pub(crate) fn named(
@@ -83,7 +98,7 @@ pub(crate) fn body(
         plural: body.plural || is_plural(&object),
         form: Form::Body {
             place,
-            body: Box::new(alloc, body)?,
+            body: boxed(alloc, body)?,
             filter,
             object,
         },
@@ -100,35 +115,39 @@ fn is_plural(held: &Option<Box<Node>>) -> bool
     }
 }
 
-pub(crate) fn cast(
-    alloc: Global,
-    kind: Kind,
-    first: Node,
-    casts: CastSteps,
-) -> Result<Node, AllocError>
-    ensures { IfOk result (λ n. shown_node n ≡ node (shown_kind kind) false (cast (shown_node first) casts)) }
+/// Casts of a first operand.
+#[tactic(auto, unfolding(crate::specs::Outcomes::after, crate::specs::Outcomes::Fails), using(crate::proofs::Steps::no_memory))]
+pub(crate) fn cast(alloc: Global, first: Node, list: &CastList) -> Result<Node, TypeError>
+    ensures { Answers shown_node (casted (shown_node first) list.now) result }
 {
-    let first = Box::new(alloc, first)?;
-    Ok(singular(kind, Form::Cast { first, casts }))
+    let done = casts(alloc, first.kind.copy()?, list)?;
+    let first = boxed(alloc, first)?;
+    let form = Form::Cast {
+        first,
+        casts: done.steps,
+    };
+    Ok(singular(done.kind, form))
 }
 
+/// A sign before its operand.
+#[tactic(auto, unfolding(crate::specs::Outcomes::after, crate::specs::Outcomes::Fails), using(crate::proofs::Steps::no_memory))]
 pub(crate) fn unary(
     alloc: Global,
-    kind: Kind,
     place: Place,
     sign: UnarySign,
     right: Node,
-) -> Result<Node, AllocError>
-    ensures { IfOk result (λ n. shown_node n ≡ node (shown_kind kind) false (unary place sign (shown_node right))) }
+) -> Result<Node, TypeError>
+    ensures { Answers shown_node (signed place sign (shown_node right)) result }
 {
-    let right = Box::new(alloc, right)?;
+    let kind = signed_kind(alloc, place, sign, &right)?;
+    let right = boxed(alloc, right)?;
     Ok(singular(kind, Form::Unary { place, sign, right }))
 }
 
 pub(crate) fn chain(alloc: Global, kind: Kind, first: Node, rest: Links) -> Result<Node, AllocError>
     ensures { IfOk result (λ n. shown_node n ≡ node (shown_kind kind) false (chain (shown_node first) (shown_links rest))) }
 {
-    let first = Box::new(alloc, first)?;
+    let first = boxed(alloc, first)?;
     Ok(singular(kind, Form::Chain { first, rest }))
 }
 
@@ -141,34 +160,52 @@ pub(crate) fn choice(
 ) -> Result<Node, AllocError>
     ensures { IfOk result (λ n. shown_node n ≡ choice_node place (shown_node test) (shown_node yes) (shown_node no)) }
 {
+    let test = boxed(alloc, test)?;
+    let yes = boxed(alloc, yes)?;
+    let no = boxed(alloc, no)?;
+    conditional(place, test, yes, no)
+}
+
+fn conditional(
+    place: Place,
+    test: Box<Node>,
+    yes: Box<Node>,
+    no: Box<Node>,
+) -> Result<Node, AllocError>
+    ensures { IfOk result (λ n. shown_node n ≡ choice_node place (shown_node test.value) (shown_node yes.value) (shown_node no.value)) }
+{
     Ok(Node {
         kind: yes.kind.copy()?,
         plural: yes.plural || no.plural,
         form: Form::If {
             place,
-            test: Box::new(alloc, test)?,
-            yes: Box::new(alloc, yes)?,
-            no: Box::new(alloc, no)?,
+            test,
+            yes,
+            no,
         },
     })
 }
 
-pub(crate) fn tuple(kind: Kind, parts: NodeList) -> Node
-    ensures { shown_node result ≡ node (shown_kind kind) (any_plural (shown_nodes parts)) (tuple (shown_nodes parts)) }
+/// The tuple of these parts.
+#[tactic(auto, unfolding(crate::specs::Outcomes::after, crate::specs::Outcomes::Fails))]
+pub(crate) fn tuple(alloc: Global, span: Place, parts: NodeList) -> Result<Node, TypeError>
+    ensures { Answers shown_node (tupled span (shown_nodes parts)) result }
 {
-    Node {
-        kind,
+    Ok(Node {
+        kind: tuple_kind(alloc, span, &parts)?,
         plural: parts.any_plural(),
         form: Form::Tuple { parts },
-    }
+    })
 }
 
-pub(crate) fn collection(kind: Kind, parts: NodeList) -> Node
-    ensures { shown_node result ≡ node (shown_kind kind) true (collection (shown_nodes parts)) }
+/// The collection of these parts.
+#[tactic(auto, unfolding(crate::specs::Outcomes::after, crate::specs::Outcomes::Fails))]
+pub(crate) fn collection(span: Place, parts: NodeList) -> Result<Node, TypeError>
+    ensures { Answers shown_node (collected span (shown_nodes parts)) result }
 {
-    Node {
-        kind,
+    Ok(Node {
+        kind: shared_kind(span, &parts)?,
         plural: true,
         form: Form::Collection { parts },
-    }
+    })
 }

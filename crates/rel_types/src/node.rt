@@ -9,7 +9,7 @@ use std::alloc::{AllocError, Global};
 
 /// A question, or a part of one, with the kind of the values that it gives.
 #[cycle(node)]
-#[derive(Debug, Drop)]
+#[derive(Drop)]
 pub struct Node {
     pub kind: Kind,
     /// Whether it may give no value or several; else it gives one value or an error.
@@ -19,7 +19,7 @@ pub struct Node {
 
 /// What gives the values. The places are those of the question's tree.
 #[cycle(node)]
-#[derive(Debug, Drop)]
+#[derive(Drop)]
 pub enum Form {
     Number {
         place: Place,
@@ -76,7 +76,7 @@ pub enum Form {
 
 /// An operator, the place of its words, and its right operand.
 #[cycle(node)]
-#[derive(Debug, Drop)]
+#[derive(Drop)]
 pub struct Link {
     pub place: Place,
     pub sign: BinarySign,
@@ -85,14 +85,14 @@ pub struct Link {
 
 /// Operators with their right operands, in their order.
 #[cycle(node)]
-#[derive(Debug, Drop)]
+#[derive(Drop)]
 pub struct Links {
     pub(crate) items: Vec<Link>,
 }
 
 /// Nodes in their order.
 #[cycle(node)]
-#[derive(Debug, Drop)]
+#[derive(Drop)]
 pub struct NodeList {
     pub(crate) items: Vec<Node>,
 }

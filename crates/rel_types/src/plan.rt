@@ -11,14 +11,14 @@ use rel_value::Kind;
 use std::alloc::AllocError;
 
 /// A question that is well typed: its tree, in which each name is resolved.
-#[derive(Debug, Drop)]
+#[derive(Drop)]
 pub struct Plan {
     pub(crate) root: Node,
     pub ghost well_typed: { IsWellTyped (shown_node root) },
 }
 
 /// The kind of what a question gives.
-#[derive(Debug, Drop)]
+#[derive(Drop)]
 pub struct Kind2<'a> {
     kind: &'a Kind,
 }

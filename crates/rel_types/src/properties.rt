@@ -4,7 +4,7 @@ ghost use Rattle.rel_types.specs.Tables.{shown_row};
 
 use crate::Head;
 use crate::row::{
-    ACTION_OR_NOTHING, Asked, FILE, FILE_OR_FOLDER, FOLDER, NAMED, NOTHING, Row, TEXT,
+    ACTION_OR_NOTHING, Asked, FILE, FILE_OR_FOLDER, FOLDER, NAMED, NOTHING, PART, Row, TEXT,
     TEXT_OR_NOTHING, VERSIONED,
 };
 use crate::scalar::Scalar;
@@ -325,7 +325,7 @@ static PROPERTIES: [Row; 42] = [
         "preceding text",
         Some("preceding texts"),
         NOTHING,
-        Asked::OneOf(&[Scalar::Part]),
+        PART,
         Scalar::Text
     ),
     property!(
@@ -333,7 +333,7 @@ static PROPERTIES: [Row; 42] = [
         "following text",
         Some("following texts"),
         NOTHING,
-        Asked::OneOf(&[Scalar::Part]),
+        PART,
         Scalar::Text
     ),
     property!(

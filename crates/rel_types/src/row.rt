@@ -34,6 +34,8 @@ pub(crate) const FOLDER: Asked = Asked::OneOf(&[Scalar::Folder]);
 
 pub(crate) const FILE_OR_FOLDER: Asked = Asked::OneOf(&[Scalar::File, Scalar::Folder]);
 
+pub(crate) const PART: Asked = Asked::OneOf(&[Scalar::Part]);
+
 pub(crate) const VERSIONED: Asked = Asked::OneOf(&[Scalar::Package, Scalar::System]);
 /// The kinds of what has a name.
 pub(crate) const NAMED: Asked = Asked::OneOf(&[

@@ -5,7 +5,7 @@ ghost use Rattle.rel_value.specs.Views.{shown_kind};
 use rel_value::Kind;
 
 /// The kinds that hold no other kinds, by which the tables of names tell values apart.
-#[derive(Clone, Copy, Debug, PartialEq, Eq)]
+#[derive(Clone, Copy, PartialEq, Eq)]
 pub(crate) enum Scalar {
     Boolean,
     Integer,

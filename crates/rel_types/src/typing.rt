@@ -8,8 +8,7 @@ ghost use Rattle.rel_types.specs.Views.{shown_held, shown_lent, shown_node, show
 ghost use Rattle.rel_value.specs.Views.{shown_kind};
 
 use crate::ask::{ask_kind, ask_singular, one_more, one_more_like};
-use crate::casts::casts;
-use crate::kinds::{it_kind, named, shared_kind, signed_kind, tuple_kind};
+use crate::kinds::named;
 use crate::links::{Chained, one_more_link};
 use crate::{Links, Node, NodeList, TypeError, make};
 use rel_grammar::{LinkList, Tree, TreeList, span};
@@ -24,8 +23,8 @@ pub(crate) fn typed(alloc: Global, it: Option<&Kind>, tree: &Tree) -> Result<Nod
 {
     match tree {
         Tree::Number { place, number } => Ok(make::numeral(*place, *number)),
-        Tree::Literal { place, text } => Ok(make::literal(*place, text.copy()?)),
-        Tree::It { place } => Ok(make::it(*place, it_kind(alloc, *place, it)?)),
+        Tree::Literal { place, text } => make::literal(*place, text),
+        Tree::It { place } => make::it(alloc, *place, it),
         Tree::Phrase {
             place,
             words,
@@ -50,15 +49,13 @@ pub(crate) fn typed(alloc: Global, it: Option<&Kind>, tree: &Tree) -> Result<Nod
             let filter = filter_of(alloc, filter, &inner.kind)?;
             Ok(make::body(alloc, *place, inner, filter, object)?)
         }
-        Tree::Cast { first, casts: list } => {
+        Tree::Cast { first, casts } => {
             let first = single(alloc, it, first)?;
-            let done = casts(alloc, first.kind.copy()?, list)?;
-            Ok(make::cast(alloc, done.kind, first, done.steps)?)
+            make::cast(alloc, first, casts)
         }
         Tree::Unary { place, sign, right } => {
             let right = operand(alloc, it, *sign, right)?;
-            let kind = signed_kind(alloc, *place, *sign, &right)?;
-            Ok(make::unary(alloc, kind, *place, *sign, right)?)
+            make::unary(alloc, *place, *sign, right)
         }
         Tree::Chain { first, rest } => {
             let first = single(alloc, it, first)?;
@@ -78,13 +75,11 @@ pub(crate) fn typed(alloc: Global, it: Option<&Kind>, tree: &Tree) -> Result<Nod
         }
         Tree::Tuple { parts: list } => {
             let parts = parts(alloc, it, list)?;
-            let kind = tuple_kind(alloc, span(tree), &parts)?;
-            Ok(make::tuple(kind, parts))
+            make::tuple(alloc, span(tree), parts)
         }
         Tree::Collection { parts: list } => {
             let parts = alike(alloc, it, list)?;
-            let kind = shared_kind(span(tree), &parts)?;
-            Ok(make::collection(kind, parts))
+            make::collection(span(tree), parts)
         }
     }
 }

@@ -1,6 +1,7 @@
-ghost use Rattle.std.specs.Prelude.{ℤ, FitsSigned, int_div, int_rem};
+ghost use Rattle.std.specs.Prelude.{◌≢◌, ℤ, FitsSigned, IfErr, int_div, int_rem};
 ghost use Rattle.std.specs.Int.{w64};
 ghost use Rattle.std.specs.Option.{SomeIff};
+ghost use Rattle.rel_value.specs.declared.fault.ValueFault.TheVariants.{Memory};
 ghost use Rattle.rel_value.specs.Operands.{taken};
 ghost use Rattle.rel_value.specs.Outcomes.{Answers, moment, span, whole};
 ghost use Rattle.rel_value.specs.Signs.{difference, divided, negated, product, quotient, remainder, sum};
@@ -12,7 +13,8 @@ use crate::{Value, ValueFault};
 pub(crate) const LAST_MOMENT: i64 = 137_438_953_472;
 
 fn integer(number: Option<i64>) -> Result<Value, ValueFault>
-    ensures { (z : ℤ) → SomeIff number (FitsSigned w64 z) z → Answers (whole z) result }
+    ensures value { (z : ℤ) → SomeIff number (FitsSigned w64 z) z → Answers (whole z) result }
+    ensures takes_no_memory { IfErr result (λ fault. fault ≢ Memory) }
 {
     match number {
         Some(number) => Ok(Value::Integer(number)),
@@ -21,7 +23,8 @@ fn integer(number: Option<i64>) -> Result<Value, ValueFault>
 }
 
 fn interval(seconds: Option<i64>) -> Result<Value, ValueFault>
-    ensures { (z : ℤ) → SomeIff seconds (FitsSigned w64 z) z → Answers (span z) result }
+    ensures value { (z : ℤ) → SomeIff seconds (FitsSigned w64 z) z → Answers (span z) result }
+    ensures takes_no_memory { IfErr result (λ fault. fault ≢ Memory) }
 {
     match seconds {
         Some(seconds) => Ok(Value::Interval(seconds)),
@@ -125,7 +128,8 @@ pub(crate) fn remainder(left: Operand<'_>, right: Operand<'_>) -> Result<Value, 
 }
 
 pub(crate) fn opposite(operand: Operand<'_>) -> Result<Value, ValueFault>
-    ensures { Answers (negated (taken operand.entry)) result }
+    ensures row { Answers (negated (taken operand.entry)) result }
+    ensures takes_no_memory { IfErr result (λ fault. fault ≢ Memory) }
 {
     match operand {
         Operand::Integer(number) => integer(number.checked_neg()),

@@ -1,5 +1,5 @@
 /// What a value is cast to, in the order of the casts' table.
-#[derive(Clone, Copy, Debug, PartialEq, Eq)]
+#[derive(Clone, Copy)]
 pub enum Cast {
     /// `as string`
     Str,

@@ -6,7 +6,7 @@ use std::alloc::{AllocError, Global};
 
 /// What sort of value an expression gives.
 #[cycle(kind)]
-#[derive(Debug, Drop)]
+#[derive(Drop)]
 pub enum Kind {
     Boolean,
     /// From -2^63 to 2^63 - 1.
@@ -30,7 +30,7 @@ pub enum Kind {
 
 /// Two kinds or more, in their order.
 #[cycle(kind)]
-#[derive(Debug, Drop)]
+#[derive(Drop)]
 pub struct Kinds {
     items: Vec<Kind>,
 }

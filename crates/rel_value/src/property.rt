@@ -1,6 +1,6 @@
 /// A property, one for each singular word of each row of the properties' table, in its order. What stands in brackets is the
 /// argument, and what follows `of` the object.
-#[derive(Clone, Copy, Debug, PartialEq, Eq)]
+#[derive(Clone, Copy)]
 pub enum PropertyId {
     /// `true`: a boolean.
     True,

@@ -1,4 +1,5 @@
-ghost use Rattle.std.specs.Prelude.{◌&&◌, ◌||◌, IsSome};
+ghost use Rattle.std.specs.Prelude.{◌≢◌, ◌&&◌, ◌||◌, IfErr, IsSome};
+ghost use Rattle.rel_value.specs.declared.fault.ValueFault.TheVariants.{Memory};
 ghost use Rattle.rel_value.specs.Kinds.{binary_kind, negated_kind, sort_of};
 ghost use Rattle.rel_value.specs.Plain.{kind_of};
 ghost use Rattle.rel_value.specs.Operands.{IsSound, stance, taken};
@@ -51,11 +52,12 @@ pub fn binary(
     }
 }
 
-/// `-` before one value.
+/// `-` before one value. It takes no memory.
 pub fn negate(value: &Value) -> Result<Value, ValueFault>
     requires sound { IsSound (shown value.now) }
     requires has_row { IsSome (negated_kind (sort_of (kind_of (shown value.now)))) }
-    ensures { Answers (negated (stance (shown value.now))) result }
+    ensures row { Answers (negated (stance (shown value.now))) result }
+    ensures takes_no_memory { IfErr result (λ fault. fault ≢ Memory) }
 {
     opposite(stands_for(value))
 }

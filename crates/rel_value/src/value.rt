@@ -8,7 +8,7 @@ use std::alloc::{AllocError, Global};
 
 /// What an expression gives.
 #[cycle(value)]
-#[derive(Debug, Drop)]
+#[derive(Drop)]
 pub enum Value {
     Boolean(bool),
     Integer(i64),
@@ -37,7 +37,7 @@ pub enum Value {
 
 /// Two values or more, in their order.
 #[cycle(value)]
-#[derive(Debug, Drop)]
+#[derive(Drop)]
 pub struct Values {
     pub(crate) items: Vec<Value>,
 }

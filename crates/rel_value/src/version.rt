@@ -7,7 +7,7 @@ use std::cmp::Ordering;
 use std::marker::Model;
 
 /// The numbers of a version, one to four. Contracts see the list of them.
-#[derive(Debug, Drop)]
+#[derive(Drop)]
 pub struct Version {
     numbers: [u32; 4],
     count: usize,

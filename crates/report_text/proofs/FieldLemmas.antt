@@ -15,7 +15,7 @@ use Rattle.act_rules.specs.declared.row.Outcome.{Outcome}
 use Rattle.act_rules.specs.declared.row.Outcome.TheVariants.{Fixed, Failed, Interrupted}
 use Rattle.report_text.specs.ReportRows.{IsExit, IsPlace}
 use Rattle.report_text.specs.RowLines.{outcome_word, outcome_field, end_field, exit_field, component_field, line_field}
-use Rattle.report_text.specs.Readings.{IsEnd}
+use Rattle.report_text.specs.FieldTexts.{IsEnd}
 use lib.Signed.{mag}
 
 -- every byte is 45, the sign `-`, or above

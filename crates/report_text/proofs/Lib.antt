@@ -7,3 +7,4 @@ pub mod PassLemmas
 pub mod TextLemmas
 pub mod LineLemmas
 pub mod SizeLemmas
+mod RoomLemmas

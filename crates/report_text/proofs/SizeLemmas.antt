@@ -1,11 +1,12 @@
 -- The text of a report isn't too long.
-use Rattle.std.proofs.Common.{ℕ, ◌+◌, ◌*◌, ◌^◌, ◌≤◌, ℤ, pos, negsuc, List, [], ◌∷◌, ◌++◌, length, All, map, Option, Some, None, arith, length-append}
+use Rattle.std.proofs.Common.{ℕ, ap, ◌≡◌, ◌+◌, ◌*◌, ◌^◌, ◌≤◌, ℤ, pos, negsuc, List, [], ◌∷◌, ◌++◌, length, All, map, Option, Some, None, arith, length-append}
 use Rattle.std.specs.Prelude.{decimal, IfSome}
 use Rattle.std.specs.Fmt.{signed_decimal}
 use Rattle.std.proofs.lemmas.Int.{ints}
 use Rattle.std.proofs.lemmas.Fmt.{length-decimal-le, length_signed_le}
 use Rattle.std.proofs.lemmas.List.Elements.{All-head, All-tail}
 use Rattle.desk_base.specs.Moments.{IsMoment}
+use Rattle.desk_base.specs.Rooms.{HasRoom, RoomState}
 use Rattle.line_forms.specs.Lines.{ended_line, lines_text}
 use Rattle.act_rules.specs.declared.row.Note.{Note}
 use Rattle.act_rules.specs.declared.row.Outcome.{Outcome}
@@ -17,7 +18,7 @@ use Rattle.report_text.specs.declared.report_row.ReportRow.{ReportRow}
 use Rattle.report_text.specs.ReportRows.{IsExit, IsPlace, IsNoteIn, IsReportRow}
 use Rattle.report_text.specs.RowLines.{outcome_field, end_field, exit_field, component_field, line_field, row_line}
 use Rattle.report_text.specs.Reports.{IsReport, form_line, computer_line, seq_line, end_line, report_text}
-use Rattle.report_text.specs.Readings.{IsEnd}
+use Rattle.report_text.specs.FieldTexts.{IsEnd}
 use Rattle.report_text.specs.Writings.{added_text}
 use Rattle.report_text.proofs.RowLemmas.{note_exit, note_place}
 use Rattle.report_text.proofs.TextLemmas.{added_line}
@@ -99,10 +100,17 @@ seq_length seq h =
 four_parts : (a b c d : List ℕ) (k l m n : ℕ) → length a ≤ k → length b ≤ l → length c ≤ m → length d ≤ n → length (a ++ (b ++ (c ++ d))) ≤ k + (l + (m + n))
 four_parts a b c d k l m n h i j o = omega (arith, h, i, j, o, length-append a (b ++ (c ++ d)), length-append b (c ++ d), length-append c d)
 
-pub report_length : (report : Report) → IsReport report → length (report_text report) ≤ 65536
-report_length report good =
+pub report_room : (report : Report) → IsReport report → length (report_text report) ≤ 108 + 113 * length report.rows
+report_room report good =
     let rows = lines_text (map (row_line report.form) report.rows ++ end_line ∷ []) in
     let size = rows_length report.form report.rows good.rows.good in
-    let all = four_parts (ended_line (form_line report.form)) (ended_line (computer_line report.computer)) (ended_line (seq_line report.seq)) rows 9 74 21 56504
-    (form_length report.form) (computer_length report.computer good.computer.1) (seq_length report.seq good.seq.1) (omega (arith, size, good.rows.few)) in
+    let all = four_parts (ended_line (form_line report.form)) (ended_line (computer_line report.computer)) (ended_line (seq_line report.seq)) rows 9 74 21 (113 * length report.rows + 4)
+    (form_length report.form) (computer_length report.computer good.computer.1) (seq_length report.seq good.seq.1) size in
     omega (arith, all)
+
+pub report_length : (report : Report) → IsReport report → length (report_text report) ≤ 65536
+report_length report good = omega (arith, report_room report good, good.rows.few)
+
+-- room that is reckoned by the number of rows is enough
+pub room_fits : (report : Report) (room : RoomState) (rows : ℕ) → IsReport report → rows ≡ length report.rows → room.bytes ≡ [] → 108 + 113 * rows ≤ room.capacity → HasRoom room (length (report_text report))
+room_fits report room rows good count empty cap = omega (arith, report_room report good, count, ap (length {A = ℕ}) empty, cap)

@@ -12,10 +12,11 @@ use Rattle.report_text.specs.declared.form.Form.{Form}
 use Rattle.report_text.specs.declared.form.Form.TheVariants.{One, Two}
 use Rattle.report_text.specs.declared.report.Report.{Report}
 use Rattle.report_text.specs.declared.report_row.ReportRow.{ReportRow}
-use Rattle.report_text.specs.ReportRows.{IsId}
+use Rattle.line_forms.specs.Numbers.{IsId}
 use Rattle.report_text.specs.RowLines.{row_line}
 use Rattle.report_text.specs.Reports.{AreReportRows, IsReport, AreReportLines, form_line, computer_line, seq_line, end_line, report_lines}
-use Rattle.report_text.specs.Readings.{CanFollow, StopsAt}
+use Rattle.line_forms.specs.Readers.{NeverGoesOn, StopsAt}
+use Rattle.report_text.specs.Readings.{CanFollow}
 use Rattle.report_text.proofs.RowLemmas.{cons_head, cons_tail, row_not_end}
 use Rattle.report_text.proofs.GrammarLemmas.{no_rows, follows_at, next_line, not_ended}
 
@@ -48,41 +49,36 @@ pub begins_rows : (form : Form) (computer : List ℕ) (seq : ℕ) (rows : List R
 begins_rows form computer seq rows name id good =
     (end_line ∷ [], (report_of form computer seq rows, record { computer = name; seq = id; rows = good }, refl))
 
-pub begins_end : (form : Form) (computer : List ℕ) (seq : ℕ) (rows : List ReportRow) → IsName computer → IsId seq → AreReportRows form rows → Begins AreReportLines (front form computer seq rows ++ end_line ∷ [])
-begins_end form computer seq rows name id good =
-    ([], (report_of form computer seq rows, record { computer = name; seq = id; rows = good }, no_more (front form computer seq rows ++ end_line ∷ [])))
-  where
-    no_more : (xs : List (List ℕ)) → xs ++ [] ≡ xs
-    no_more [] = refl
-    no_more (x ∷ xs) = ap (λ r. x ∷ r) (no_more xs)
-
 -- the first line
-pub stops_form : (state : LineState) → ((form : Form) (more : List (List ℕ)) → state.lines ≡ form_line form ∷ more → ⊥) → StopsAt [] state
-stops_form state none = (
-  λ line more ahead (rest, (report, good, is)).
+pub stops_form : (state : LineState) → ((form : Form) (more : List (List ℕ)) → state.lines ≡ form_line form ∷ more → ⊥) → StopsAt AreReportLines [] state
+stops_form state none = record {
+  begins = begins_none;
+  unfinished = λ (report, good, is). cc;
+  ahead = λ line more ahead (rest, (report, good, is)).
       let e : line ≡ form_line report.form = cons_head line (form_line report.form) rest _ is in
-      none report.form more (ahead ∙ ap (λ l. l ∷ more) e),
-  λ _ _ (report, good, is). cc,
-)
+      none report.form more (ahead ∙ ap (λ l. l ∷ more) e);
+}
 
 -- the second line
-pub stops_computer : (form : Form) (state : LineState) → ((computer : List ℕ) (more : List (List ℕ)) → IsName computer → state.lines ≡ computer_line computer ∷ more → ⊥) → StopsAt (form_line form ∷ []) state
-stops_computer form state none = (
-  λ line more ahead (rest, (report, good, is)).
+pub stops_computer : (form : Form) (state : LineState) → ((computer : List ℕ) (more : List (List ℕ)) → IsName computer → state.lines ≡ computer_line computer ∷ more → ⊥) → StopsAt AreReportLines (form_line form ∷ []) state
+stops_computer form state none = record {
+  begins = begins_form form;
+  unfinished = λ (report, good, is). cc;
+  ahead = λ line more ahead (rest, (report, good, is)).
       let e : line ≡ computer_line report.computer = cons_head line (computer_line report.computer) rest _ (cons_tail (form_line form) (form_line report.form) (line ∷ rest) _ is) in
-      none report.computer more good.computer (ahead ∙ ap (λ l. l ∷ more) e),
-  λ _ _ (report, good, is). cc,
-)
+      none report.computer more good.computer (ahead ∙ ap (λ l. l ∷ more) e);
+}
 
 -- the third line
-pub stops_seq : (form : Form) (computer : List ℕ) (state : LineState) → ((seq : ℕ) (more : List (List ℕ)) → IsId seq → state.lines ≡ seq_line seq ∷ more → ⊥) → StopsAt (form_line form ∷ computer_line computer ∷ []) state
-stops_seq form computer state none = (
-  λ line more ahead (rest, (report, good, is)).
+pub stops_seq : (form : Form) (computer : List ℕ) (state : LineState) → IsName computer → ((seq : ℕ) (more : List (List ℕ)) → IsId seq → state.lines ≡ seq_line seq ∷ more → ⊥) → StopsAt AreReportLines (form_line form ∷ computer_line computer ∷ []) state
+stops_seq form computer state name none = record {
+  begins = begins_computer form computer name;
+  unfinished = λ (report, good, is). cc;
+  ahead = λ line more ahead (rest, (report, good, is)).
       let behind = cons_tail (form_line form) (form_line report.form) (computer_line computer ∷ line ∷ rest) _ is in
       let e : line ≡ seq_line report.seq = cons_head line (seq_line report.seq) rest _ (cons_tail (computer_line computer) (computer_line report.computer) (line ∷ rest) _ behind) in
-      none report.seq more good.seq (ahead ∙ ap (λ l. l ∷ more) e),
-  λ _ _ (report, good, is). cc,
-)
+      none report.seq more good.seq (ahead ∙ ap (λ l. l ∷ more) e);
+}
 
 form_one : (f g : Form) → form_line f ≡ form_line g → f ≡ g
 form_one One One h = refl
@@ -111,11 +107,13 @@ rows_of form report same good =
     subst P (sym same) good.rows
 
 -- behind rows: neither the last line nor that of a next row
-pub stops_rows : (form : Form) (computer : List ℕ) (seq : ℕ) (rows : List ReportRow) (state : LineState) → AreReportRows form rows →
+pub stops_rows : (form : Form) (computer : List ℕ) (seq : ℕ) (rows : List ReportRow) (state : LineState) → IsName computer → IsId seq → AreReportRows form rows →
     ((row : ReportRow) (more : List (List ℕ)) → CanFollow form rows row → state.lines ≡ row_line form row ∷ more → ⊥) →
-    ((more : List (List ℕ)) → state.lines ≡ end_line ∷ more → ⊥) → StopsAt (front form computer seq rows) state
-stops_rows form computer seq rows state are none no_end = (
-  λ line more ahead (rest, (report, good, is)).
+    ((more : List (List ℕ)) → state.lines ≡ end_line ∷ more → ⊥) → StopsAt AreReportLines (front form computer seq rows) state
+stops_rows form computer seq rows state name id are none no_end = record {
+  begins = begins_rows form computer seq rows name id are;
+  unfinished = λ (report, good, is). not_ended form rows report.rows (behind_head form computer seq (map (row_line form) rows) report is).3;
+  ahead = λ line more ahead (rest, (report, good, is)).
       let b = behind_head form computer seq (map (row_line form) rows ++ line ∷ rest) report (ap (λ l. form_line form ∷ computer_line computer ∷ seq_line seq ∷ l) (sym (append_assoc (map (row_line form) rows) (line ∷ []) rest)) ∙ is) in
       let all = rows_of form report b.0 good in
       elim (next_line form rows report.rows line rest are.good all.good b.3) [
@@ -123,24 +121,21 @@ stops_rows form computer seq rows state are none no_end = (
         | inr next ↦
             let P : List ReportRow → Type 0 = λ r. AreReportRows form r in
             none next.0 more (follows_at form rows next.1 next.0 (subst P next.2 all)) (ahead ∙ ap (λ l. l ∷ more) next.3)
-      ],
-  λ _ _ (report, good, is). not_ended form rows report.rows (behind_head form computer seq (map (row_line form) rows) report is).3,
-)
+      ];
+}
 
--- behind the last line
-pub stops_end : (form : Form) (computer : List ℕ) (seq : ℕ) (rows : List ReportRow) (state : LineState) → AreReportRows form rows →
-    ¬ ((state.lines ≡ []) × (state.unended ≡ [])) → StopsAt (front form computer seq rows ++ end_line ∷ []) state
-stops_end form computer seq rows state are left = (
-  λ line more ahead (rest, (report, good, is)).
-      let b = behind_head form computer seq (map (row_line form) rows ++ end_line ∷ line ∷ rest) report
-      (ap (λ l. form_line form ∷ computer_line computer ∷ seq_line seq ∷ l) (sym (append_assoc (map (row_line form) rows) (end_line ∷ []) (line ∷ rest)) ∙ sym (append_assoc (map (row_line form) rows ++ end_line ∷ []) (line ∷ []) rest)) ∙ is) in
-      let all = rows_of form report b.0 good in
-      elim (next_line form rows report.rows end_line (line ∷ rest) are.good all.good b.3) [
-        | inl ended ↦ (let h : line ∷ rest ≡ [] = ended.1 in cc)
-        | inr next ↦ row_not_end form next.0 (sym next.3)
-      ],
-  λ none unended good. left (none, unended),
-)
+-- nothing goes on behind the last line
+pub never_goes_on : (report : Report) → IsReport report → NeverGoesOn AreReportLines (report_lines report)
+never_goes_on report good line more (other, fine, is) =
+    let rows = map (row_line report.form) report.rows in
+    let behind = append_assoc rows (end_line ∷ []) (line ∷ more) in
+    let b = behind_head report.form report.computer report.seq (rows ++ end_line ∷ line ∷ more) other
+    (ap (λ l. form_line report.form ∷ computer_line report.computer ∷ seq_line report.seq ∷ l) (sym behind) ∙ is) in
+    let all = rows_of report.form other b.0 fine in
+    elim (next_line report.form report.rows other.rows end_line (line ∷ more) good.rows.good all.good b.3) [
+      | inl ended ↦ (let h : line ∷ more ≡ [] = ended.1 in cc)
+      | inr next ↦ row_not_end report.form next.0 (sym next.3)
+    ]
 
 -- two reports with the same lines
 pub report_one : (report other : Report) → IsReport report → IsReport other → report_lines report ≡ report_lines other → report ≡ other

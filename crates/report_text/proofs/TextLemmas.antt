@@ -1,7 +1,6 @@
 -- The texts that are written.
 use Rattle.std.proofs.Common.{ℕ, ◌≡◌, ◌+◌, ◌<◌, List, [], ◌∷◌, ◌++◌, length, Bool, false, refl, sym, ap, ◌∙◌, take, get_or, map, append_assoc, append-nil}
-use Rattle.std.specs.Prelude.{codes, decimal, IsTrue, ◌↔◌, OnOk, Ok, Err}
-use Rattle.std.specs.declared.result.Result.{Result}
+use Rattle.std.specs.Prelude.{codes, decimal, IsTrue, ◌↔◌}
 use Rattle.std.specs.Fmt.{signed_decimal}
 use Rattle.std.proofs.lemmas.List.{take_more}
 use Rattle.line_forms.specs.FieldLists.{line_of}
@@ -14,10 +13,6 @@ use Rattle.report_text.specs.declared.report_row.ReportRow.{ReportRow}
 use Rattle.report_text.specs.RowLines.{row_line, added_fields, outcome_field, end_field}
 use Rattle.report_text.specs.Reports.{report_text, form_line, computer_line, seq_line, end_line}
 use Rattle.report_text.specs.Writings.{added_text, head_text}
-
-pub on_ok : {T E : Type 0} (r : Result T E) (P Q : Type 0) → (P → Q) → OnOk r P → OnOk r Q
-on_ok (Ok x) P Q f h = f h
-on_ok (Err e) P Q f h = h
 
 pub not_so : (b : Bool) (P : Type 0) → b ≡ false → (IsTrue b ↔ P) → P → ⊥
 not_so b P fails says h = let yes : IsTrue b = says.1 h in cc

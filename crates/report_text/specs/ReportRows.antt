@@ -1,16 +1,13 @@
 -- The rows that a report can have.
 use Rattle.std.specs.Prelude.{◌≡◌, ℕ, ◌^◌, ◌-◌, ◌<◌, ◌≤◌, ℤ, pos, negsuc, ◌≤ℤ◌, List, [], ◌∷◌, Option, Some, None, IfSome, IsSomeAnd}
 use Rattle.desk_base.specs.Moments.{IsMoment}
+use Rattle.line_forms.specs.Numbers.{IsId}
 use Rattle.act_rules.specs.declared.row.Note.{Note}
 use Rattle.act_rules.specs.declared.row.Outcome.{Outcome}
 use Rattle.act_rules.specs.declared.row.Outcome.TheVariants.{Fixed, Failed, Interrupted}
 use Rattle.report_text.specs.declared.form.Form.{Form}
 use Rattle.report_text.specs.declared.form.Form.TheVariants.{One, Two}
 use Rattle.report_text.specs.declared.report_row.ReportRow.{ReportRow}
-
--- an id, or the number of a report: from 1 to 2^53
-abbrev pub IsId : ℕ → Type 0
-IsId number = (1 ≤ number) × (number ≤ 2 ^ 53)
 
 -- the number of an attempt: from 1, of 32 bits
 abbrev pub IsAttempt : ℕ → Type 0

@@ -12,7 +12,8 @@ use Rattle.report_text.specs.declared.report.Report.{Report}
 use Rattle.report_text.specs.declared.report_row.ReportRow.{ReportRow}
 use Rattle.report_text.specs.declared.error.ReportError.{ReportError}
 use Rattle.report_text.specs.declared.error.ReportError.TheVariants as error
-use Rattle.report_text.specs.ReportRows.{IsId, IsReportRow, AreAscending}
+use Rattle.report_text.specs.ReportRows.{IsReportRow, AreAscending}
+use Rattle.line_forms.specs.Numbers.{IsId}
 use Rattle.report_text.specs.RowLines.{row_line}
 
 -- the rows of a report of this form: at most 500, in strictly ascending order of actions

@@ -1,5 +1,5 @@
 /// What becomes of a report that was handed on.
-#[derive(Clone, Copy, Debug, PartialEq, Eq)]
+#[derive(Clone, Copy)]
 pub enum Verdict {
     /// The server holds it.
     Stored,
@@ -12,7 +12,7 @@ pub enum Verdict {
 }
 
 /// What becomes of a site that was handed on.
-#[derive(Clone, Copy, Debug, PartialEq, Eq)]
+#[derive(Clone, Copy)]
 pub enum Gathered {
     /// It is kept.
     New,

@@ -1,28 +1,15 @@
 ghost use Rattle.std.specs.Prelude.{◌≡◌, ℕ, ℤ, Option, decimal, codes, MatchOption, IfSome, IsTrue, ◌↔◌};
 ghost use Rattle.act_rules.specs.declared.row.Outcome.{Outcome};
-ghost use Rattle.report_text.specs.ReportRows.{IsId, IsAttempt, IsExit, IsPlace};
+ghost use Rattle.report_text.specs.ReportRows.{IsAttempt, IsExit, IsPlace};
 ghost use Rattle.report_text.specs.RowLines.{outcome_word, exit_field};
-ghost use Rattle.report_text.specs.Readings.{Spells, IsAny, IsEnd, SpellsEnd, SpellsPlace};
+ghost use Rattle.line_forms.specs.Readers.{Spells, IsAny};
+ghost use Rattle.report_text.specs.FieldTexts.{ReadsEnd, ReadsPlace};
 
 use act_rules::Outcome;
-use line_forms::{read_i64, read_moment, read_number, read_u32};
-
-/// The last id, and the last number of a report.
-const LAST_ID: u64 = 9_007_199_254_740_992;
-
-/// Reads an id, or the number of a report: from 1 to 2^53.
-pub(crate) fn read_id(text: &[u8]) -> Option<u64>
-    ensures { Spells IsId decimal text.now result }
-{
-    let id = read_number(text, LAST_ID)?;
-    if id == 0 {
-        return None;
-    }
-    Some(id)
-}
+use line_forms::{read_i64, read_moment, read_u32};
 
 /// Reads the number of an attempt: from 1 to 4,294,967,295.
-pub(crate) fn read_attempt(text: &[u8]) -> Option<u32>
+pub fn read_attempt(text: &[u8]) -> Option<u32>
     ensures { Spells IsAttempt decimal text.now result }
 {
     let number = read_u32(text)?;
@@ -44,7 +31,8 @@ fn is_dash(text: &[u8]) -> bool
     is_word(text, b"-")
 }
 
-fn read_outcome(word: &[u8]) -> Option<Outcome>
+/// Reads the word of an outcome.
+pub fn read_outcome(word: &[u8]) -> Option<Outcome>
     ensures { Spells IsAny outcome_word word.now result }
 {
     if is_word(word, b"fixed") {
@@ -60,10 +48,8 @@ fn read_outcome(word: &[u8]) -> Option<Outcome>
 }
 
 /// Reads the end of a row: its outcome and its moment, or `running` and `-`.
-pub(crate) fn read_end(word: &[u8], moment: &[u8]) -> Option<Option<(i64, Outcome)>>
-    ensures { MatchOption result
-        ((end : Option (ℤ × Outcome)) → IsEnd end → ¬ SpellsEnd word.now moment.now end)
-        (λ end. IsEnd end × SpellsEnd word.now moment.now end) }
+pub fn read_end(word: &[u8], moment: &[u8]) -> Option<Option<(i64, Outcome)>>
+    ensures { ReadsEnd word.now moment.now result }
 {
     if is_word(word, b"running") {
         if !is_dash(moment) {
@@ -77,7 +63,7 @@ pub(crate) fn read_end(word: &[u8], moment: &[u8]) -> Option<Option<(i64, Outcom
 }
 
 /// Reads an exit code, or `-`.
-pub(crate) fn read_exit(text: &[u8]) -> Option<Option<i64>>
+pub fn read_exit(text: &[u8]) -> Option<Option<i64>>
     ensures { Spells (λ exit. IfSome exit IsExit) exit_field text.now result }
 {
     if is_dash(text) {
@@ -88,10 +74,8 @@ pub(crate) fn read_exit(text: &[u8]) -> Option<Option<i64>>
 }
 
 /// Reads the component and the line of a failure, or `-` twice.
-pub(crate) fn read_place(component: &[u8], line: &[u8]) -> Option<Option<(u32, u32)>>
-    ensures { MatchOption result
-        ((place : Option (ℕ × ℕ)) → IfSome place IsPlace → ¬ SpellsPlace component.now line.now place)
-        (λ place. IfSome place IsPlace × SpellsPlace component.now line.now place) }
+pub fn read_place(component: &[u8], line: &[u8]) -> Option<Option<(u32, u32)>>
+    ensures { ReadsPlace component.now line.now result }
 {
     if is_dash(component) {
         if !is_dash(line) {

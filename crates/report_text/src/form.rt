@@ -1,5 +1,5 @@
 /// The form of a report's text.
-#[derive(Clone, Copy, Debug, PartialEq, Eq)]
+#[derive(Clone, Copy)]
 pub enum Form {
     /// Rows without notes.
     One,

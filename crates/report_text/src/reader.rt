@@ -1,15 +1,18 @@
 ghost use Rattle.std.specs.Prelude.{IfOk, IsTrue, ◌↔◌};
 ghost use Rattle.report_text.specs.RowLines.{row_line};
-ghost use Rattle.report_text.specs.Reports.{ReadsReport};
-ghost use Rattle.report_text.specs.Readings.{TakesOne, CanFollow, IsAbove, ReadsLines, TakesRows, TakesEnd};
+ghost use Rattle.report_text.specs.Reports.{IsReport, ReadsReport, report_lines};
+ghost use Rattle.report_text.specs.Readings.{CanFollow, IsAbove, TakesRows};
+ghost use Rattle.line_forms.specs.Readers.{ReadsPart, TakesOne};
 
 use crate::error::ReportError;
 use crate::form::Form;
-use crate::head::{line_ahead, skip_line, take_computer, take_form, take_seq};
+use crate::head::{take_computer, take_form, take_seq};
 use crate::report::{Report, ReportRows};
 use crate::report_row::ReportRow;
 use crate::row_reader::read_row;
-use line_forms::{Ahead, Lines, lines_make_the_text};
+use line_forms::{
+    LineForm, Lines, a_cursor_stands_at_the_bad_line, a_cursor_stands_behind_its_lines,
+};
 use rel_lexer::Text;
 use std::alloc::{AllocError, Global};
 
@@ -19,6 +22,15 @@ const LONGEST_REPORT: usize = 65_536;
 /// The most rows of a report.
 const MOST_ROWS: usize = 500;
 
+/// The texts of reports, as a set of texts made of lines.
+pub struct ReportLines;
+
+impl LineForm for ReportLines {
+    ghost use Rattle.report_text.specs.Reports.{AreReportLines};
+
+    ghost are_good = { λ lines. AreReportLines lines };
+}
+
 /// Reads a report: its form, the computer, its number, the rows and `end`, a line each. A text that isn't a report is
 /// answered by its first bad line, one with too many bytes by `TooLong`.
 pub fn read_report(alloc: Global, text: &[u8]) -> Result<Report, ReportError>
@@ -27,18 +39,26 @@ pub fn read_report(alloc: Global, text: &[u8]) -> Result<Report, ReportError>
     if text.len() > LONGEST_REPORT {
         return Err(ReportError::TooLong);
     }
+    // what a cursor that is stuck, or has read a whole report, says of the text
+    a_cursor_stands_at_the_bad_line::<ReportLines>();
+    a_cursor_stands_behind_its_lines();
     let mut lines = Lines::new(text);
-    let report = read_lines(alloc, &mut lines)?;
-    lines_make_the_text();
-    match report {
-        Some(report) => Ok(report),
-        None => Err(ReportError::BadReport(lines.number())),
+    let report = take_report(alloc, &mut lines)?;
+    let line = lines.number();
+    let report = match report {
+        Some(report) => report,
+        None => return Err(ReportError::BadReport(line)),
+    };
+    if !lines.is_over() {
+        return Err(ReportError::BadReport(line));
     }
+    Ok(report)
 }
 
-/// Reads the lines ahead as a report. Where they aren't one, the first bad line is ahead afterwards.
-fn read_lines(alloc: Global, lines: &mut Lines<'_>) -> Result<Option<Report>, AllocError>
-    ensures { IfOk result (λ report. ReadsLines lines.old lines.new report) }
+/// Takes the lines of a report, which other lines may follow. Where those ahead aren't one, the cursor stands at the line
+/// with which no report goes on.
+pub fn take_report(alloc: Global, lines: &mut Lines<'_>) -> Result<Option<Report>, AllocError>
+    ensures { IfOk result (λ report. ReadsPart IsReport report_lines lines.old lines.new report) }
 {
     let Some(form) = take_form(lines) else {
         return Ok(None);
@@ -50,7 +70,7 @@ fn read_lines(alloc: Global, lines: &mut Lines<'_>) -> Result<Option<Report>, Al
         return Ok(None);
     };
     let rows = take_rows(alloc, form, lines)?;
-    if !take_end(lines) {
+    if !lines.take_exactly(b"end") {
         return Ok(None);
     }
     Ok(Some(Report {
@@ -76,14 +96,14 @@ fn take_rows(alloc: Global, form: Form, lines: &mut Lines<'_>) -> Result<ReportR
 fn take_row(form: Form, rows: &[ReportRow], lines: &mut Lines<'_>) -> Option<ReportRow>
     ensures { TakesOne (CanFollow form rows.now) (row_line form) lines.old lines.new result }
 {
-    let row = read_row(form, line_ahead(lines)?)?;
+    let row = read_row(form, lines.line_ahead()?)?;
     if rows.len() >= MOST_ROWS {
         return None;
     }
     if !is_above(rows, &row) {
         return None;
     }
-    skip_line(lines);
+    lines.skip_line();
     Some(row)
 }
 
@@ -95,18 +115,4 @@ fn is_above(rows: &[ReportRow], row: &ReportRow) -> bool
         None => true,
         Some(last) => last.action < row.action,
     }
-}
-
-/// Takes the last line, if it is ahead, and whether the text has ended behind it.
-fn take_end(lines: &mut Lines<'_>) -> bool
-    ensures { TakesEnd lines.old lines.new result }
-{
-    let Some(line) = line_ahead(lines) else {
-        return false;
-    };
-    if line != b"end".as_slice() {
-        return false;
-    }
-    skip_line(lines);
-    matches!(lines.look(), Ahead::End)
 }

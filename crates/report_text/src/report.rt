@@ -7,7 +7,7 @@ use std::alloc::AllocError;
 use std::marker::Model;
 
 /// The rows of a report. Contracts see the list of them.
-#[derive(Debug, Drop)]
+#[derive(Drop)]
 pub struct ReportRows {
     list: Vec<ReportRow>,
 }
@@ -54,7 +54,7 @@ impl ReportRows {
 }
 
 /// What a computer reports of its attempts.
-#[derive(Debug, Drop)]
+#[derive(Drop)]
 pub struct Report {
     pub form: Form,
     /// The name of the computer.

@@ -1,7 +1,7 @@
 use act_rules::{Note, Outcome};
 
 /// A row of a report: one attempt of an action. Moments are seconds since 1970-01-01 00:00:00 UTC, from 0 to 2^37.
-#[derive(Clone, Copy, Debug, PartialEq, Eq)]
+#[derive(Clone, Copy)]
 pub struct ReportRow {
     /// The id of the action, from 1 to 2^53.
     pub action: u64,

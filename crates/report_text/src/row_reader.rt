@@ -4,13 +4,14 @@ ghost use Rattle.report_text.specs.declared.report_row.ReportRow.{ReportRow};
 ghost use Rattle.line_forms.specs.FieldLists.{line_of};
 ghost use Rattle.report_text.specs.ReportRows.{IsExit, IsPlace, IsReportRow, IsNoteAt, IsNoteIn};
 ghost use Rattle.report_text.specs.RowLines.{row_line, row_fields, added_fields};
-ghost use Rattle.report_text.specs.Readings.{Spells, SpellsBareRow, SpellsNote, IsBareRow};
+ghost use Rattle.report_text.specs.Readings.{SpellsBareRow, SpellsNote, IsBareRow};
+ghost use Rattle.line_forms.specs.Readers.{Spells};
 
-use crate::field::{read_attempt, read_end, read_exit, read_id, read_place};
+use crate::field::{read_attempt, read_end, read_exit, read_place};
 use crate::form::Form;
 use crate::report_row::ReportRow;
 use act_rules::{Note, Outcome};
-use line_forms::{Fields, after_word, read_moment};
+use line_forms::{Fields, after_word, read_id, read_moment};
 
 /// The note of a row that has none.
 const NO_NOTE: Note = Note {
@@ -36,30 +37,42 @@ struct NoteFields<'a> {
     line: &'a [u8],
 }
 
-/// Reads the line of a row in a report of this form.
-pub(crate) fn read_row(form: Form, line: &[u8]) -> Option<ReportRow>
+/// Reads the line of a row in a report of this form, its word `row` with it.
+pub fn read_row(form: Form, line: &[u8]) -> Option<ReportRow>
     ensures { Spells (IsReportRow form) (row_line form) line.now result }
 {
-    read_fields(form, after_word(line, b"row")?)
+    read_row_fields(form, after_word(line, b"row")?)
 }
 
-/// Reads what follows the word of the line.
-fn read_fields(form: Form, rest: &[u8]) -> Option<ReportRow>
+/// Reads the fields of a row, without the word before them.
+pub fn read_row_fields(form: Form, rest: &[u8]) -> Option<ReportRow>
     ensures { Spells (IsReportRow form) (λ row. line_of (row_fields form row)) rest.now result }
 {
     let mut fields = Fields::new(rest);
-    let Some(taken) = take_row_fields(&mut fields) else {
-        return None;
-    };
-    let Some(bare) = read_bare_row(taken) else {
-        return None;
-    };
-    let Some(note) = take_note(form, bare.end, &mut fields) else {
+    let Some(row) = take_row(form, &mut fields) else {
         return None;
     };
     if !fields.is_over() {
         return None;
     }
+    Some(row)
+}
+
+/// Takes the fields of a row, which others may follow. Where those ahead aren't a row's, some may have been taken.
+pub fn take_row(form: Form, fields: &mut Fields<'_>) -> Option<ReportRow>
+    ensures { MatchOption result
+        ((row : ReportRow) (more : List (List ℕ)) → IsReportRow form row → ¬ (fields.old ≡ row_fields form row ++ more))
+        (λ row. IsReportRow form row × (fields.old ≡ row_fields form row ++ fields.new)) }
+{
+    let Some(taken) = take_row_fields(fields) else {
+        return None;
+    };
+    let Some(bare) = read_bare_row(taken) else {
+        return None;
+    };
+    let Some(note) = take_note(form, bare.end, fields) else {
+        return None;
+    };
     Some(ReportRow { note, ..bare })
 }
 

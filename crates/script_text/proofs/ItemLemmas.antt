@@ -26,9 +26,6 @@ field_absent Spells text found rest f n = (
   λ b. b,
 )
 
-name_stops : (name rest : List ℕ) → Each is_in_name name → SplitsRun is_in_name (name ++ 34 ∷ rest) name (34 ∷ rest)
-name_stops name rest h = record { splits = refl; passing = h; stops = refl }
-
 -- behind the bytes of a name no quote stands
 pub name_absent : (text inner run left : List ℕ) → text ≡ 34 ∷ inner → SplitsRun is_in_name inner run left → NotNext 34 left → IsTaken quoted_name text absent
 name_absent text inner run left e s n = (

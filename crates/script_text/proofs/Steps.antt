@@ -103,20 +103,8 @@ top_where_none top items h l = refl
 top_where_none (in_arm a ts) items h l = absurd (let c = open_count (in_arm a ts) items h in omega arith)
 top_where_none (in_else a ts b n) items h l = absurd (let c = open_count (in_else a ts b n) items h in omega arith)
 
-pub outside_where_none : (a : Around) (items : List Open) → map shown_open items ≡ around_open a → length items ≡ 0 → IsOutsideArm a
-outside_where_none top items h l = tt
-outside_where_none (in_arm a ts) items h l = absurd (let c = open_count (in_arm a ts) items h in omega arith)
-outside_where_none (in_else a ts b n) items h l = tt
-
 some_none : {X : Type 0} (x : X) → Some x ≡ None → ⊥
 some_none x e = let f = e in cc
-
--- behind an `else` no arm is open
-pub outside_where_else : (a : Around) (items rest : List Open) (o : Open) → map shown_open items ≡ around_open a → items ≡ rest ++ o ∷ [] → o.arm ≡ None → IsOutsideArm a
-outside_where_else top items rest o h e n = tt
-outside_where_else (in_arm a ts) items rest o h e n =
-    absurd (let p = popped items rest o (around_open a) (arm_open ts) e h in some_none _ (sym (ap (λ (x : PlainOpen). x.arm) p.1) ∙ n))
-outside_where_else (in_else a ts b n) items rest o h e m = tt
 
 pub less_room : (a : ℕ) → a < 64 → (64 - a) - 1 ≡ 64 - (a + 1)
 less_room a h = omega arith
@@ -321,14 +309,6 @@ fill_file a k n line t self r f lines s d h g i st l c =
       extends = fill_step a k n t (record self { create = Some f }) r s g i st (c ∙ ap (λ (x : OpenCreate). Some x) (same_file f k lines t same l));
     }
 
--- a line of the open `createfile` that isn't read
-pub file_refused : (a : Around) (k : Created) (n : ℕ) (line : List ℕ) (self : Reader) (f : OpenCreate) (e : Refusal) → Stands (in_file a k) (record self { create = Some f }) → (line ≡ f.word → ⊥) → NotWhole line e → Refuses (in_file a k) n line (numbered n e)
-file_refused a k n line self f refusal.NoCommand s d h = absurd h
-file_refused a k n line self f refusal.BraceNotClosed s d h =
-    let same = some_file f _ s.create in
-    ((λ e. d (e ∙ sym (ap (λ (x : OpenCreate). x.word) same))), h, refl)
-file_refused a k n line self f refusal.Memory s d h = tt
-
 misplaced_wrong : (a : Around) (b : Block) (n : ℕ) (line : List ℕ) (c : Command) (e : ScriptError) → LineReads line (reads c) → Misplaces a n c e → Refuses (inside a b) n line e
 misplaced_wrong a b n line c (error.NoCommand m) l h = (reads c, l, h)
 misplaced_wrong a b n line c (error.IfNotClosed m) l h = (reads c, l, h)
@@ -368,29 +348,10 @@ line_refused p n line self e s o h =
     let w = within_create p.inner (o ∙ s.create) in
     subst (λ q. Refuses q n line (numbered n e)) (sym (same_inside p w.0 w.1)) (inside_refused p.around w.0 n line e h)
 
-creating_create : (i : Inner) (f : OpenCreate) → Some f ≡ inner_create i → (k : Created) × (i ≡ creating k)
-creating_create (within b) f e = absurd (some_none f e)
-creating_create (creating k) f e = (k, refl)
-
 same_in_file : (p : Part) (k : Created) → p.inner ≡ creating k → p ≡ in_file p.around k
 same_in_file p k f =
     let make : Inner → Part = λ i. record { around = p.around; inner = i } in
     ap make f
-
-stands_file : (p : Part) (k : Created) (self now : Reader) (f : OpenCreate) → Stands p self → p.inner ≡ creating k → now.prefetches ≡ self.prefetches → now.open.items ≡ self.open.items → shown_statements now.statements ≡ shown_statements self.statements → Some f ≡ self.create → Stands (in_file p.around k) (record now { create = Some f })
-stands_file p k self now f s e g i t o = record {
-  prefetches = g ∙ s.prefetches ∙ ap (λ q. fetches (part_marks q)) (same_in_file p k e);
-  opens = ap (map shown_open) i ∙ s.opens;
-  statements = t ∙ s.statements ∙ ap inner_statements e;
-  create = o ∙ s.create ∙ ap inner_create e;
-}
-
--- a line where a `createfile` is open
-pub content_read : (p : Part) (n : ℕ) (line : List ℕ) (self now : Reader) (f : OpenCreate) (r : Result Reader ScriptError) → Stands p self → Some f ≡ self.create → now.prefetches ≡ self.prefetches → now.open.items ≡ self.open.items → shown_statements now.statements ≡ shown_statements self.statements → now.create ≡ None → ((a : Around) (k : Created) → now.create ≡ None → Stands (in_file a k) (record now { create = Some f }) → MatchResult r (λ x. Extends (in_file a k) n line x) (λ e. Refuses (in_file a k) n line e)) → MatchResult r (λ x. Extends p n line x) (λ e. Refuses p n line e)
-content_read p n line self now f r s o g i t c h =
-    let w = creating_create p.inner f (o ∙ s.create) in
-    subst (λ q. MatchResult r (λ x. Extends q n line x) (λ e. Refuses q n line e)) (sym (same_in_file p w.0 w.1))
-    (h p.around w.0 c (stands_file p w.0 self now f s w.1 g i t o))
 
 pub new_file : (n : ℕ) (w : List ℕ) (lines : List Template) → lines ≡ [] → Some (let z : OpenCreate = record { line = n; word = w; lines = lines } in z) ≡ Some (let z : OpenCreate = record { line = n; word = w; lines = [] } in z)
 new_file n w lines e =

@@ -100,23 +100,11 @@ doubled_shorter p rest run left behind s e =
     let c : length left ≡ suc (suc (length behind)) = ap length e in
     omega arith
 
--- a part that begins a text
-nonempty : (xs : List ℕ) → xs ≢ [] → 0 < length xs
-nonempty [] h = absurd (h refl)
-nonempty (x ∷ xs) h = omega arith
-
 stays : (e : Ending) (text : List ℕ) → ¬ IsAtEnd e text → OpensNone text → text ≢ [] → ¬ EndsPlain e text
 stays ending.Text [] a o n h = n refl
 stays ending.Quote [] a o n h = n refl
 stays ending.Text (b ∷ bs) a o n h = elim h [ inl i ↦ o bs i | inr i ↦ false≢true (sym i) ]
 stays ending.Quote (b ∷ bs) a o n h = elim h [ inl i ↦ o bs i | inr i ↦ a (bs, ap (λ x. x ∷ bs) (let q : b ≡ 34 = grind (arith, nat_tests) in q)) ]
-
-plain_nonempty : (e : Ending) (text plain rest : List ℕ) → ¬ IsAtEnd e text → OpensNone text → text ≢ [] → IsPlain e text plain rest → plain ≢ []
-plain_nonempty e text plain rest a o n p h =
-    stays e text a o n (subst (EndsPlain e) (sym (p.splits ∙ ap (λ x. doubled x ++ rest) h)) p.ends)
-
-pub plain_part : (e : Ending) (text plain rest : List ℕ) → ¬ IsAtEnd e text → OpensNone text → text ≢ [] → IsPlain e text plain rest → IsPart e text (Plain plain) rest
-plain_part e text plain rest a o n p = (nonempty plain (plain_nonempty e text plain rest a o n p), p)
 
 pub parts-snoc : (e : Ending) (text : List ℕ) (ps : List Part2) (left : List ℕ) (p : Part2) (rest : List ℕ) → AreParts e text ps left → IsPart e left p rest → AreParts e text (ps ++ p ∷ []) rest
 parts-snoc e text [] left p rest h i = (rest, subst (λ t. IsPart e t p rest) (sym h) i, refl)
@@ -141,12 +129,6 @@ part_shorter e text (Expression x) rest h =
     let d : length (125 ∷ rest) ≡ suc (length rest) = refl in
     let g : length (123 ∷ h.0) ≡ suc (length h.0) = refl in
     omega arith
-
--- why no template begins
-pub template_fails : (e : Ending) (text : List ℕ) (ps : List Part2) (left : List ℕ) (r : Refusal) → AreParts e text ps left → ¬ IsAtEnd e left → NoPart left r → NoTemplate e text r
-template_fails e text ps left refusal.NoCommand h a n = (ps, subst (λ l. AreParts e text ps l) n h, subst (λ l. ¬ IsAtEnd e l) n a)
-template_fails e text ps left refusal.BraceNotClosed h a n = record { parts = ps; left = left; inner = n.0; before = h; opens = n.1; unclosed = n.2 }
-template_fails e text ps left refusal.Memory h a n = tt
 
 plain_utf8 : (e : Ending) (text front rest : List ℕ) → IsUtf8 text → text ≡ front ++ rest → EndsPlain e rest → IsUtf8 rest
 plain_utf8 e text front [] u s h = IsUtf8-nil

@@ -13,7 +13,7 @@ use rel_lexer::Text;
 use std::alloc::Global;
 
 /// What a line is by itself.
-#[derive(Debug, Drop)]
+#[derive(Drop)]
 pub(crate) enum Command {
     /// An empty line or a comment.
     Nothing,
@@ -31,7 +31,7 @@ pub(crate) enum Command {
 }
 
 /// A file to be fetched.
-#[derive(Debug, Drop)]
+#[derive(Drop)]
 pub(crate) struct Source {
     pub(crate) name: Text,
     pub(crate) sha1: [u8; 20],

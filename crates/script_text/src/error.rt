@@ -7,7 +7,7 @@ use thiserror::Error;
 
 /// Why lines are no script: the first line from the top that is refused, or where none is, the first statement that isn't
 /// closed. Lines are counted from 1.
-#[derive(Clone, Copy, Debug, Drop, PartialEq, Eq, Error)]
+#[derive(Clone, Copy, Debug, Drop, Error)]
 pub enum ScriptError {
     /// The line is no command, or an `if` inside of 64 others.
     #[error("line {0}: this is no command")]

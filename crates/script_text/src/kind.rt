@@ -4,7 +4,7 @@ ghost use Rattle.script_text.specs.Forms.{words};
 ghost use Rattle.script_text.specs.Readings.{first_word, second_word};
 
 /// The kinds of command lines.
-#[derive(Clone, Copy, Debug, PartialEq, Eq)]
+#[derive(Clone, Copy)]
 pub(crate) enum Kind {
     Parameter,
     If,

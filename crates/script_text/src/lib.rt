@@ -19,13 +19,13 @@ mod template;
 mod tree;
 
 pub use error::ScriptError;
-pub use law::one_verdict;
+pub use law::{
+    a_statement_shows_its_parts, an_error_tells_one_of_the_lines, arms_show_each, one_verdict,
+    statements_show_each,
+};
 pub use line::Line;
 pub use prefetch::{Prefetch, PrefetchList};
 pub use read::read_script;
 pub use script::Script;
 pub use template::{Part2, PartList, Template, TemplateList};
 pub use tree::{Arm, ArmList, Statement, StatementList};
-
-#[cfg(test)]
-mod tests;

@@ -5,7 +5,7 @@ use rel_lexer::Text;
 use std::alloc::AllocError;
 
 /// What one line of a script does, and a `createfile` with its lines.
-#[derive(Debug, Drop)]
+#[derive(Drop)]
 pub enum Line {
     /// The parameter of this name, without braces and quotes, gets this text.
     Parameter(Text, Template),

@@ -5,7 +5,7 @@ use std::alloc::{AllocError, Global};
 use std::marker::Model;
 
 /// A file that is fetched before a script begins.
-#[derive(Debug, Drop)]
+#[derive(Drop)]
 pub struct Prefetch {
     /// The number of its line, from 1 on.
     pub line: u32,
@@ -36,7 +36,7 @@ impl Prefetch {
 }
 
 /// Files in the order of their lines. Contracts see the list of them.
-#[derive(Debug, Drop)]
+#[derive(Drop)]
 pub struct PrefetchList {
     items: Vec<Prefetch>,
 }

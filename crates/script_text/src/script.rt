@@ -5,7 +5,7 @@ use crate::{PrefetchList, StatementList};
 use std::alloc::AllocError;
 
 /// An action's script.
-#[derive(Debug, Drop)]
+#[derive(Drop)]
 pub struct Script {
     /// What is fetched first, wherever its lines stand.
     pub prefetches: PrefetchList,

@@ -5,7 +5,7 @@ use std::alloc::{AllocError, Global};
 use std::marker::Model;
 
 /// A part of a template.
-#[derive(Debug, Drop)]
+#[derive(Drop)]
 pub enum Part2 {
     /// It stands for itself: one byte or more. Two such parts never follow one another.
     Plain(Text),
@@ -26,7 +26,7 @@ impl Part2 {
 }
 
 /// Parts in their order. Contracts see the list of them.
-#[derive(Debug, Drop)]
+#[derive(Drop)]
 pub struct PartList {
     items: Vec<Part2>,
 }
@@ -74,7 +74,7 @@ impl PartList {
 }
 
 /// A text with expressions in it. An empty one has no part.
-#[derive(Debug, Drop)]
+#[derive(Drop)]
 pub struct Template {
     pub parts: PartList,
 }
@@ -91,7 +91,7 @@ impl Template {
 }
 
 /// Templates in their order. Contracts see the list of them.
-#[derive(Debug, Drop)]
+#[derive(Drop)]
 pub struct TemplateList {
     items: Vec<Template>,
 }

@@ -8,7 +8,7 @@ use std::alloc::{AllocError, Global};
 
 /// A statement of a script.
 #[cycle(tree)]
-#[derive(Debug, Drop)]
+#[derive(Drop)]
 pub enum Statement {
     /// The line with this number, counted from 1.
     Do { line: u32, what: Line },
@@ -18,7 +18,7 @@ pub enum Statement {
 
 /// An `if` or `elseif` and the statements below it.
 #[cycle(tree)]
-#[derive(Debug, Drop)]
+#[derive(Drop)]
 pub struct Arm {
     /// The number of its line, counted from 1.
     pub line: u32,
@@ -29,14 +29,14 @@ pub struct Arm {
 
 /// Statements in their order.
 #[cycle(tree)]
-#[derive(Debug, Drop)]
+#[derive(Drop)]
 pub struct StatementList {
     items: Vec<Statement>,
 }
 
 /// Arms in their order.
 #[cycle(tree)]
-#[derive(Debug, Drop)]
+#[derive(Drop)]
 pub struct ArmList {
     items: Vec<Arm>,
 }

@@ -7,3 +7,5 @@ pub mod RowLists
 pub mod HeadLemmas
 pub mod StopLemmas
 pub mod PassLemmas
+pub mod Splitting
+pub mod NamedLemmas

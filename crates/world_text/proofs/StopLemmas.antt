@@ -21,10 +21,10 @@ abbrev head_with : List ℕ → List ℕ → List ℕ → ℤ → ℤ → Head
 head_with name version system offset moment = record { name = name; version = version; system = system; offset = offset; moment = moment }
 
 -- some head with this name
-abbrev named : List ℕ → Head
+abbrev pub named : List ℕ → Head
 named name = head_with name (48 ∷ []) (48 ∷ []) (pos 0) (pos 0)
 
-named_is : (name : List ℕ) → IsName name → Describes (world_line ∷ name_line name ∷ system_line ∷ offset_line (pos 0) ∷ moment_line (pos 0) ∷ end_line ∷ []) (bare (named name))
+pub named_is : (name : List ℕ) → IsName name → Describes (world_line ∷ name_line name ∷ system_line ∷ offset_line (pos 0) ∷ moment_line (pos 0) ∷ end_line ∷ []) (bare (named name))
 named_is name h = whole _ (named name) (head_by (named name) system_line h a_system an_offset a_moment)
 
 pub begins_none : Begins AreWorldLines []

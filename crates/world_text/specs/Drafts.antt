@@ -3,6 +3,7 @@ use Rattle.std.specs.Prelude.{ℕ, List, ⊤}
 use Rattle.bf_world.specs.declared.parts.Node.TheVariants as node
 use Rattle.bf_world.specs.declared.parts.Program.{Program}
 use Rattle.desk_base.specs.Moments.{IsMoment}
+use Rattle.line_forms.specs.Paths.{IsPath}
 use Rattle.bf_world.specs.Maps.{put}
 use Rattle.bf_world.specs.Sound.{IsSoundProgram}
 use Rattle.bf_world.specs.Places.{with_node}
@@ -29,8 +30,8 @@ world_of d = with_pending d.pending d.world
 abbrev pub just : WorldState → Draft
 just w = record { world = w; pending = Nothing }
 
--- what is pending has its moment in range, and versions of their form
+-- what is pending has its path, its moment in range, and versions of their form
 abbrev pub IsSoundPending : Pending → Type 0
 IsSoundPending Nothing = ⊤
-IsSoundPending (File path content modified) = IsMoment modified
+IsSoundPending (File path content modified) = IsPath path × IsMoment modified
 IsSoundPending (PendingProgram line program) = IsSoundProgram program

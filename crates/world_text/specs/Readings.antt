@@ -8,7 +8,7 @@ use Rattle.line_forms.specs.BadLines.{Begins}
 use Rattle.line_forms.specs.Fields.{field_text, IsFirstField}
 use Rattle.line_forms.specs.Lines.{TakesLine, StandsBehind, ended_line}
 use Rattle.line_forms.specs.LineStates.{LineState}
-use Rattle.line_forms.specs.Names.{IsRest}
+use Rattle.line_forms.specs.Names.{IsName, IsRest}
 use Rattle.line_forms.specs.Versions.{IsVersion}
 use Rattle.bf_world.specs.declared.answer.PackageRow.{PackageRow}
 use Rattle.bf_world.specs.declared.parts.Program.{Program}
@@ -177,3 +177,11 @@ abbrev pub ReadsLines : LineState → LineState → Result WorldState Fault → 
 ReadsLines old new (Ok w) = (lines : List (List ℕ)) × Describes lines w × Passes old new lines × IsOver new
 ReadsLines old new (Err Bad) = IsStuck old new
 ReadsLines old new (Err Memory) = ⊤
+
+-- The line of another name is ahead, behind the first line. Or no line of another name stands there.
+abbrev pub HasOtherName : List ℕ → LineState → LineState → Bool → Type 0
+HasOtherName name old new true =
+    TakesLine old new world_line
+    × ((other : List ℕ) × (more : List (List ℕ)) × IsName other × (other ≢ name) × (new.lines ≡ name_line other ∷ more))
+HasOtherName name old new false =
+    (other : List ℕ) (more : List (List ℕ)) → IsName other → old.lines ≡ world_line ∷ name_line other ∷ more → other ≡ name

@@ -90,3 +90,13 @@ ReadsWorld text (Ok w) =
     (unended_of text ≡ []) × Describes (lines_of text) w × ((other : WorldState) → Describes (lines_of text) other → other ≡ w)
 ReadsWorld text (Err (BadLine n)) = AnswersBadLine AreWorldLines text n
 ReadsWorld text (Err Memory) = ⊤
+
+-- the lines describe a world of this name
+abbrev pub AreNamedLines : List ℕ → List (List ℕ) → Type 0
+AreNamedLines name lines = (w : WorldState) × Describes lines w × (w.name ≡ name)
+
+-- The same answer, where the world is to have this name: the line of another name is bad.
+abbrev pub ReadsNamedWorld : List ℕ → List ℕ → Result WorldState WorldError → Type 0
+ReadsNamedWorld name text (Ok w) = ReadsWorld text (Ok w) × (w.name ≡ name)
+ReadsNamedWorld name text (Err (BadLine n)) = AnswersBadLine (AreNamedLines name) text n
+ReadsNamedWorld name text (Err Memory) = ⊤

@@ -4,7 +4,7 @@ ghost use Rattle.world_text.specs.declared.fault.Fault.TheVariants.{Memory};
 use std::alloc::{AllocError, AllocFailed};
 
 /// Why a line isn't taken.
-#[derive(Clone, Copy, Debug, PartialEq, Eq)]
+#[derive(Clone, Copy)]
 pub(crate) enum Fault {
     /// It is no line of a world text at its place.
     Bad,

@@ -47,7 +47,7 @@ pub(crate) fn read_head<'a>(lines: &mut Lines<'a>) -> Option<HeadText<'a>>
     })
 }
 
-fn read_name_line(line: &[u8]) -> Option<&str>
+pub(crate) fn read_name_line(line: &[u8]) -> Option<&str>
     ensures { Spells IsName name_line line.now (option_copied result) }
 {
     read_name(after_word(line, b"name")?)

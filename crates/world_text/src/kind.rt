@@ -3,7 +3,7 @@ ghost use Rattle.world_text.specs.declared.kind.Kind.{Kind};
 ghost use Rattle.world_text.specs.Rows.{keyword};
 
 /// A kind of line between a world's head and its `end`.
-#[derive(Clone, Copy, Debug, PartialEq, Eq)]
+#[derive(Clone, Copy)]
 pub(crate) enum Kind {
     Folder,
     File,

@@ -5,6 +5,7 @@ ghost use Rattle.world_text.specs.declared.error.WorldError.{WorldError};
 ghost use Rattle.world_text.specs.declared.error.WorldError.TheVariants.{Memory};
 ghost use Rattle.world_text.specs.declared.draft.Draft.{Draft};
 ghost use Rattle.world_text.specs.Rows.{Adds};
+ghost use Rattle.world_text.specs.Fronts.{Splits};
 ghost use Rattle.world_text.specs.Texts.{Head, IsHead, Describes, ReadsWorld};
 
 /// Lines describe one world at most.
@@ -26,4 +27,9 @@ pub fn one_head_text()
 pub fn a_world_is_read()
     ensures { (text : List ℕ) (w : WorldState) (answer : Result WorldState WorldError) → unended_of text ≡ []
         → Describes (lines_of text) w → ReadsWorld text answer → (answer ≡ Ok w) ⊎ (answer ≡ Err Memory) }
+{}
+
+/// A text begins with one world's text.
+pub fn one_front()
+    ensures { (text world rest other left : List ℕ) → Splits text world rest → Splits text other left → world ≡ other }
 {}

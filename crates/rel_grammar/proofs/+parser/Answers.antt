@@ -1,4 +1,4 @@
-use Rattle.std.proofs.Common.{◌∙◌, ap, arith, length, false}
+use Rattle.std.proofs.Common.{◌∙◌, ap, arith, length, false, refl}
 use Rattle.std.proofs.lemmas.Result.{err_from_is_err_and, MatchResult-weaker}
 use Rattle.rel_grammar.specs.Trees.{more_links}
 use Rattle.rel_grammar.specs.Views.{shown, shown_parts, shown_links}
@@ -54,29 +54,37 @@ pub parser::tuple-returns-in_err-part : goal.parser::tuple-returns-in_err-part
 parser::tuple-returns-in_err-part t c = let p = err_from_is_err_and c.from_residual-in_err-part.result c.from_residual-in_err-part.ensures.1 in rw (p.1, p.2) (list.tuple_fails c.args.depth c.args.end _ (shown_parts c.loop-parts.parts) _ _ c.requires c.loop-parts.invariant c.in_err-part.ensures)
 
 -- choice
-pub parser::choice-returns : goal.parser::choice-returns
-parser::choice-returns t c = choice.choice_reads c.args.depth _ c.in-Some.place (shown c.in_ok-test.test) (shown c.in_ok-yes.yes) _ (shown c.in_ok-no.no) _ (shown c.in_ok-conditional.field-0) (choice.else_reads c.args.depth _ c.in-Some.place (shown c.in_ok-test.test) _ (shown c.in_ok-yes.yes) _ c.in-Some-after-2.field-0-0 _ (omega arith) (choice.then_reads c.args.depth _ c.in-Some.place _ (shown c.in_ok-test.test) _ c.in-Some-after.field-0-0 _ (omega arith) (c.in-Some.ensures false) c.in_ok-test.ensures (c.in-Some-after.ensures false)) c.in_ok-yes.ensures (c.in-Some-after-2.ensures false)) c.in_ok-no.ensures c.in_ok-conditional.ensures
+pub parser::choice-returns-in-None : goal.parser::choice-returns-in-None
+parser::choice-returns-in-None t c = MatchResult-weaker c.chain.result c.chain.ensures (λ r h. choice.choice_plain c.args.depth _ (shown r.0) _ (c.in-None.ensures false) h) (λ e h. choice.choice_plain_fails c.args.depth c.args.end _ e (c.in-None.ensures false) h)
 
-pub parser::choice-returns-in_default : goal.parser::choice-returns-in_default
-parser::choice-returns-in_default t c = MatchResult-weaker c.chain.result c.chain.ensures (λ r h. choice.choice_plain c.args.depth _ (shown r.0) _ (c.in_default.ensures false) h) (λ e h. choice.choice_plain_fails c.args.depth c.args.end _ e (c.in_default.ensures false) h)
+pub parser::choice-returns-in-Some : goal.parser::choice-returns-in-Some
+parser::choice-returns-in-Some t c = rw (c.in-Some.ensures false) c.conditional.ensures
 
-pub parser::choice-returns-in_default-after : goal.parser::choice-returns-in_default-after
-parser::choice-returns-in_default-after t c = choice.test_ends c.args.depth c.args.end _ c.in-Some.place _ (shown c.in_ok-test.test) _ c.place_at.result (omega arith) (c.in-Some.ensures false) c.in_ok-test.ensures (c.in_default-after.ensures false) (c.place_at.ensures false)
+-- what stands after an `if`
+pub parser::conditional-returns : goal.parser::conditional-returns
+parser::conditional-returns t c = choice.choice_reads c.args.depth _ c.args.place (shown c.in_ok-test.test) (shown c.in_ok-yes.yes) _ (shown c.in_ok-no.no) _ (shown c.in_ok-conditional.field-0) (choice.else_reads c.args.depth _ c.args.place (shown c.in_ok-test.test) _ (shown c.in_ok-yes.yes) _ (omega arith) (choice.then_reads c.args.depth _ c.args.place _ (shown c.in_ok-test.test) _ (omega arith) refl c.in_ok-test.ensures) c.in_ok-yes.ensures) c.in_ok-no.ensures c.in_ok-conditional.ensures
 
-pub parser::choice-returns-in_default-after-2 : goal.parser::choice-returns-in_default-after-2
-parser::choice-returns-in_default-after-2 t c = choice.yes_ends c.args.depth c.args.end _ c.in-Some.place (shown c.in_ok-test.test) _ (shown c.in_ok-yes.yes) _ c.place_at-in_default-after-2.result (choice.then_reads c.args.depth _ c.in-Some.place _ (shown c.in_ok-test.test) _ c.in-Some-after.field-0-0 _ (omega arith) (c.in-Some.ensures false) c.in_ok-test.ensures (c.in-Some-after.ensures false)) c.in_ok-yes.ensures (c.in_default-after-2.ensures false) (c.place_at-in_default-after-2.ensures false)
+pub parser::conditional-returns-in_err-no : goal.parser::conditional-returns-in_err-no
+parser::conditional-returns-in_err-no t c = let p = err_from_is_err_and c.from_residual-in_err-no.result c.from_residual-in_err-no.ensures.1 in rw (p.1, p.2) (choice.no_fails c.args.depth c.args.end _ c.args.place (shown c.in_ok-test.test) (shown c.in_ok-yes.yes) _ _ (choice.else_reads c.args.depth _ c.args.place (shown c.in_ok-test.test) _ (shown c.in_ok-yes.yes) _ (omega arith) (choice.then_reads c.args.depth _ c.args.place _ (shown c.in_ok-test.test) _ (omega arith) refl c.in_ok-test.ensures) c.in_ok-yes.ensures) c.in_err-no.ensures)
 
-pub parser::choice-returns-in_err-no : goal.parser::choice-returns-in_err-no
-parser::choice-returns-in_err-no t c = let p = err_from_is_err_and c.from_residual-in_err-no.result c.from_residual-in_err-no.ensures.1 in rw (p.1, p.2) (choice.no_fails c.args.depth c.args.end _ c.in-Some.place (shown c.in_ok-test.test) (shown c.in_ok-yes.yes) _ _ (choice.else_reads c.args.depth _ c.in-Some.place (shown c.in_ok-test.test) _ (shown c.in_ok-yes.yes) _ c.in-Some-after-2.field-0-0 _ (omega arith) (choice.then_reads c.args.depth _ c.in-Some.place _ (shown c.in_ok-test.test) _ c.in-Some-after.field-0-0 _ (omega arith) (c.in-Some.ensures false) c.in_ok-test.ensures (c.in-Some-after.ensures false)) c.in_ok-yes.ensures (c.in-Some-after-2.ensures false)) c.in_err-no.ensures)
+pub parser::conditional-returns-in_err-test : goal.parser::conditional-returns-in_err-test
+parser::conditional-returns-in_err-test t c = let p = err_from_is_err_and c.from_residual.result c.from_residual.ensures.1 in rw (p.1, p.2) (choice.test_fails c.args.depth c.args.end _ c.args.place _ _ (omega arith) refl c.in_err-test.ensures)
 
-pub parser::choice-returns-in_err-test : goal.parser::choice-returns-in_err-test
-parser::choice-returns-in_err-test t c = let p = err_from_is_err_and c.from_residual.result c.from_residual.ensures.1 in rw (p.1, p.2) (choice.test_fails c.args.depth c.args.end _ c.in-Some.place _ _ (omega arith) (c.in-Some.ensures false) c.in_err-test.ensures)
+pub parser::conditional-returns-in_err-yes : goal.parser::conditional-returns-in_err-yes
+parser::conditional-returns-in_err-yes t c = let p = err_from_is_err_and c.from_residual-in_err-yes.result c.from_residual-in_err-yes.ensures.1 in rw (p.1, p.2) (choice.yes_fails c.args.depth c.args.end _ c.args.place (shown c.in_ok-test.test) _ _ (choice.then_reads c.args.depth _ c.args.place _ (shown c.in_ok-test.test) _ (omega arith) refl c.in_ok-test.ensures) c.in_err-yes.ensures)
 
-pub parser::choice-returns-in_err-yes : goal.parser::choice-returns-in_err-yes
-parser::choice-returns-in_err-yes t c = let p = err_from_is_err_and c.from_residual-in_err-yes.result c.from_residual-in_err-yes.ensures.1 in rw (p.1, p.2) (choice.yes_fails c.args.depth c.args.end _ c.in-Some.place (shown c.in_ok-test.test) _ _ (choice.then_reads c.args.depth _ c.in-Some.place _ (shown c.in_ok-test.test) _ c.in-Some-after.field-0-0 _ (omega arith) (c.in-Some.ensures false) c.in_ok-test.ensures (c.in-Some-after.ensures false)) c.in_err-yes.ensures)
+pub parser::conditional-returns-then-depth-eq-DEEPEST : goal.parser::conditional-returns-then-depth-eq-DEEPEST
+parser::conditional-returns-then-depth-eq-DEEPEST t c = choice.choice_deep c.args.depth c.args.end _ c.args.place _ c.if-depth-eq-DEEPEST.true refl
 
-pub parser::choice-returns-then-depth-eq-DEEPEST : goal.parser::choice-returns-then-depth-eq-DEEPEST
-parser::choice-returns-then-depth-eq-DEEPEST t c = choice.choice_deep c.args.depth c.args.end _ c.in-Some.place _ c.if-depth-eq-DEEPEST.true (c.in-Some.ensures false)
+-- a part and the word behind it
+pub parser::up_to-returns-in-None : goal.parser::up_to-returns-in-None
+parser::up_to-returns-in-None t c = choice.word_lacks c.args.depth c.args.word c.args.end _ (shown c.in_ok-part.part) _ c.place_at.result c.in_ok-part.ensures (c.in-None.ensures false) (c.place_at.ensures false)
+
+pub parser::up_to-returns-in-Some : goal.parser::up_to-returns-in-Some
+parser::up_to-returns-in-Some t c = choice.word_read c.args.depth c.args.word _ (shown c.in_ok-part.part) _ _ _ c.in_ok-part.ensures (c.in-Some.ensures false)
+
+pub parser::up_to-returns-in_err-part : goal.parser::up_to-returns-in_err-part
+parser::up_to-returns-in_err-part t c = let p = err_from_is_err_and c.from_residual.result c.from_residual.ensures.1 in rw (p.1, p.2) (choice.word_fails c.args.depth c.args.word c.args.end _ _ c.in_err-part.ensures)
 
 -- chain
 pub parser::chain-loop-links-init : goal.parser::chain-loop-links-init

@@ -45,6 +45,12 @@ decreases-parser::chain l = 32 * (66 - l.depth) + (height l.level + 1)
 abbrev pub decreases-parser::choice : goal.decreases-parser::choice
 decreases-parser::choice l = 32 * (66 - l.depth) + 20
 
+abbrev pub decreases-parser::conditional : goal.decreases-parser::conditional
+decreases-parser::conditional l = 32 * (66 - l.depth) + 19
+
+abbrev pub decreases-parser::up_to : goal.decreases-parser::up_to
+decreases-parser::up_to l = 32 * (66 - l.depth) + 23
+
 abbrev pub decreases-parser::tuple : goal.decreases-parser::tuple
 decreases-parser::tuple l = 32 * (66 - l.depth) + 21
 

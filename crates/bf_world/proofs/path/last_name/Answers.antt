@@ -1,6 +1,5 @@
-use Rattle.std.proofs.Common.{◌≡◌, ◌∙◌, ap, sym, subst, ℕ, List, length, arith}
+use Rattle.std.proofs.Common.{◌∙◌, length, arith}
 use Rattle.std.proofs.lemmas.Str.{IsCharBoundary-after_ascii}
-use Rattle.bf_world.specs.Paths.{last_name}
 use Rattle.bf_world.proofs.PathCuts.{name_of_cut, name_of_none, slash_at}
 use Rattle.bf_world.proofs.path.last_name.Goals as goal
 

@@ -1,12 +1,15 @@
-use Rattle.std.proofs.Common.{arith}
-use Rattle.std.proofs.lemmas.Grind.{common_steps}
-use Rattle.bf_world.specs.Paths.{slash_behind}
+use Rattle.std.proofs.Common.{◌∙◌, sym, ap, cond, [], arith}
+use Rattle.bf_world.specs.Paths.{root, slash_behind}
 use Rattle.bf_world.proofs.path.slash_behind.Goals as goal
 
-pub returns-then-eq : goal.returns-then-eq
+pub returns-then-ends_with : goal.returns-then-ends_with
 unfolding slash_behind
-returns-then-eq c = grind (arith, common_steps)
+returns-then-ends_with c =
+    let last = c.ends_with.ensures.byte (omega arith) (omega arith) (λ w o h. h) in
+    ap (λ b. cond b [] root) (sym c.if-ends_with.true ∙ last)
 
-pub returns-else-eq : goal.returns-else-eq
+pub returns-else-ends_with : goal.returns-else-ends_with
 unfolding slash_behind
-returns-else-eq c = grind (arith, common_steps)
+returns-else-ends_with c =
+    let last = c.ends_with.ensures.byte (omega arith) (omega arith) (λ w o h. h) in
+    ap (λ b. cond b [] root) (sym c.if-ends_with.false ∙ last)

@@ -7,8 +7,8 @@ use Rattle.fix_site.proofs.site_reader.take_blocks.Given as goal
 -- the lines of the blocks so far were taken
 abbrev pub invariant-loop-blocks : goal.invariant-loop-blocks
 invariant-loop-blocks l = record {
-  good : AreBlocks l.name l.blocks.items;
-  passes : Passes l.initial.lines l.lines (flat_map block_lines l.blocks.items);
+  good : AreBlocks l.name l.blocks;
+  passes : Passes l.initial.lines l.lines (flat_map block_lines l.blocks);
 }
 
 abbrev pub decreases-loop-blocks : goal.decreases-loop-blocks

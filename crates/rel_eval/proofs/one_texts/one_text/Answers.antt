@@ -8,7 +8,7 @@ use Rattle.rel_eval.proofs.one_texts.one_text.Goals as goal
 
 pub returns-clause-words : goal.returns-clause-words
 returns-clause-words g c = λ p w h.
-    let at = c.span-span.ensures ∙ ap span_of_node (c.root.ensures.node ∙ ap shown_plan c.plan.ensures) in
+    let at = c.span-span.ensures in
     let f : SFits w64 c.args.scene.now.offset = search rules in
     words_at _ _ _ _ _ _ _ (ap (λ x. worded x c.args.scene.now.offset) at) (c.one_value.ensures.goes w h) (simp to_z-of_z at c.told.ensures.tells)
 

@@ -7,7 +7,7 @@ use Rattle.rel_eval.proofs.truths.truth.Goals as goal
 
 pub returns-clause-judges : goal.returns-clause-judges
 returns-clause-judges g c = λ p k w h.
-    let at = c.span-span.ensures ∙ ap span_of_node (c.root.ensures.node ∙ ap shown_plan c.plan.ensures) in
+    let at = c.span-span.ensures in
     judges_at _ _ _ _ _ _ _ (ap judged at) (c.one_value.ensures.goes w h) c.told.ensures.tells
 
 pub returns-clause-cause : goal.returns-clause-cause

@@ -7,7 +7,7 @@ use Rattle.rel_session.proofs.lines.answer_lines.Goals as goal
 
 pub loop-rest-init : goal.loop-rest-init
 loop-rest-init g c = record {
-  so_far = λ w is. rw (c.new-session.ensures.fresh w) (RanSoFar-start w _ _ _ _ _);
+  so_far = rw (c.new-session.ensures.fresh _) (RanSoFar-start _ _ _ _ _ _);
   few = c.new-session.ensures.few;
   world = refl;
   acted = refl;
@@ -22,9 +22,9 @@ loop-rest-preserved g c =
     let before = c.loop-rest.invariant in
     let now = c.in_ok-run_line.ensures in
     record {
-      so_far = λ w is.
-          let ran = now.ran w (before.world ∙ is) in
-          RanSoFar-step w _ _ _ _ _ _ _ _ _ c.first_line.result.0.now _ _ ran.0 ran.1 (before.so_far w is) c.first_line.ensures.lines ran.2 ran.3;
+      so_far =
+          let ran = rw before.world at now.ran in
+          RanSoFar-step _ _ _ _ _ _ _ _ _ _ c.first_line.result.0.now _ _ ran.0 ran.1 before.so_far c.first_line.ensures.lines ran.2 ran.3;
       few = now.few;
       world = now.world ∙ before.world;
       acted = now.acted ∙ before.acted;
@@ -35,11 +35,11 @@ loop-rest-preserved g c =
     }
 
 pub returns-in_err-run_line-clause-ran : goal.returns-in_err-run_line-clause-ran
-returns-in_err-run_line-clause-ran g c w is =
+returns-in_err-run_line-clause-ran g c =
     let before = c.loop-rest.invariant in
-    let ran = c.in_err-run_line.ensures.ran w (before.world ∙ is) in
+    let ran = rw before.world at c.in_err-run_line.ensures.ran in
     let p = err_from_is_err_and c.from_residual.result c.from_residual.ensures.1 in
-    rw p.1 (RanSoFar-stop w _ _ _ _ _ _ _ _ c.first_line.result.0.now _ _ ran.0 ran.1 ran.2 (before.so_far w is) c.first_line.ensures.lines ran.3 ran.4)
+    rw p.1 (RanSoFar-stop _ _ _ _ _ _ _ _ _ c.first_line.result.0.now _ _ ran.0 ran.1 before.so_far c.first_line.ensures.lines ran.2 ran.3)
 
 none_left : (rest : List ℕ) (empty : Bool) → empty ≡ eqb (length rest) 0 → empty ≡ true → rest ≡ []
 none_left [] empty is left = refl
@@ -48,5 +48,5 @@ none_left (byte ∷ bytes) empty is left =
     absurd (omega arith)
 
 pub returns-clause-ran : goal.returns-clause-ran
-returns-clause-ran g c w is =
-    RanSoFar-end w _ _ _ _ _ _ _ _ (c.loop-rest.invariant.so_far w is) (ap lines_of (none_left _ _ c.is_empty.ensures c.loop-rest-test.false))
+returns-clause-ran g c =
+    RanSoFar-end _ _ _ _ _ _ _ _ _ c.loop-rest.invariant.so_far (ap lines_of (none_left _ _ c.is_empty.ensures c.loop-rest-test.false))

@@ -1,5 +1,4 @@
-use Rattle.std.proofs.Common.{◌≡◌, ◌≤◌, Some, length}
-use Rattle.bf_world.specs.Worlds.{WorldState}
+use Rattle.std.proofs.Common.{◌≡◌, ◌≤◌, length}
 use Rattle.rel_session.specs.Devices.{devices_of}
 use Rattle.rel_session.specs.Lines.{lines_of}
 use Rattle.rel_session.specs.Sessions.{fresh}
@@ -10,10 +9,9 @@ use Rattle.rel_session.proofs.lines.answer_lines.Given as goal
 -- the lines run so far, and what is run of the rest behind them
 abbrev pub invariant-loop-rest : goal.invariant-loop-rest
 invariant-loop-rest g l = record {
-  so_far : (w : WorldState) → g.M.Machine.world l.fn.machine ≡ Some w
-      → RanSoFar w l.asking.offset l.asking.moment fresh (lines_of l.fn.input)
+  so_far : RanSoFar (g.M.Machine.world l.fn.machine) l.asking.offset l.asking.moment fresh (lines_of l.fn.input)
       (devices_of (g.W.Sink.held l.fn.sink) (g.M.Machine.looked l.fn.machine) (g.M.Machine.faults l.fn.machine) (g.C.Clock.given l.fn.clock))
-      (session_of w l.session) (lines_of l.rest)
+      (session_of (g.M.Machine.world l.fn.machine) l.session) (lines_of l.rest)
       (devices_of (g.W.Sink.held l.sink) (g.M.Machine.looked l.machine) (g.M.Machine.faults l.machine) (g.C.Clock.given l.clock));
   few : IsFew l.session;
   world : g.M.Machine.world l.machine ≡ g.M.Machine.world l.fn.machine;

@@ -8,9 +8,9 @@ use Rattle.rel_session.proofs.Tellings.{comes_of_full}
 use Rattle.rel_session.proofs.paused.after_value.Goals as goal
 
 pub returns-in_ok-say_more-in-Some-eq0 : goal.returns-in_ok-say_more-in-Some-eq0
-returns-in_ok-say_more-in-Some-eq0 c offset span t =
-    let Full : Option ℕ → Type 0 = λ r. TellsValue offset span (GoesOn r t (λ left. Tells offset span left t)) (Out left.More) t c.args.out.now c.say_more.new.out in
+returns-in_ok-say_more-in-Some-eq0 c offset span =
+    let Full : Option ℕ → Type 0 = λ r. TellsValue offset span (λ t. GoesOn r t (λ left. Tells offset span left t)) (Out left.More) c.args.out.now c.say_more.new.out in
     let some = c.in-Some-eq0.is in
     let zero = c.in-Some-eq0.field-0-is in
     let full : c.args.room ≡ Some 0 = cc in
-    subst Full (sym full) (comes_of_full offset span t _ _ c.in_ok-say_more-in-Some-eq0.ensures)
+    subst Full (sym full) (comes_of_full offset span _ _ c.in_ok-say_more-in-Some-eq0.ensures)

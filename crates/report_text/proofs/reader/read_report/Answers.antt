@@ -1,22 +1,38 @@
-use Rattle.std.proofs.Common.{ℕ, Option, Some, None, sym, subst, arith}
-use Rattle.line_forms.specs.LineStates.{LineState}
+use Rattle.std.proofs.Common.{ℕ, Option, refl, sym, subst, arith}
 use Rattle.line_forms.specs.BadLines.{AnswersBadLine}
+use Rattle.line_forms.specs.LineStates.{LineState}
+use Rattle.line_forms.specs.Readers.{IsStuck, Passes, ReadsPart}
 use Rattle.report_text.specs.declared.report.Report.{Report}
-use Rattle.report_text.specs.Reports.{AreReportLines}
-use Rattle.report_text.specs.Readings.{ReadsLines}
-use Rattle.report_text.proofs.PassLemmas.{text_is, bad_line_is}
+use Rattle.report_text.specs.Reports.{AreReportLines, IsReport, report_lines}
+use Rattle.report_text.proofs.StopLemmas.{never_goes_on}
+use Rattle.report_text.proofs.TextLemmas.{not_so}
 use Rattle.report_text.proofs.reader.read_report.Goals as goal
-
-pub returns-in-Some : goal.returns-in-Some
-returns-in-Some c =
-    let P : Option Report → Type 0 = λ o. ReadsLines c.new-lines.result c.read_lines.new.lines o in
-    let Q : LineState → Type 0 = λ s. ReadsLines s c.read_lines.new.lines (Some c.in-Some.report) in
-    let read = subst Q c.new-lines.ensures (subst P c.in-Some.is c.in_ok-report.ensures) in
-    (omega arith, read.0, text_is c.args.text.now c.read_lines.new.lines c.in-Some.report (c.lines_make_the_text.ensures.whole c.args.text.now) read)
 
 pub returns-in-None : goal.returns-in-None
 returns-in-None c =
-    let P : Option Report → Type 0 = λ o. ReadsLines c.new-lines.result c.read_lines.new.lines o in
-    let Q : LineState → Type 0 = λ s. ReadsLines s c.read_lines.new.lines None in
+    let P : Option Report → Type 0 = λ o. ReadsPart IsReport report_lines c.new-lines.result c.take_report.new.lines o in
+    let Q : LineState → Type 0 = λ s. IsStuck AreReportLines s c.take_report.new.lines in
     let N : ℕ → Type 0 = λ n. AnswersBadLine AreReportLines c.args.text.now n in
-    (omega arith, subst N (sym c.number.ensures) (bad_line_is c.args.text.now c.read_lines.new.lines (subst Q c.new-lines.ensures (subst P c.in-None.is c.in_ok-report.ensures))))
+    let stuck = subst Q c.new-lines.ensures (subst P c.in-None.is c.in_ok-report.ensures) in
+    (omega arith, subst N (sym c.number-line.ensures) (c.a_cursor_stands_at_the_bad_line.ensures.stuck c.args.text.now c.take_report.new.lines stuck))
+
+pub returns-then-not-is_over : goal.returns-then-not-is_over
+returns-then-not-is_over c =
+    let P : Option Report → Type 0 = λ o. ReadsPart IsReport report_lines c.new-lines.result c.take_report.new.lines o in
+    let Q : LineState → Type 0 = λ s. IsReport c.in-Some.report × Passes s c.take_report.new.lines (report_lines c.in-Some.report) in
+    let N : ℕ → Type 0 = λ n. AnswersBadLine AreReportLines c.args.text.now n in
+    let read = subst Q c.new-lines.ensures (subst P c.in-Some.is c.in_ok-report.ensures) in (
+      omega arith,
+      subst N (sym c.number-line.ensures) (c.a_cursor_stands_at_the_bad_line.ensures.left c.args.text.now (report_lines c.in-Some.report) c.take_report.new.lines read.1
+          (c.in-Some.report, read.0, refl) (never_goes_on c.in-Some.report read.0) (λ over. not_so _ _ c.if-not-is_over.true c.is_over.ensures over)),
+    )
+
+pub returns : goal.returns
+returns c =
+    let P : Option Report → Type 0 = λ o. ReadsPart IsReport report_lines c.new-lines.result c.take_report.new.lines o in
+    let Q : LineState → Type 0 = λ s. IsReport c.in-Some.report × Passes s c.take_report.new.lines (report_lines c.in-Some.report) in
+    let read = subst Q c.new-lines.ensures (subst P c.in-Some.is c.in_ok-report.ensures) in (
+      omega arith,
+      read.0,
+      c.a_cursor_stands_behind_its_lines.ensures.whole c.args.text.now (report_lines c.in-Some.report) c.take_report.new.lines read.1 (c.is_over.ensures.0 c.if-not-is_over.false),
+    )

@@ -1,5 +1,6 @@
-use Rattle.std.proofs.Common.{refl}
-use Rattle.report_text.proofs.PassLemmas.{not_above}
+use Rattle.std.proofs.Common.{refl, arith}
+use Rattle.report_text.specs.RowLines.{row_line}
+use Rattle.report_text.proofs.PassLemmas.{not_above, takes_it}
 use Rattle.report_text.proofs.TextLemmas.{not_so}
 use Rattle.report_text.proofs.reader.take_row.Goals as goal
 
@@ -8,4 +9,11 @@ returns-then-not-is_above c = (
   refl,
   not_above c.args.form c.args.rows.now c.args.lines.now.lines c.in_ok-line_ahead.ensures.0 c.in_ok-line_ahead.field-0.now c.in_ok-row.row c.in_ok-line_ahead.ensures.1
       c.in_ok-row.ensures.0 c.in_ok-row.ensures.1 (λ h. not_so _ _ c.if-not-is_above.true c.is_above.ensures h),
+)
+
+pub returns : goal.returns
+returns c = (
+  record { room = omega arith; good = c.in_ok-row.ensures.0; above = c.is_above.ensures.0 c.if-not-is_above.false },
+  takes_it (row_line c.args.form) c.args.lines.now c.skip_line.new.self c.in_ok-line_ahead.field-0.now c.in_ok-line_ahead.ensures.0 c.in_ok-row.row c.in_ok-line_ahead.ensures.1 c.in_ok-row.ensures.1
+      c.skip_line.ensures,
 )

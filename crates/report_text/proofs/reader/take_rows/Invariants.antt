@@ -2,7 +2,7 @@ use Rattle.std.proofs.Common.{length}
 use Rattle.std.specs.Prelude.{map}
 use Rattle.report_text.specs.RowLines.{row_line}
 use Rattle.report_text.specs.Reports.{AreReportRows}
-use Rattle.report_text.specs.Readings.{Passes}
+use Rattle.line_forms.specs.Readers.{Passes}
 use Rattle.report_text.proofs.reader.take_rows.Given as goal
 
 -- the lines of the rows so far were taken

@@ -1,4 +1,4 @@
-use Rattle.std.proofs.Common.{ℕ, List, subst}
+use Rattle.std.proofs.Common.{subst}
 use Rattle.bf_world.specs.Maps.{IsMap}
 use Rattle.bf_world.proofs.MapLemmas.{IsMap-by_bytes}
 use Rattle.bf_world.proofs.text_map.TextMap.iter.Goals as goal

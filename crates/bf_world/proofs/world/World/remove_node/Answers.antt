@@ -1,5 +1,6 @@
+use Rattle.line_forms.specs.Paths.{IsPath}
 use Rattle.bf_world.specs.Sound.{IsSoundNode}
-use Rattle.bf_world.proofs.SoundLemmas.{sound-without}
+use Rattle.bf_world.proofs.SoundLemmas.{keys-without, sound-without}
 use Rattle.bf_world.proofs.world.World.remove_node.Goals as goal
 
 pub invariant_of-self : goal.invariant_of-self
@@ -9,6 +10,7 @@ invariant_of-self c =
       version = i.version;
       offset = i.offset;
       moment = i.moment;
+      paths = keys-without IsPath c.args.path.now c.self.inside.paths c.remove.new.self i.paths c.remove.ensures.entries;
       nodes = sound-without IsSoundNode c.args.path.now c.self.inside.paths c.remove.new.self i.nodes c.remove.ensures.entries;
       packages = i.packages;
       settings = i.settings;

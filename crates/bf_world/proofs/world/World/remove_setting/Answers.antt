@@ -9,6 +9,7 @@ invariant_of-self c =
       version = i.version;
       offset = i.offset;
       moment = i.moment;
+      paths = i.paths;
       nodes = i.nodes;
       packages = i.packages;
       settings = sound-without (λ s. IsMoment s.date) c.args.name.now c.self.inside.settings c.remove.new.self i.settings c.remove.ensures.entries;

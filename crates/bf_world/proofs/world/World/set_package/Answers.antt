@@ -9,6 +9,7 @@ invariant_of-self c =
       version = i.version;
       offset = i.offset;
       moment = i.moment;
+      paths = i.paths;
       nodes = i.nodes;
       packages = sound-put IsVersion c.args.name.now c.args.version c.self.inside.packages c.put.new.self c.put.result i.packages c.requires c.put.ensures.ok c.put.ensures.err;
       settings = i.settings;

@@ -9,6 +9,7 @@ invariant_of-self c =
       version = i.version;
       offset = i.offset;
       moment = i.moment;
+      paths = i.paths;
       nodes = i.nodes;
       packages = i.packages;
       settings = sound-put (λ s. IsMoment s.date) c.args.name.now c.args.setting c.self.inside.settings c.put.new.self c.put.result i.settings c.requires c.put.ensures.ok c.put.ensures.err;

@@ -1,17 +1,16 @@
-use Rattle.std.proofs.Common.{◌≡◌, ◌≤◌, Some}
-use Rattle.bf_world.specs.Worlds.{WorldState}
+use Rattle.std.proofs.Common.{◌≡◌, ◌≤◌}
 use Rattle.rel_eval.specs.Cursors.{weight}
-use Rattle.rel_session.specs.Waiting.{left_of, state_of}
+use Rattle.rel_session.specs.Waiting.{TellsLeft, state_of}
 use Rattle.rel_session.proofs.Lasting.{ToldSoFar}
 use Rattle.rel_session.proofs.paused.Paused.tell.Given as goal
 
 -- what was told so far, and what is told of the rest behind it
 abbrev pub invariant-page : goal.invariant-page
 invariant-page g l = record {
-  so_far : (w : WorldState) → g.M.Machine.world l.fn.machine ≡ Some w
-      → ToldSoFar l.asking.offset l.fn.self.span l.fn.room (left_of w l.fn.self.cursor)
+  so_far : ToldSoFar (g.M.Machine.world l.fn.machine)
+      (TellsLeft (g.M.Machine.world l.fn.machine) l.asking.offset l.fn.self.span l.fn.self.cursor l.fn.room)
       (state_of (g.W.Sink.held l.fn.sink) l.fn.out (g.M.Machine.looked l.fn.machine) (g.M.Machine.faults l.fn.machine))
-      l.room (left_of w l.self.cursor)
+      (TellsLeft (g.M.Machine.world l.fn.machine) l.asking.offset l.fn.self.span l.self.cursor l.room)
       (state_of (g.W.Sink.held l.sink) l.out (g.M.Machine.looked l.machine) (g.M.Machine.faults l.machine));
   span : l.self.span ≡ l.fn.self.span;
   world : g.M.Machine.world l.machine ≡ g.M.Machine.world l.fn.machine;

@@ -1,0 +1,126 @@
+use act_rules::Outcome;
+use desk_base::Room;
+use line_forms::{Fields, Lines};
+use report_text::{
+    Form, ReportError, ReportRows, a_report_is_read_again, digest, fill_component, fill_end,
+    fill_exit, fill_line, one_report, outcome_field, read_attempt, read_end, read_exit,
+    read_outcome, read_place, read_report, read_row, read_row_fields, take_report, take_row,
+    write_report,
+};
+use std::alloc::Global;
+use std::test::Fail;
+
+/// A report of form One.
+const ONE: &[u8] = b"report 1\ncomputer pc1\nseq 1\nrow 7 1 fixed 1000 1010\nend\n";
+
+/// A report of form Two.
+const TWO: &[u8] = b"report 2\ncomputer pc1\nseq 2\nrow 7 2 failed 1060 1060 3 0 9\nend\n";
+
+/// The number of the first bad line of a text, 0 where it is a report.
+fn bad_line(alloc: Global, text: &[u8]) -> Option<u32> {
+    match read_report(alloc, text) {
+        Ok(_) => Some(0),
+        Err(ReportError::BadReport(line)) => Some(line),
+        Err(_) => None,
+    }
+}
+
+#[test]
+fn reports_are_read_to_their_first_bad_line(rt: HostRuntime) {
+    let alloc = rt.alloc();
+    let form_one = b"report 1\ncomputer pc1\nseq 1\nrow 7 1 fixed 1000 1010 - - -\nend\n";
+    assert_eq!(rt; bad_line(alloc, form_one), Some(4));
+    assert_eq!(rt;
+        bad_line(alloc, b"report 1\ncomputer pc1\nseq 01\nend\n"),
+        Some(3)
+    );
+    assert_eq!(rt;
+        bad_line(alloc, b"report 1\ncomputer pc1\nseq 1\nend\nend\n"),
+        Some(5)
+    );
+    assert_eq!(rt; bad_line(alloc, b"report 1\ncomputer pc1\nseq 1"), Some(3));
+    assert_eq!(rt; bad_line(alloc, b""), Some(1));
+}
+
+/// The SHA-256 of the text of form One, by another program.
+const DIGEST: [u8; 32] = [
+    0xca, 0x8a, 0x73, 0x75, 0xb5, 0x60, 0xd8, 0xfb, 0x82, 0x20, 0x12, 0xab, 0x1e, 0x72, 0x14, 0x7b,
+    0x17, 0x2b, 0x6f, 0x77, 0xad, 0xe2, 0xee, 0x68, 0xd8, 0xff, 0x63, 0xbf, 0xaf, 0x69, 0x80, 0x6e,
+];
+
+#[test]
+fn a_report_is_written_as_it_was_read(rt: HostRuntime) -> Result<(), Fail> {
+    let Ok(report) = read_report(rt.alloc(), ONE) else {
+        return Err("no report".into());
+    };
+    let copy = report.copy()?;
+    assert_eq!(rt; write_report(rt.alloc(), &copy)?.as_slice(), ONE);
+    assert_eq!(rt; digest(rt.alloc(), &copy)? == DIGEST, true);
+    Ok(())
+}
+
+#[test]
+fn a_report_is_taken_from_a_longer_text(rt: HostRuntime) -> Result<(), Fail> {
+    let mut lines = Lines::new(TWO);
+    let Some(report) = take_report(rt.alloc(), &mut lines)? else {
+        return Err("no report".into());
+    };
+    assert_eq!(rt; lines.number(), 6);
+    assert_eq!(rt; take_report(rt.alloc(), &mut lines)?.is_none(), true);
+    let rows = report.rows.into_vec();
+    assert_eq!(rt;
+        rows.as_slice().first().ok_or("no row")?.note.place,
+        Some((0, 9))
+    );
+    assert_eq!(rt; ReportRows::from_vec(rows).as_slice().len(), 1);
+    Ok(())
+}
+
+#[test]
+fn fields_of_a_row_are_read(rt: HostRuntime) {
+    assert_eq!(rt; read_attempt(b"0"), None);
+    assert_eq!(rt; read_attempt(b"4294967295"), Some(u32::MAX));
+    assert_eq!(rt;
+        matches!(read_outcome(b"failed"), Some(Outcome::Failed)),
+        true
+    );
+    assert_eq!(rt;
+        matches!(read_end(b"fixed", b"5"), Some(Some((5, Outcome::Fixed)))),
+        true
+    );
+    assert_eq!(rt; read_end(b"running", b"5").is_none(), true);
+    assert_eq!(rt; read_exit(b"-1"), Some(Some(-1)));
+    assert_eq!(rt; read_place(b"0", b"9"), Some(Some((0, 9))));
+    assert_eq!(rt; read_place(b"-", b"9"), None);
+}
+
+#[test]
+fn a_row_is_taken_from_its_fields(rt: HostRuntime) {
+    let mut fields = Fields::new(b"7 2 failed 1060 1060 3 0 9 2");
+    let row = take_row(Form::Two, &mut fields);
+    assert_eq!(rt; row.map(|row| row.action), Some(7));
+    assert_eq!(rt; fields.take_field(), Some(b"2".as_slice()));
+    assert_eq!(rt; read_row(Form::One, b"row 7 1 running 0 -").is_some(), true);
+    assert_eq!(rt;
+        read_row_fields(Form::One, b"7 1 running 0 - -").is_none(),
+        true
+    );
+    assert_eq!(rt; outcome_field(None), b"running".as_slice());
+}
+
+#[test]
+fn fields_are_written_into_given_room(rt: HostRuntime) -> Result<(), Fail> {
+    let mut room = Room::with_capacity(rt.alloc(), 4)?;
+    fill_end(None, &mut room);
+    fill_exit(None, &mut room);
+    fill_component(None, &mut room);
+    fill_line(None, &mut room);
+    assert_eq!(rt; room.as_slice(), b"----".as_slice());
+    Ok(())
+}
+
+#[test]
+fn laws_hold() {
+    one_report();
+    a_report_is_read_again();
+}

@@ -1,0 +1,12 @@
+pub mod Basics
+pub mod Outcomes
+pub mod Joins
+pub mod Properties
+pub mod Folds
+pub mod Asked
+pub mod Rows
+pub mod Evaluations
+pub mod Reading
+pub mod Running
+pub mod Checked
+pub mod Taking

@@ -1,0 +1,4 @@
+pub mod Giving
+pub mod Tables
+pub mod Running
+pub mod Taking
