@@ -25,8 +25,8 @@ impl Write for Broken {
 #[test]
 fn a_broken_reader_or_writer_is_a_fault(rt: HostRuntime) {
     let mut room = [0u8; 4];
-    assert_eq!(rt; Reading::new(Broken).read(&mut room), Got::Failed);
-    assert_eq!(rt; Writing::new(Broken).write(b"1"), Put::Failed);
+    assert!(rt; matches!(Reading::new(Broken).read(&mut room), Got::Failed));
+    assert!(rt; matches!(Writing::new(Broken).write(b"1"), Put::Failed));
 }
 
 #[test]
@@ -34,7 +34,7 @@ fn bytes_go_through_as_they_are(rt: HostRuntime) {
     let mut room = [0u8; 4];
     let bytes: &[u8] = b"12";
     let mut source = Reading::new(bytes);
-    assert_eq!(rt; source.read(&mut room), Got::Some(2));
+    assert!(rt; matches!(source.read(&mut room), Got::Some(2)));
     assert_eq!(rt; room, *b"12\0\0");
-    assert_eq!(rt; source.read(&mut room), Got::End);
+    assert!(rt; matches!(source.read(&mut room), Got::End));
 }
