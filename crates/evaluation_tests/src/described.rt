@@ -20,15 +20,10 @@ end
 ";
 
 /// A machine with the folder `/a`, and in it the files `empty` and `one`. The looks with these numbers fail.
-pub(crate) fn machine(alloc: Global, fails: &[u32]) -> Result<PlainMachine, Fail> {
-    let world = read_world(alloc, WORLD)?;
-    Ok(PlainMachine::new(
-        alloc,
-        world,
-        Vec::from_slice(alloc, fails)?,
-        Vec::new(alloc),
-        Vec::new(alloc),
-    ))
+pub(crate) fn machine(alloc: Global, fails: &[u32]) -> Option<PlainMachine> {
+    let looks = Vec::from_slice(alloc, fails).ok()?;
+    let world = read_world(alloc, WORLD).ok()?;
+    Some(PlainMachine::new(alloc, world, looks, Vec::new(alloc), Vec::new(alloc)))
 }
 
 /// Its own moment and offset, with no parameters and no exit code.
@@ -44,9 +39,8 @@ pub(crate) fn scene(alloc: Global) -> Scene
     }
 }
 
-/// The looks that were made.
-pub(crate) fn looks(alloc: Global, machine: &PlainMachine) -> Result<String, Fail> {
-    let mut text = String::new(alloc);
+/// Appends the looks that were made.
+pub(crate) fn push_looks(machine: &PlainMachine, text: &mut String) -> Result<(), Fail> {
     for key in machine.looked() {
         match key {
             Key::Stat(path) => write!(text, "stat {};", path.as_str())?,
@@ -55,5 +49,5 @@ pub(crate) fn looks(alloc: Global, machine: &PlainMachine) -> Result<String, Fai
             _ => text.push_str("other;")?,
         }
     }
-    Ok(text)
+    Ok(())
 }
