@@ -8,6 +8,7 @@ use bf_machine::{
 use desk_base::Bytes;
 use rel_lexer::Text;
 use std::alloc::Global;
+use std::mem::drop;
 
 fn text(alloc: Global, text: &str) -> Option<Text> {
     Text::from_str(alloc, text).ok()
@@ -30,10 +31,10 @@ end
 
 /// A machine over that world. The looks, acts and polls with these numbers fail.
 fn machine(alloc: Global, looks: &[u32], acts: &[u32], polls: &[u32]) -> Option<PlainMachine> {
-    let world = read_world(alloc, WORLD).ok()?;
     let looks = looks.to_vec(alloc).ok()?;
     let acts = acts.to_vec(alloc).ok()?;
     let polls = polls.to_vec(alloc).ok()?;
+    let world = read_world(alloc, WORLD).ok()?;
     Some(PlainMachine::new(alloc, world, looks, acts, polls))
 }
 
@@ -176,7 +177,10 @@ fn are_done(alloc: Global, machine: &mut PlainMachine) -> Option<bool> {
 /// Whether the commands of both tables answer as they say there.
 fn answers(alloc: Global) -> Option<bool> {
     let mut machine = machine(alloc, &[], &[], &[])?;
-    Some(are_refused(alloc, &mut machine)? && are_done(alloc, &mut machine)?)
+    let refused = are_refused(alloc, &mut machine);
+    let done = are_done(alloc, &mut machine);
+    drop(machine);
+    Some(refused? && done?)
 }
 
 #[test]
@@ -220,17 +224,24 @@ fn packages(machine: &mut PlainMachine) -> Option<usize> {
     }
 }
 
-/// Whether the listed calls fail, the program runs, and its package is there then.
-fn fails_as_listed(alloc: Global) -> Option<bool> {
-    let mut machine = machine(alloc, &[1], &[1], &[2])?;
+/// Whether the listed calls of a machine fail, the program runs, and its package is there then.
+fn fails_there(alloc: Global, machine: &mut PlainMachine) -> Option<bool> {
     let work = text(alloc, "/w")?;
     machine.open(&work).ok()?;
-    if packages(&mut machine).is_some() {
+    if packages(machine).is_some() {
         return Some(false);
     }
-    let runs = runs_twice(alloc, &mut machine)?;
-    let found = packages(&mut machine)?;
+    let runs = runs_twice(alloc, machine)?;
+    let found = packages(machine)?;
     Some(runs && found == 1 && machine.looked().len() == 1 && machine.acted().len() == 1)
+}
+
+/// The same of a machine whose first look and act and second poll are listed.
+fn fails_as_listed(alloc: Global) -> Option<bool> {
+    let mut machine = machine(alloc, &[1], &[1], &[2])?;
+    let fails = fails_there(alloc, &mut machine);
+    drop(machine);
+    fails
 }
 
 #[test]

@@ -3,13 +3,17 @@
 use crate::judged_worlds::WORLDS;
 use line_forms::read_name;
 use std::alloc::Global;
+use std::mem::drop;
 use std::test::Fail;
 use world_text::{WorldError, read_named_world, read_world, world_front};
 
 /// The number of the first bad line, 0 where there is none.
 fn bad_line(alloc: Global, text: &[u8]) -> u32 {
     match read_world(alloc, text) {
-        Ok(_) => 0,
+        Ok(world) => {
+            drop(world);
+            0
+        }
         Err(WorldError::BadLine(number)) => number,
         Err(WorldError::Memory) => u32::MAX,
     }
@@ -105,7 +109,10 @@ const LONGER: &[u8] = b"world\nname a\nsystem 1 x\noffset 0\nmoment 0\nend\nabov
 fn bad_name(alloc: Global, name: &str) -> Option<u32> {
     let name = read_name(name.as_bytes())?;
     match read_named_world(alloc, name, world_front(LONGER).world) {
-        Ok(_) => Some(0),
+        Ok(world) => {
+            drop(world);
+            Some(0)
+        }
         Err(WorldError::BadLine(number)) => Some(number),
         Err(WorldError::Memory) => None,
     }

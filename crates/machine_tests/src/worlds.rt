@@ -4,6 +4,7 @@ use bf_world::{Answer, Command, Key, PackageList, PackageRow, Reason, World, joi
 use desk_base::Bytes;
 use rel_lexer::Text;
 use std::alloc::Global;
+use std::mem::drop;
 use world_text::read_world;
 
 fn text(alloc: Global, text: &str) -> Option<Text> {
@@ -100,15 +101,20 @@ fn keys_commands_and_answers_are_copied(rt: HostRuntime) {
 /// Appends the content of the file at a path.
 fn write_content(alloc: Global, world: &World, path: &str, words: &mut String) -> Option<()> {
     let key = Key::Read(text(alloc, path)?);
-    match world.look(&key).ok()? {
-        Answer::Content(content) => {
-            for byte in content.as_slice() {
-                words.push(char::from(*byte)).ok()?;
-            }
-            Some(())
-        }
-        _ => None,
+    let answer = world.look(&key).ok()?;
+    let pushed = push_content(&answer, words);
+    drop(answer);
+    pushed
+}
+
+fn push_content(answer: &Answer, words: &mut String) -> Option<()> {
+    let Answer::Content(content) = answer else {
+        return None;
+    };
+    for byte in content.as_slice() {
+        words.push(char::from(*byte)).ok()?;
     }
+    Some(())
 }
 
 const WORLD: &[u8] = b"world
@@ -126,11 +132,10 @@ program 2 3 up
 end
 ";
 
-/// Whether a copy of that world has its moment, folder, package, process, setting and program; its name and its file are appended.
-fn is_copied(alloc: Global, words: &mut String) -> Option<bool> {
-    let world = read_world(alloc, WORLD).ok()?.copy().ok()?;
+/// Whether a world has that moment, folder, package, process, setting and program; its name and its file are appended.
+fn is_told(alloc: Global, world: &World, words: &mut String) -> Option<bool> {
     words.push_str(world.name().as_str()).ok()?;
-    write_content(alloc, &world, "/a/one", words)?;
+    write_content(alloc, world, "/a/one", words)?;
     Some(
         world.moment() == 1000
             && world.is_folder("/a")
@@ -139,6 +144,26 @@ fn is_copied(alloc: Global, words: &mut String) -> Option<bool> {
             && world.has_setting("s")
             && world.has_program("up"),
     )
+}
+
+/// The same of a copy of a world.
+fn is_copy_told(alloc: Global, world: &World, words: &mut String) -> Option<bool> {
+    let Ok(copy) = world.copy() else {
+        return None;
+    };
+    let told = is_told(alloc, &copy, words);
+    drop(copy);
+    told
+}
+
+/// The same of a copy of that world.
+fn is_copied(alloc: Global, words: &mut String) -> Option<bool> {
+    let Ok(world) = read_world(alloc, WORLD) else {
+        return None;
+    };
+    let told = is_copy_told(alloc, &world, words);
+    drop(world);
+    told
 }
 
 #[test]
