@@ -1,4 +1,4 @@
-ghost use Rattle.std.specs.Prelude.{◌≡◌, ◌≢◌, ◌+◌, ◌^◌, ◌<◌, ◌≤◌, [], ◌∷◌, ◌++◌, length, IfOk, OnOk, OnErr, IfSome, IsSomeAnd, IsSome, IsOk};
+ghost use Rattle.std.specs.Prelude.{◌≡◌, ◌+◌, ◌<◌, ◌≤◌, [], ◌∷◌, ◌++◌, length, IfOk, OnOk, OnErr, IfSome, IsSomeAnd, IsOk};
 ghost use Rattle.desk_base.specs.Moments.{IsMoment};
 ghost use Rattle.act_rules.specs.declared.row.Status.TheVariants.{Running};
 ghost use Rattle.act_rules.specs.Rows.{IsRows, HasMoments, HasEnded, HasRoom, last_row, with_last, status_of};

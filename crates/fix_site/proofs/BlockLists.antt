@@ -1,10 +1,8 @@
 -- The blocks of a site, taken one after another.
-use Rattle.std.proofs.Common.{ℕ, ◌≡◌, List, [], ◌∷◌, ◌++◌, sym, ap, subst, ◌∙◌, append_assoc, append-nil, None, Ok, Err}
+use Rattle.std.proofs.Common.{ℕ, ◌≡◌, List, [], ◌∷◌, ◌++◌, sym, ap, subst, ◌∙◌, append_assoc, append-nil, None, Ok}
 use Rattle.std.specs.Prelude.{flat_map}
 use Rattle.line_forms.specs.LineStates.{LineState}
 use Rattle.fix_site.specs.declared.block.Block.{Block}
-use Rattle.fix_site.specs.declared.error.SiteError.{SiteError}
-use Rattle.fix_site.specs.declared.error.SiteError.TheVariants as error
 use Rattle.fix_site.specs.Blocks.{AreBlocks, CanFollow, block_lines}
 use Rattle.fix_site.specs.Readings.{Passes, TakesBlock, TakesBlocks}
 use Rattle.fix_site.proofs.Parts.{Lines}

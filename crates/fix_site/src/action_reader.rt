@@ -1,9 +1,8 @@
-ghost use Rattle.std.specs.Prelude.{◌≡◌, ℕ, List, ◌∷◌, [], ◌++◌, map, IfOk, MatchOption, IsTrue, ◌↔◌, option_copied, OnOk};
+ghost use Rattle.std.specs.Prelude.{◌≡◌, ℕ, List, ◌∷◌, [], IfOk, MatchOption, option_copied};
 ghost use Rattle.line_forms.specs.Names.{IsName};
 ghost use Rattle.desk_base.specs.Moments.{IsMoment};
 ghost use Rattle.fix_site.specs.Ids.{IsId};
-ghost use Rattle.fix_site.specs.RuleLines.{IsRules, rules_lines};
-ghost use Rattle.fix_site.specs.Actions.{IsAction, action_lines, action_line, action_rest, issued_line, content_line, members_line, computer_line, state_line, end_line};
+ghost use Rattle.fix_site.specs.Actions.{IsAction, action_lines, action_line, action_rest, issued_line, content_line, computer_line};
 ghost use Rattle.fix_site.specs.Answers.{ReadsAction};
 ghost use Rattle.fix_site.specs.Readings.{ReadsPart, TakesOne, TakesAll, TakesTarget, Anywhere, IsActionOf, ReadsHead, IsEnd, end_lines, Passes, IsAny, choice_line};
 

@@ -1,7 +1,7 @@
-ghost use Rattle.std.specs.Prelude.{◌≡◌, ◌<◌, ◌+◌, ◌≤◌, ℕ, List, ◌++◌, length, IfOk, option_copied, MatchOption};
+ghost use Rattle.std.specs.Prelude.{◌<◌, ◌+◌, ℕ, ◌++◌, IfOk, option_copied};
 ghost use Rattle.line_forms.specs.Contents as held;
 ghost use Rattle.line_forms.specs.Fields.{field_text};
-ghost use Rattle.line_forms.specs.Names.{IsLineText, IsRest};
+ghost use Rattle.line_forms.specs.Names.{IsRest};
 ghost use Rattle.fix_site.specs.Ids.{IsId};
 ghost use Rattle.fix_site.specs.Contents.{IsSuccess, relevance_line, success_line, component_line, fixlet_rest, baseline_rest};
 ghost use Rattle.fix_site.specs.Readings.{ReadsPart, TakesOne, TakesAll, Anywhere, FitsScript, FitsRoom, IsFixletOf, IsBaselineOf, IsComponent};

@@ -2,7 +2,7 @@ ghost use Rattle.std.specs.Prelude.{◌≡◌, Bool, Some, ℕ, ℤ, List, lengt
 ghost use Rattle.line_forms.specs.Fields.{field_text};
 ghost use Rattle.line_forms.specs.FieldLists.{line_of};
 ghost use Rattle.fix_site.specs.RuleLines.{IsRules, IsHours, IsCount, IsWait, IsReapply, rules_lines, moment_field, hours_fields, hours_line, day_digit, days_line, retries_line, reapply_fields, reapply_line};
-ghost use Rattle.fix_site.specs.Readings.{Spells, IsAny, IsMaybeMoment, TakesOne, ReadsPart, Passes};
+ghost use Rattle.fix_site.specs.Readings.{Spells, IsMaybeMoment, TakesOne, ReadsPart, Passes};
 
 use crate::ahead::{is_word, rest_ahead, skip_line, take_exactly};
 use crate::field::{Counted, read_counted, read_pair};

@@ -1,4 +1,4 @@
-ghost use Rattle.std.specs.Prelude.{◌≡◌, ◌++◌, OnOk, map};
+ghost use Rattle.std.specs.Prelude.{◌≡◌, ◌++◌, OnOk};
 ghost use Rattle.line_forms.specs.FieldLists.{line_of};
 ghost use Rattle.line_forms.specs.Lines.{lines_text, ended_line};
 ghost use Rattle.fix_site.specs.RuleLines.{rules_lines, client_lines, moment_field, hours_line, day_digit, retries_line, reapply_line, days_line};

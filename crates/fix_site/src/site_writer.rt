@@ -1,5 +1,5 @@
-ghost use Rattle.std.specs.Prelude.{◌≡◌, ◌++◌, IfOk, OnOk, flat_map};
-ghost use Rattle.line_forms.specs.Lines.{lines_text, ended_line};
+ghost use Rattle.std.specs.Prelude.{◌≡◌, ◌++◌, IfOk, OnOk};
+ghost use Rattle.line_forms.specs.Lines.{lines_text};
 ghost use Rattle.fix_site.specs.Blocks.{block_lines};
 ghost use Rattle.fix_site.specs.Sites.{IsSite, body_lines, site_text};
 

@@ -9,7 +9,6 @@ use Rattle.rel_grammar.specs.Grammar.{Words, one_word, more_words, Cast, cast_on
 use Rattle.rel_grammar.specs.Spelling.{Mark, mark, words_marks, shapes_of}
 use Rattle.rel_grammar.specs.Trees.{Plain, cast, words_text, words_place, cast_head, cast_list, reference_tree}
 use Rattle.rel_grammar.specs.Machine.{OverUnary, OverReference, depth_unary, depth_reference, next_cast, begin_primary, next_word, begin_cast, next_cast_word, go}
-use Rattle.rel_grammar.specs.Answers.{place_of}
 use Rattle.rel_grammar.specs.Reads.{shaped_at, Lacks, Begins, WordsRead, BeginsWord, CastReads, LacksCast, CastsRead, CastsEnd, CastsGoOn, CastsFail}
 use Rattle.rel_grammar.specs.declared.casts.CastTo.{CastTo}
 use Rattle.rel_grammar.specs.Shapes.{word_spelling}

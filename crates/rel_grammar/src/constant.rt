@@ -1,5 +1,5 @@
 // Values of one token.
-ghost use Rattle.std.specs.Prelude.{◌≡◌, IfOk, MatchOption};
+ghost use Rattle.std.specs.Prelude.{IfOk, MatchOption};
 ghost use Rattle.rel_grammar.specs.Reads.{ConstantReads, LacksConstant, LacksSingle, SingleReads};
 ghost use Rattle.rel_grammar.specs.Shapes.{all_shaped};
 ghost use Rattle.rel_grammar.specs.Views.{shown};

@@ -1,7 +1,6 @@
 // The operators of a chain, and those before one operand.
-ghost use Rattle.std.specs.Prelude.{◌≡◌, MatchOption};
-ghost use Rattle.rel_grammar.specs.Grammar.{ProductSign, SumSign};
-ghost use Rattle.rel_grammar.specs.Reads.{Begins, Lacks, LacksSign, LacksUnary, SplitsSign, SplitsUnary, fixed_kind};
+ghost use Rattle.std.specs.Prelude.{MatchOption};
+ghost use Rattle.rel_grammar.specs.Reads.{LacksSign, LacksUnary, SplitsSign, SplitsUnary};
 ghost use Rattle.rel_grammar.specs.Shapes.{all_shaped};
 ghost use Rattle.rel_grammar.specs.declared.level.Level.TheVariants.{Product, Sum};
 

@@ -1,6 +1,6 @@
 // Reads a question by going down the grammar. Each function reads the part that the tokens begin with, around which
 // there are so many brackets, signs, objects and `if`s.
-ghost use Rattle.std.specs.Prelude.{◌≡◌, ◌≤◌, ◌∷◌, MatchResult};
+ghost use Rattle.std.specs.Prelude.{◌≤◌, ◌∷◌, MatchResult};
 ghost use Rattle.rel_grammar.specs.Reads.{ChainFails, ChainReads, ChoiceFails, ChoiceReads, CollectionFails, CollectionReads, PartFails, PartReads, TupleFails, TupleReads, UpToFails, UpToReads, shaped_at};
 ghost use Rattle.rel_grammar.specs.Shapes.{all_shaped, is_is, reserved, shaped_after};
 ghost use Rattle.rel_grammar.specs.Views.{shown};

@@ -1,5 +1,4 @@
 ghost use Rattle.std.specs.Prelude.{◌≡◌, IfOk};
-ghost use Rattle.desk_base.specs.Moments.{IsMoment};
 ghost use Rattle.hex.specs.Hex.{encode_lower};
 ghost use Rattle.rel_sources.specs.Traces.{once, text_item};
 ghost use Rattle.rel_sources.specs.Draws.{item_in, IsSoundItem, values_in};

@@ -7,7 +7,7 @@ ghost use Rattle.bf_world.specs.Answers.{IsGoodAnswer};
 ghost use Rattle.bf_world.specs.Shown.{shown};
 ghost use Rattle.bf_world.specs.Worlds.{WorldState};
 ghost use Rattle.rel_sources.specs.declared.event.WalkEvent.TheVariants as event;
-ghost use Rattle.rel_sources.specs.Traces.{Trace, After, Look};
+ghost use Rattle.rel_sources.specs.Traces.{After, Look};
 ghost use Rattle.rel_sources.specs.Steps.{Moves, Goes, Steps, HasCause, StepHasCause, AsRoom, Falls, GivesSound, StepGivesSound};
 ghost use Rattle.rel_inspect.specs.Left.{state_left, left, state_values, values_ahead, asked, IsSoundState, IsSoundWalk};
 

@@ -13,7 +13,7 @@ use Rattle.rel_value.specs.Signs.{op, negated}
 use Rattle.rel_types.specs.declared.cast_steps.CastStep.{CastStep}
 use Rattle.rel_types.specs.declared.head.Head.TheVariants as head
 use Rattle.rel_types.specs.Plans as plan
-use Rattle.rel_types.specs.Plans.{PlainNode, node, is_plural, PlainForm, numeral, literal, it, phrase, body, cast, unary, chain, conditional, collection, HeldNode, no_node, a_node, held_kind, LinkedNodes, no_links, more_links, Nodes, no_nodes, more_nodes, first_kind, node_kinds, tuple_kind, any_plural}
+use Rattle.rel_types.specs.Plans.{PlainNode, node, is_plural, PlainForm, numeral, literal, it, phrase, body, cast, unary, chain, conditional, collection, HeldNode, no_node, a_node, held_kind, LinkedNodes, no_links, more_links, Nodes, no_nodes, more_nodes, node_kinds, tuple_kind, any_plural}
 use Rattle.rel_types.specs.Signs.{unary_kind}
 use Rattle.rel_types.specs.Typing.{it_inside}
 use Rattle.rel_types.specs.Agreement.{CastsAgree, SignAgrees, AreOf, Agrees, FormAgrees, ObjectAgrees, LinksAgree, NodesAgree}

@@ -1,5 +1,5 @@
 // What the rows of the tables of names promise.
-ghost use Rattle.std.specs.Prelude.{◌≡◌, ℤ, All, Option, Some};
+ghost use Rattle.std.specs.Prelude.{◌≡◌, ℤ, All, Some};
 ghost use Rattle.rel_lexer.specs.declared.place.Place.{Place};
 ghost use Rattle.bf_world.specs.Worlds.{WorldState};
 ghost use Rattle.rel_value.specs.declared.property.PropertyId.TheVariants.{Item};

@@ -1,6 +1,6 @@
 // Single bytes of a question, and runs of them.
-ghost use Rattle.std.specs.Prelude.{◌≡◌, ◌∷◌, ℕ, Bool, MatchOption};
-ghost use Rattle.rel_lexer.specs.Bytes.{NotNext, begins_word, is_blank, is_in_word};
+ghost use Rattle.std.specs.Prelude.{◌≡◌, ◌∷◌, MatchOption};
+ghost use Rattle.rel_lexer.specs.Bytes.{NotNext, begins_word, is_blank};
 ghost use Rattle.rel_lexer.specs.Runs.{passes};
 ghost use Rattle.rel_lexer.specs.Reads.{SplitsRun};
 

@@ -1,4 +1,4 @@
-ghost use Rattle.std.specs.Prelude.{◌≡◌, ℕ, map, IfOk, IsAscii};
+ghost use Rattle.std.specs.Prelude.{◌≡◌, ℕ, map, IfOk};
 ghost use Rattle.std.specs.Char.{to_ascii_lowercase};
 ghost use Rattle.rel_lexer.specs.Bytes.{begins_word, is_in_word};
 ghost use Rattle.rel_lexer.specs.Pieces.{Each};

@@ -15,7 +15,7 @@ use Rattle.rel_lexer.specs.Bytes.{begins_word, is_in_word, number_of}
 use Rattle.rel_lexer.specs.Signs.{IsWhole}
 use Rattle.rel_lexer.specs.Pieces.{Piece, Each, Lexes, Stands}
 use Rattle.rel_lexer.specs.Pieces as piece
-use Rattle.rel_lexer.specs.Tokens.{IsGood, tokens_of, token_at, place_of, AreTokens}
+use Rattle.rel_lexer.specs.Tokens.{IsGood, tokens_of, token_at, place_of}
 use Rattle.rel_lexer.specs.Tokens as tokens
 use Rattle.rel_grammar.specs.declared.vocabulary.Reserved.{Reserved}
 use Rattle.rel_grammar.specs.declared.vocabulary.Reserved.TheVariants as the

@@ -12,7 +12,7 @@ use Rattle.rel_grammar.specs.declared.vocabulary.Helper.TheVariants as aid
 use Rattle.rel_grammar.specs.declared.casts.CastTo.{CastTo}
 use Rattle.rel_print.specs.declared.pen.Pen.{Pen}
 use Rattle.rel_grammar.specs.Shapes.{sign, number, string, word_spelling}
-use Rattle.rel_grammar.specs.Grammar.{Words, one_word, more_words, Comparison, equals, differs, below, at_most, above, at_least, Relop, compares, is_alone, is_not, is_contained_by, is_not_contained_by, contains, starts_with, ends_with, does_not_contain, does_not_start_with, does_not_end_with, SumSign, plus, minus, ProductSign, times, over, modulo, Collection, collection_one, collection_more, Tuple, tuple_one, tuple_more, Choice, if_then, no_if, Bar, bar_one, bar_more, Either, either_one, either_more, Both, both_one, both_more, Relation, no_relop, relates, Sum, sum_one, sum_more, Product, product_one, product_more, Unary, signed, no_sign, Cast, cast_one, cast_more, Reference, no_object, of_object, Term, no_filter, filtered, Primary, a_number, a_string, an_it, brackets, some_words, with_argument, Argument, argument_number, argument_string, argument_brackets}
+use Rattle.rel_grammar.specs.Grammar.{Words, one_word, more_words, equals, differs, below, at_most, above, at_least, Relop, compares, is_alone, is_not, is_contained_by, is_not_contained_by, contains, starts_with, ends_with, does_not_contain, does_not_start_with, does_not_end_with, SumSign, plus, minus, ProductSign, times, over, modulo, Collection, collection_one, collection_more, Tuple, tuple_one, tuple_more, Choice, if_then, no_if, Bar, bar_one, bar_more, Either, either_one, either_more, Both, both_one, both_more, Relation, no_relop, relates, Sum, sum_one, sum_more, Product, product_one, product_more, Unary, signed, no_sign, Cast, cast_one, cast_more, Reference, no_object, of_object, Term, no_filter, filtered, Primary, a_number, a_string, an_it, brackets, some_words, with_argument, Argument, argument_number, argument_string, argument_brackets}
 use Rattle.rel_grammar.specs.Grammar as grammar
 use Rattle.rel_grammar.specs.Spelling.{Mark, mark, sum_kind, product_kind, unary_kind, words_marks, relop_marks, collection_marks, tuple_marks, choice_marks, bar_marks, either_marks, both_marks, relation_marks, sum_marks, product_marks, unary_marks, cast_marks, reference_marks, term_marks, primary_marks, argument_marks, shapes_of}
 use Rattle.rel_grammar.specs.Trees.{Plain, numeral, literal, it, phrase, body, cast, unary, chain, conditional, tuple, collection, no_tree, a_tree, Linked, no_links, more_links, Parts, no_parts, more_parts, with_filter, with_object, enclosed, words_text, words_place, sum_operator, product_operator, relop_sign, collection_tree, collection_parts, tuple_tree, tuple_parts, choice_tree, bar_tree, bar_head, bar_links, either_tree, either_head, either_links, both_tree, both_head, both_links, relation_tree, sum_tree, sum_head, sum_links, product_tree, product_head, product_links, unary_tree, cast_tree, cast_head, cast_list, reference_tree, term_tree, primary_tree, argument_tree}

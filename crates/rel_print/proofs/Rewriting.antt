@@ -2,7 +2,6 @@
 use Rattle.std.proofs.Common.{◌≡◌, ℕ, ℤ, ◌+◌, ◌≤◌, pos, List, [], ◌∷◌, ◌++◌, length, map, refl, sym, ap, ◌∙◌, subst, append_assoc, IsUtf8, arith}
 use Rattle.std.proofs.lemmas.List.{map-append}
 use Rattle.std.specs.List.{AllByRecursion}
-use Rattle.std.specs.Char.{to_ascii_lowercase}
 use Rattle.rel_lexer.specs.declared.place.Place.{Place}
 use Rattle.rel_lexer.specs.declared.sign.Sign.TheVariants as lex
 use Rattle.rel_lexer.specs.declared.token.TokenKind.TheVariants as lexed

@@ -1,5 +1,5 @@
 // What is said of a question.
-ghost use Rattle.std.specs.Prelude.{◌≡◌, ◌++◌, ◌<◌, List, ℕ, OnOk};
+ghost use Rattle.std.specs.Prelude.{◌≡◌, ◌++◌, ◌<◌, OnOk};
 ghost use Rattle.rel_session.specs.Errors.{undefined_text};
 ghost use Rattle.rel_session.specs.Printed.{hex_digit, printed, printed_byte, said_error, said_fault, said_more, said_no_command, said_nothing_paused, said_place, said_question, said_undefined, said_value};
 

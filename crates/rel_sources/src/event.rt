@@ -1,5 +1,3 @@
-ghost use Rattle.std.specs.Prelude.{◌≡◌, ℕ};
-ghost use Rattle.rel_sources.specs.Traces.{Trace};
 ghost use Rattle.rel_sources.specs.Steps.{IsStep, AsStep};
 
 use rel_value::Value;

@@ -1,5 +1,4 @@
-ghost use Rattle.std.specs.Prelude.{All};
-ghost use Rattle.rel_sources.specs.Draws.{Draws, IsSoundItem};
+ghost use Rattle.rel_sources.specs.Draws.{Draws};
 ghost use Rattle.rel_sources.specs.Sources.{items_in};
 
 use crate::entries::Entries;

@@ -1,4 +1,4 @@
-ghost use Rattle.std.specs.Prelude.{◌≡◌, pos, IfOk};
+ghost use Rattle.std.specs.Prelude.{◌≡◌, IfOk};
 ghost use Rattle.rel_value.specs.Operands.{IsSound};
 ghost use Rattle.rel_value.specs.Plain.{boolean, integer, interval};
 ghost use Rattle.rel_value.specs.Views.{shown};

@@ -1,8 +1,7 @@
 -- The calendar of whole years and months is the library's.
-use Rattle.std.proofs.Common.{◌≡◌, ℕ, zero, suc, ◌+◌, ◌-◌, ◌*◌, ◌/◌, ◌%◌, ◌<◌, ◌≤◌, ◌==◌, ◌↔◌, ℤ, pos, negsuc, neg_ℤ, ◌+ℤ◌, ◌-ℤ◌, ◌*ℤ◌, int_div, ◌≤ℤ◌, Bool, true, false, ◌||◌, cond, nat_lt, List, [], ◌∷◌, length, Option, Some, None, Result, Ok, Err, IsOk, IfOk, refl, sym, ap, subst, ◌∙◌, arith, Decides, w8, w16, to_z, of_z, unsigned_abs}
+use Rattle.std.proofs.Common.{◌≡◌, ℕ, zero, suc, ◌+◌, ◌-◌, ◌*◌, ◌/◌, ◌<◌, ◌≤◌, ◌==◌, ◌↔◌, ℤ, pos, negsuc, ◌+ℤ◌, ◌-ℤ◌, ◌*ℤ◌, int_div, ◌≤ℤ◌, Bool, true, false, ◌||◌, cond, nat_lt, List, [], ◌∷◌, Some, Result, Ok, Err, IsOk, IfOk, refl, sym, ap, subst, ◌∙◌, arith}
 use Rattle.std.specs.Result.{result_unwrap_or, result_ok}
 use Rattle.std.proofs.lemmas.Bool.Decides.{Decides-ltb, nat_tests}
-use Rattle.std.proofs.lemmas.Int.{to_z_pos}
 use Rattle.jiff.specs.Words.{days_in_month, epoch_day, IsDate, IsEpochDay, IsYmd, IsOnly, CanAddToDate, date_add}
 use Rattle.jiff_core.specs.declared.span.Span.{Span}
 use Rattle.jiff_core.specs.declared.unit.Unit.TheVariants.{Day}

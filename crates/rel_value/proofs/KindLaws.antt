@@ -1,12 +1,11 @@
 -- Rows and their kinds.
-use Rattle.std.proofs.Common.{◌≡◌, ℕ, zero, suc, ℤ, pos, negsuc, ◌+ℤ◌, ◌-ℤ◌, ◌*ℤ◌, int_div, int_rem, Bool, true, false, ◌&&◌, ◌||◌, not, cond, List, ◌++◌, length, nat_le, Option, Some, None, refl, sym, ap, subst}
+use Rattle.std.proofs.Common.{◌≡◌, ℕ, zero, suc, ℤ, pos, negsuc, ◌+ℤ◌, ◌-ℤ◌, ◌*ℤ◌, int_div, int_rem, Bool, true, false, ◌&&◌, ◌||◌, not, cond, List, ◌++◌, length, nat_le, Option, Some, None, refl, sym, subst}
 use Rattle.rel_lexer.specs.declared.operator.BinarySign.{BinarySign}
 use Rattle.rel_lexer.specs.declared.operator.BinarySign.TheVariants as sign
 use Rattle.rel_value.specs.declared.fault.ValueFault.{ValueFault}
 use Rattle.rel_value.specs.declared.fault.ValueFault.TheVariants.{OutOfRange, TextTooLong}
-use Rattle.rel_value.specs.declared.compare.Comparison.{Comparison}
-use Rattle.rel_value.specs.Plain.{Plain, boolean, integer, words, part, time, interval, version, file, folder, client, setting, process, a_package, system, action, tuple, PlainKind, booleans, integers, texts, times, intervals, kind_of}
-use Rattle.rel_value.specs.Outcomes.{Outcome, gives, fails, no_row, whole, span, moment, bounded, fits_i64, is_moment}
+use Rattle.rel_value.specs.Plain.{Plain, boolean, integer, words, part, time, interval, version, PlainKind, booleans, integers, texts, times, intervals, kind_of}
+use Rattle.rel_value.specs.Outcomes.{Outcome, gives, fails, no_row, whole, span, moment, fits_i64, is_moment}
 use Rattle.rel_value.specs.Operands.{Stance, truth, number, bytes, instant, seconds, numbers, other, stance}
 use Rattle.rel_value.specs.Versions.{version_of, version_cmp}
 use Rattle.rel_value.specs.Kinds.{Sort, truths, whole_numbers, words_or_parts, instants, spans, number_lists, others, sort_of, sum_kind, difference_kind, product_kind, quotient_kind, remainder_kind, joined_kind, order_kind, equality_kind, relation_kind, combined_kind, row_kind, binary_kind, IsOfKind}

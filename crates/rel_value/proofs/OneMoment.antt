@@ -1,16 +1,15 @@
 -- A text is the time text of one moment at most.
-use Rattle.std.proofs.Common.{◌≡◌, ℕ, zero, suc, ◌+◌, ◌*◌, ◌/◌, ◌%◌, ◌<◌, ◌≤◌, ℤ, pos, negsuc, ◌+ℤ◌, ◌*ℤ◌, Bool, true, false, cond, nat_eq, List, [], ◌∷◌, Option, Some, None, ◌↔◌, refl, sym, ap, subst, ◌∙◌, arith, unsigned_abs, codes}
+use Rattle.std.proofs.Common.{◌≡◌, ℕ, zero, suc, ◌/◌, ◌%◌, ◌≤◌, ℤ, pos, negsuc, cond, nat_eq, List, Some, ◌↔◌, refl, sym, ap, ◌∙◌, arith, unsigned_abs, codes}
 use Rattle.std.proofs.lemmas.Int.{ints}
 use Rattle.std.specs.Cmp.Lexicographic.{pointwise}
 use Rattle.std.specs.Int.{is_negative}
 use Rattle.desk_base.specs.Moments.{IsMoment}
 use Rattle.line_forms.specs.Numbers.{IsOffset}
-use Rattle.rel_value.specs.declared.calendar.CivilDate.{CivilDate}
 use Rattle.rel_value.specs.Calendar.{date_after}
 use Rattle.rel_value.specs.Spellings.{month_name, shown_seconds, time_text}
 use Rattle.rel_value.specs.TimesRead.{time_of}
 use Rattle.rel_value.proofs.Calendars.{date-bounded, dates-same, days-one}
-use Rattle.rel_value.proofs.TimeReads.{Laid, laid, shown-is, shown-small, clock-back, year-back, size-back, number_at, not-negative, Shows, read-some, read-from}
+use Rattle.rel_value.proofs.TimeReads.{laid, shown-is, shown-small, clock-back, year-back, size-back, not-negative, Shows, read-some, read-from}
 
 abbrev index : List ℕ → ℕ
 index l =

@@ -2,7 +2,7 @@
 use Rattle.std.proofs.Common.{◌≡◌, ℕ, ◌+◌, ◌<◌, ℤ, List, [], ◌∷◌, ◌++◌, length, take, get_or, map, refl, sym, ap, ◌∙◌}
 use Rattle.std.proofs.lemmas.List.{map-append, take_more}
 use Rattle.rel_value.specs.declared.value.Value.{Value}
-use Rattle.rel_value.specs.declared.value.Value.TheVariants.{Integer, Tuple, rolls-Integer, rolls-Tuple}
+use Rattle.rel_value.specs.declared.value.Value.TheVariants.{Integer, rolls-Integer}
 use Rattle.rel_value.specs.declared.value.Values.{Values, roll-Values, out-Values}
 use Rattle.rel_value.specs.declared.value.Value.TheOpen.{Values-F}
 use Rattle.rel_value.specs.declared.value.Value.TheOpen as layer
@@ -11,7 +11,7 @@ use Rattle.rel_value.specs.declared.kind.Kind.{Kind}
 use Rattle.rel_value.specs.declared.kind.Kinds.{Kinds, roll-Kinds, out-Kinds}
 use Rattle.rel_value.specs.declared.kind.Kind.TheOpen.{Kinds-F}
 use Rattle.rel_value.specs.declared.kind.Kind.TheFolds.{fold-roll-Kinds, fold_out-Kinds}
-use Rattle.rel_value.specs.Plain.{Plain, integer, Parts, no_parts, more_parts, tuple, PlainKind, PlainKinds, no_kinds, more_kinds}
+use Rattle.rel_value.specs.Plain.{Plain, integer, Parts, no_parts, more_parts, PlainKind, PlainKinds, no_kinds, more_kinds}
 use Rattle.rel_value.specs.Views.{value_step, values_step, shown, shown_parts, parted, kind_step, kinds_step, shown_kind, shown_kinds, kinded}
 
 pub shown-Integer : (z : ℤ) → shown (Integer z) ≡ integer z

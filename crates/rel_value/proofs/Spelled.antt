@@ -1,5 +1,5 @@
 -- Times as they are written.
-use Rattle.std.proofs.Common.{◌≡◌, ℕ, ◌/◌, ◌%◌, ℤ, List, [], ◌∷◌, ◌++◌, refl, sym, ap, ◌∙◌, append_assoc}
+use Rattle.std.proofs.Common.{◌≡◌, ℕ, ◌/◌, ◌%◌, ℤ, List, [], ◌∷◌, ◌++◌, ap, ◌∙◌, append_assoc}
 use Rattle.rel_value.specs.declared.calendar.CivilDate.{CivilDate}
 use Rattle.rel_value.specs.Calendar.{date_after}
 use Rattle.rel_value.specs.Spellings.{weekday, date_text, clock, offset_text, shown_seconds, time_text}

@@ -1,15 +1,14 @@
 -- Times as they are read.
-use Rattle.std.proofs.Common.{◌≡◌, ◌≢◌, ℕ, zero, suc, ◌+◌, ◌-◌, ◌*◌, ◌/◌, ◌%◌, ◌^◌, ◌<◌, ◌≤◌, ◌==◌, ℤ, pos, negsuc, ◌+ℤ◌, ◌-ℤ◌, ◌*ℤ◌, ◌≤ℤ◌, Bool, true, false, ◌||◌, cond, nat_eq, List, [], ◌∷◌, ◌++◌, length, get_or, Option, Some, None, ◌↔◌, refl, sym, ap, subst, ◌∙◌, ◌⊎◌, inl, inr, arith, Decides, unsigned_abs, to_z, of_z, w64, FitsSigned, not}
+use Rattle.std.proofs.Common.{◌≡◌, ℕ, zero, suc, ◌+◌, ◌-◌, ◌*◌, ◌/◌, ◌%◌, ◌^◌, ◌<◌, ◌≤◌, ◌==◌, ℤ, pos, negsuc, ◌+ℤ◌, ◌-ℤ◌, ◌*ℤ◌, Bool, true, false, ◌||◌, cond, nat_eq, List, [], ◌∷◌, ◌++◌, length, get_or, Option, Some, None, refl, sym, ap, subst, ◌∙◌, ◌⊎◌, inl, inr, arith, unsigned_abs, to_z, of_z, w64, FitsSigned, not}
 use Rattle.std.proofs.lemmas.Bool.Decides.{nat_tests}
 use Rattle.std.proofs.lemmas.Int.{ints}
 use Rattle.std.specs.Cmp.Lexicographic.{pointwise, bytes_decides}
 use Rattle.std.specs.Int.{is_negative}
 use Rattle.desk_base.specs.Moments.{IsMoment}
 use Rattle.line_forms.specs.Numbers.{IsOffset}
-use Rattle.rel_value.specs.declared.calendar.CivilDate.{CivilDate}
 use Rattle.rel_value.specs.Calendar.{date_after}
 use Rattle.rel_value.proofs.Calendars.{date-bounded}
-use Rattle.rel_value.specs.Spellings.{two, weekday, month_name, date_text, clock, offset_text, shown_seconds, time_text}
+use Rattle.rel_value.specs.Spellings.{two, weekday, month_name, clock, offset_text, shown_seconds, time_text}
 use Rattle.rel_value.specs.declared.time_read.Shown.{Shown}
 use Rattle.rel_value.specs.TimesRead.{is_time_text, time_below, time_of}
 

@@ -1,13 +1,11 @@
 -- Versions as they are read and compared.
-use Rattle.std.proofs.Common.{◌≡◌, ℕ, ◌-◌, ◌^◌, ◌<◌, ◌≤◌, Bool, true, false, ◌&&◌, nat_lt, nat_le, cond, List, [], ◌∷◌, ◌++◌, length, map, take, drop, replicate, zero, suc, All, Option, Some, None, refl, sym, ap, ◌∙◌, arith, Decides}
-use Rattle.std.specs.Char.{is_ascii_digit, digit_value}
-use Rattle.std.specs.List.{list_all, AllPass}
-use Rattle.std.specs.Str.Parse.{AllDigits, digits_value}
-use Rattle.std.proofs.lemmas.Bool.Decides.{Decides-and, Decides-ltb, Decides-by_and, Decides-like, nat_tests}
+use Rattle.std.proofs.Common.{◌≡◌, ℕ, ◌-◌, ◌^◌, ◌<◌, ◌≤◌, Bool, true, false, ◌&&◌, nat_le, cond, List, [], ◌∷◌, length, map, take, drop, replicate, zero, suc, All, Some, None, refl, sym, ap, arith, Decides}
+use Rattle.std.specs.List.{list_all}
+use Rattle.std.specs.Str.Parse.{digits_value}
+use Rattle.std.proofs.lemmas.Bool.Decides.{Decides-and, Decides-ltb, Decides-by_and, nat_tests}
 use Rattle.line_forms.specs.Cuts.{pieces}
-use Rattle.line_forms.specs.Reads.{Reads}
 use Rattle.line_forms.specs.Versions.{IsVersionNumber, IsVersionOf}
-use Rattle.line_forms.proofs.VersionLemmas.{ByPieces, pieces-version, version-pieces}
+use Rattle.line_forms.proofs.VersionLemmas.{pieces-version, version-pieces}
 use Rattle.rel_value.specs.Versions.{is_version_number, version_of, four}
 use Rattle.rel_value.proofs.Digits.{Decides-digits}
 

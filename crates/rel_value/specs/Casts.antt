@@ -1,5 +1,5 @@
 -- The casts: what each gives for its operand.
-use Rattle.std.specs.Prelude.{ℕ, ◌==◌, ℤ, pos, neg_ℤ, Bool, true, false, ◌&&◌, ◌||◌, nat_lt, nat_eq, if◌then◌else◌, List, [], ◌∷◌, ◌++◌, length, map, Option, Some, None, codes}
+use Rattle.std.specs.Prelude.{ℕ, ◌==◌, ℤ, pos, neg_ℤ, Bool, true, false, ◌&&◌, ◌||◌, nat_lt, nat_eq, if◌then◌else◌, List, [], ◌∷◌, length, map, Option, Some, None, codes}
 use Rattle.std.specs.Char.{is_ascii_digit, to_ascii_lowercase, to_ascii_uppercase}
 use Rattle.std.specs.List.{list_all}
 use Rattle.std.specs.Str.Parse.{digits_value}
@@ -9,7 +9,7 @@ use Rattle.rel_value.specs.declared.cast_name.Cast.TheVariants as to
 use Rattle.rel_value.specs.declared.fault.ValueFault.TheVariants.{Absent}
 use Rattle.rel_value.specs.Plain.{Plain, boolean, integer, time, version}
 use Rattle.rel_value.specs.Outcomes.{Outcome, gives, fails, no_row, fits_i64, bounded}
-use Rattle.rel_value.specs.Operands.{Stance, truth, number, bytes, instant, seconds, numbers, other, stance}
+use Rattle.rel_value.specs.Operands.{Stance, number, bytes, numbers, stance}
 use Rattle.rel_value.specs.Versions.{version_of}
 use Rattle.rel_value.specs.Texts.{text_of}
 use Rattle.rel_value.specs.TimesRead.{time_of}

@@ -4,7 +4,7 @@ use Rattle.rel_lexer.specs.declared.operator.BinarySign.{BinarySign}
 use Rattle.rel_lexer.specs.declared.operator.BinarySign.TheVariants as sign
 use Rattle.rel_value.specs.declared.cast_name.Cast.{Cast}
 use Rattle.rel_value.specs.declared.cast_name.Cast.TheVariants as to
-use Rattle.rel_value.specs.Plain.{Plain, PlainKind, booleans, integers, texts, text_parts, times, intervals, versions, kind_of}
+use Rattle.rel_value.specs.Plain.{PlainKind, booleans, integers, texts, text_parts, times, intervals, versions, kind_of}
 use Rattle.rel_value.specs.Outcomes.{Outcome, gives, fails, no_row}
 
 -- the kinds that signs and most casts tell apart

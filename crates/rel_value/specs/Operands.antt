@@ -1,5 +1,5 @@
 -- What a value stands for beside a sign or before a cast. A part stands for its own bytes.
-use Rattle.std.specs.Prelude.{◌≡◌, ℕ, ◌-◌, ◌≤◌, ℤ, Bool, List, length, take, drop}
+use Rattle.std.specs.Prelude.{ℕ, ◌-◌, ◌≤◌, ℤ, Bool, List, length, take, drop}
 use Rattle.std.specs.Str.{IsCharBoundary}
 use Rattle.desk_base.specs.Moments.{IsMoment}
 use Rattle.rel_value.specs.declared.operand.Operand.{Operand}

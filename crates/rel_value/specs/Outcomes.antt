@@ -3,7 +3,7 @@ use Rattle.std.specs.Prelude.{◌≡◌, ℕ, ◌<◌, ◌≤◌, ◌^◌, ℤ, 
 use Rattle.std.specs.declared.result.Result.{Result}
 use Rattle.std.specs.declared.result.Result.TheVariants.{Ok, Err}
 use Rattle.rel_value.specs.declared.fault.ValueFault.{ValueFault}
-use Rattle.rel_value.specs.declared.fault.ValueFault.TheVariants.{DivideByZero, OutOfRange, Absent, TextTooLong, Memory}
+use Rattle.rel_value.specs.declared.fault.ValueFault.TheVariants.{OutOfRange, TextTooLong, Memory}
 use Rattle.rel_value.specs.declared.value.Value.{Value}
 use Rattle.rel_value.specs.Plain.{Plain, integer, interval, time, words}
 use Rattle.rel_value.specs.Views.{shown}

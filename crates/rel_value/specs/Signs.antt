@@ -9,9 +9,9 @@ use Rattle.rel_lexer.specs.declared.operator.BinarySign.TheVariants as sign
 use Rattle.rel_value.specs.declared.fault.ValueFault.TheVariants.{DivideByZero, Absent}
 use Rattle.rel_value.specs.declared.compare.Comparison.{Comparison}
 use Rattle.rel_value.specs.declared.compare.Comparison.TheVariants.{Ordered, Same, Malformed, Unrelated}
-use Rattle.rel_value.specs.Plain.{Plain, boolean, integer}
+use Rattle.rel_value.specs.Plain.{Plain, boolean}
 use Rattle.rel_value.specs.Outcomes.{Outcome, gives, fails, no_row, whole, span, moment, bounded}
-use Rattle.rel_value.specs.Operands.{Stance, truth, number, bytes, instant, seconds, numbers, other, stance}
+use Rattle.rel_value.specs.Operands.{Stance, truth, number, bytes, instant, seconds, numbers, stance}
 use Rattle.rel_value.specs.Versions.{version_of, version_cmp}
 
 -- `+`

@@ -1,5 +1,5 @@
 -- The text of each kind of value, at an offset in minutes east of UTC.
-use Rattle.std.specs.Prelude.{ℕ, ℤ, Bool, false, true, if◌then◌else◌, List, [], ◌∷◌, ◌++◌, map, codes}
+use Rattle.std.specs.Prelude.{ℕ, ℤ, if◌then◌else◌, List, [], ◌∷◌, ◌++◌, map, codes}
 use Rattle.std.specs.Fmt.{decimal, signed_decimal}
 use Rattle.std.specs.List.{join_with_byte}
 use Rattle.rel_value.specs.Plain.{Plain, boolean, integer, words, part, time, interval, version, file, folder, client, setting, process, a_package, system, action, tuple, Parts, no_parts, more_parts}

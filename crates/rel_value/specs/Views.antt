@@ -1,5 +1,5 @@
 -- What a value and a kind of the code show.
-use Rattle.std.specs.Prelude.{ℕ, List, [], ◌∷◌}
+use Rattle.std.specs.Prelude.{List, [], ◌∷◌}
 use Rattle.rel_value.specs.declared.value.Value.{Value}
 use Rattle.rel_value.specs.declared.value.Values.{Values, out-Values}
 use Rattle.rel_value.specs.declared.value.Value.TheOpen.{Value-F, Boolean, Integer, Text, Part, Time, Interval, Version, File, Folder, Client, Setting, Process, Package, System, Action, Tuple, Values-F}

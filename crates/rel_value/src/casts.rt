@@ -5,7 +5,7 @@ ghost use Rattle.line_forms.specs.Numbers.{IsOffset};
 ghost use Rattle.rel_value.specs.Casts.{as_boolean, as_integer, as_text, as_time, as_version, behind_minus, boolean_read, cast, integer_read, is_numeral, signed_of, without_back, without_front};
 ghost use Rattle.rel_value.specs.Kinds.{cast_kind};
 ghost use Rattle.rel_value.specs.Plain.{kind_of};
-ghost use Rattle.rel_value.specs.Operands.{IsSound, stance, taken};
+ghost use Rattle.rel_value.specs.Operands.{IsSound, taken};
 ghost use Rattle.rel_value.specs.Outcomes.{Answers};
 ghost use Rattle.rel_value.specs.Views.{shown};
 

@@ -1,5 +1,4 @@
 ghost use Rattle.std.specs.Prelude.{◌≡◌, ◌++◌, ◌<◌, OnOk, unsigned_abs};
-ghost use Rattle.std.specs.Fmt.{decimal};
 ghost use Rattle.rel_value.specs.Spellings.{clock, days_text, interval_text, two};
 
 use itoa::{Buffer, Integer};

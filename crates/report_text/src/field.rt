@@ -1,6 +1,6 @@
-ghost use Rattle.std.specs.Prelude.{◌≡◌, ℕ, ℤ, Option, decimal, codes, MatchOption, IfSome, IsTrue, ◌↔◌};
+ghost use Rattle.std.specs.Prelude.{◌≡◌, Option, decimal, codes, IfSome, IsTrue, ◌↔◌};
 ghost use Rattle.act_rules.specs.declared.row.Outcome.{Outcome};
-ghost use Rattle.report_text.specs.ReportRows.{IsAttempt, IsExit, IsPlace};
+ghost use Rattle.report_text.specs.ReportRows.{IsAttempt, IsExit};
 ghost use Rattle.report_text.specs.RowLines.{outcome_word, exit_field};
 ghost use Rattle.line_forms.specs.Readers.{Spells, IsAny};
 ghost use Rattle.report_text.specs.FieldTexts.{ReadsEnd, ReadsPlace};

@@ -1,14 +1,13 @@
 -- The line of a script's error is one of the script's.
-use Rattle.std.proofs.Common.{◌≡◌, ◌≢◌, ℕ, suc, ◌+◌, ◌-◌, ◌<◌, ◌≤◌, List, [], ◌∷◌, ◌++◌, length, Option, Some, None, Err, inl, inr, refl, sym, subst, ap, arith, length-append}
+use Rattle.std.proofs.Common.{◌≡◌, ℕ, suc, ◌+◌, ◌-◌, ◌≤◌, List, [], ◌∷◌, ◌++◌, length, Option, Some, None, Err, inl, inr, subst, ap, arith, length-append}
 use Rattle.std.specs.Prelude.{unwrap_or, ⊤}
 use Rattle.script_text.specs.declared.command.Command.{Command}
 use Rattle.script_text.specs.declared.command.Command.TheVariants as command
 use Rattle.script_text.specs.declared.error.ScriptError.{ScriptError}
-use Rattle.script_text.specs.declared.error.ScriptError.TheVariants as error
 use Rattle.script_text.specs.Refusals.{IsLineNumber, TellsLineOf, error_line}
 use Rattle.script_text.specs.Forms.{Outcome, reads, no_command, brace_not_closed}
 use Rattle.script_text.specs.Blocks.{Tests, first_test, next_test, Created, begun, filled, Marked, at, block_marks, tests_marks, created_marks, created_at, opened_at, is_command, is_content, closing_word}
-use Rattle.script_text.specs.Parts.{Around, top, in_arm, in_else, Inner, within, creating, Part, around_marks, inner_marks, part_marks, else_marks, outermost, open_inner, open_first, not_closed}
+use Rattle.script_text.specs.Parts.{Around, top, in_arm, in_else, Inner, within, creating, around_marks, inner_marks, part_marks, else_marks, outermost, open_inner, open_first}
 use Rattle.script_text.specs.Scripts.{AreLines, IsVerdict, IsRefused, IsOpen, IsMisplaced, IsWrongOutcome, IsWrongInner}
 
 -- each mark has the number of one of so many lines

@@ -4,7 +4,7 @@ use Rattle.std.specs.Prelude.{nat_eq}
 use Rattle.std.proofs.lemmas.Bool.{eqb-true}
 use Rattle.script_text.specs.declared.error.Refusal.{Refusal}
 use Rattle.script_text.specs.declared.error.Refusal.TheVariants as refusal
-use Rattle.script_text.specs.Bytes.{is_blank, is_in_field, Each, NotNext, SplitsRun}
+use Rattle.script_text.specs.Bytes.{is_blank, is_in_field, NotNext, SplitsRun}
 use Rattle.script_text.specs.Runs.{is_in_name}
 use Rattle.script_text.specs.Items.{absent, IsTaken, IsField, field_of, field, quoted_name, loose_equals, equals, gap}
 use Rattle.script_text.specs.Readings.{NotTaken}

@@ -1,12 +1,12 @@
 -- Items that hold templates.
-use Rattle.std.proofs.Common.{suc, ◌≡◌, ℕ, ◌<◌, List, [], ◌∷◌, ◌++◌, length, refl, sym, ap, subst, ◌∙◌, inl, inr, arith}
+use Rattle.std.proofs.Common.{◌≡◌, ℕ, List, [], ◌∷◌, sym, subst, ◌∙◌, inl, inr}
 use Rattle.std.proofs.lemmas.List.{append_cancel_right}
 use Rattle.script_text.specs.declared.piece.Ending.TheVariants as ending
 use Rattle.script_text.specs.declared.error.Refusal.{Refusal}
 use Rattle.script_text.specs.declared.error.Refusal.TheVariants as refusal
 use Rattle.script_text.specs.Templates.{IsTemplate, HasOpenBrace}
-use Rattle.script_text.specs.Items.{quoted, whole, rest_of_line, path_of_line, IsInQuotes, IsNotInQuotes, IsPathText}
-use Rattle.script_text.specs.Readings.{NotTaken, NotWhole, NoTemplate}
+use Rattle.script_text.specs.Items.{quoted, IsInQuotes, IsPathText}
+use Rattle.script_text.specs.Readings.{NotTaken, NoTemplate}
 use Rattle.script_text.proofs.OneTemplate.{early_no_template, early_not_open}
 
 pub quoted_fails : (text inner : List ℕ) (e : Refusal) → text ≡ 34 ∷ inner → NoTemplate ending.Quote inner e → NotTaken quoted text e

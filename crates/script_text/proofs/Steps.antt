@@ -31,8 +31,8 @@ use Rattle.script_text.specs.Trees.{Statements, no_statements, more_statements, 
 use Rattle.script_text.specs.Views.{shown_statement, shown_statements, shown_arms}
 use Rattle.script_text.specs.Blocks.{Block, no_lines, chosen, chosen_else, first_test, next_test, Created, Marked, at, is_command, block_marks, block_tree, IsShallow, last_line, last_test, opened_at, whole_arms, created, filled, created_marks, created_at, created_lines, closing_word, is_closing, is_content, skipped, fetched, acted, begun}
 use Rattle.script_text.specs.Parts.{Around, top, in_arm, in_else, Inner, within, creating, Part, whole, around_marks, part_marks, depth, IsShallowAround, IsShallowPart, not_closed, outermost, open_first, open_inner}
-use Rattle.script_text.specs.Scripts.{fetch_at, fetches_of, fetches, script_of, IsOutsideArm}
-use Rattle.script_text.specs.Readings.{shown_script, NotWhole, NotOfForm}
+use Rattle.script_text.specs.Scripts.{fetch_at, fetches_of, fetches, script_of}
+use Rattle.script_text.specs.Readings.{shown_script, NotOfForm}
 use Rattle.script_text.specs.Held.{PlainOpen, shown_open, arm_open, else_open, around_open, inner_statements, inner_create, Stands, ExtendsBy, inside, closed_if, else_command, HasNumber, Finishes, in_file, Extends, Refuses, Misplaces}
 
 pub fetches-snoc : (ms : List Marked) (m : Marked) → fetches (ms ++ m ∷ []) ≡ fetches ms ++ fetches_of m.number m.mark

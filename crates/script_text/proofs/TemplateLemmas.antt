@@ -10,11 +10,9 @@ use Rattle.script_text.specs.declared.piece.Ending.{Ending}
 use Rattle.script_text.specs.declared.piece.Ending.TheVariants as ending
 use Rattle.script_text.specs.declared.template.Part2.{Part2}
 use Rattle.script_text.specs.declared.template.Part2.TheVariants.{Plain, Expression}
-use Rattle.script_text.specs.declared.error.Refusal.{Refusal}
-use Rattle.script_text.specs.declared.error.Refusal.TheVariants as refusal
 use Rattle.script_text.specs.Bytes.{Each, StopsAt, NotNext, SplitsRun}
 use Rattle.script_text.specs.Templates.{IsOpened, OpensNone, doubled, is_plain, EndsPlain, IsPlain, IsPart, AreParts, IsAtEnd}
-use Rattle.script_text.specs.Readings.{BeginsDoubled, is_verbatim, NoPart, NoTemplate}
+use Rattle.script_text.specs.Readings.{BeginsDoubled, is_verbatim}
 
 each-append : (p : ℕ → Bool) (xs ys : List ℕ) → Each p xs → Each p ys → Each p (xs ++ ys)
 each-append p [] ys h k = k

@@ -5,7 +5,7 @@ ghost use Rattle.script_text.specs.declared.command.Command.TheVariants.{Do};
 ghost use Rattle.script_text.specs.declared.command.Source.{Source};
 ghost use Rattle.script_text.specs.declared.kind.Kind.TheVariants as the;
 ghost use Rattle.script_text.specs.declared.template.Template.{Template};
-ghost use Rattle.script_text.specs.Forms.{Outcome, reads, form, bare_form, date_form, ended, pair_form, path_form, prefetch_form, rest_form, test_form, until_form};
+ghost use Rattle.script_text.specs.Forms.{reads, form, bare_form, date_form, ended, pair_form, path_form, prefetch_form, rest_form, test_form, until_form};
 ghost use Rattle.script_text.specs.Readings.{IsSimple, NotOfForm};
 
 use crate::command::{Command, Source};

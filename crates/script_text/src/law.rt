@@ -2,7 +2,6 @@ ghost use Rattle.std.specs.Prelude.{◌≡◌, ℕ, List, Result, map};
 ghost use Rattle.script_text.specs.declared.error.ScriptError.{ScriptError};
 ghost use Rattle.script_text.specs.declared.line.Line.{Line};
 ghost use Rattle.script_text.specs.declared.tree.ArmList.{ArmList};
-ghost use Rattle.script_text.specs.declared.tree.Statement.{Statement};
 ghost use Rattle.script_text.specs.declared.tree.Statement.TheVariants.{Do, If};
 ghost use Rattle.script_text.specs.declared.tree.StatementList.{StatementList};
 ghost use Rattle.script_text.specs.Refusals.{TellsLineOf};

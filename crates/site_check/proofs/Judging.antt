@@ -1,5 +1,5 @@
 -- What a piece is refused for, and which of several pieces.
-use Rattle.std.proofs.Common.{◌≡◌, ℕ, ◌<◌, suc, List, [], ◌∷◌, length, take, drop, get_or, All, Some, Ok, Err, refl, sym, subst, ◌+◌}
+use Rattle.std.proofs.Common.{◌≡◌, ℕ, ◌<◌, suc, List, [], ◌∷◌, length, take, drop, get_or, All, Some, Err, refl, sym, subst, ◌+◌}
 use Rattle.std.proofs.Math.Seq.{split_at}
 use Rattle.std.proofs.lemmas.List.{take_more}
 use Rattle.std.proofs.lemmas.List.Elements.{All-nil, All-cons, All-append}

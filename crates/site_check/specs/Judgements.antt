@@ -1,5 +1,5 @@
 -- What the parts of a check answer. Only private functions cite these definitions.
-use Rattle.std.specs.Prelude.{ℕ, ◌+◌, ◌^◌, ◌≤◌, List, length, Option, Some, None, ⊤}
+use Rattle.std.specs.Prelude.{ℕ, ◌+◌, ◌^◌, ◌≤◌, length, Option, Some, None, ⊤}
 use Rattle.fix_site.specs.declared.piece.Piece.{Piece}
 use Rattle.fix_site.specs.declared.piece.Piece.TheVariants as piece
 use Rattle.site_check.specs.declared.refusal.PieceRefusal.{PieceRefusal}

@@ -1,4 +1,4 @@
-ghost use Rattle.std.specs.Prelude.{◌≡◌, ◌∷◌, MatchOption, List, ℕ, option_copied};
+ghost use Rattle.std.specs.Prelude.{MatchOption, List, ℕ, option_copied};
 ghost use Rattle.desk_base.specs.Moments.{IsMoment};
 ghost use Rattle.line_forms.specs.Names.{IsName};
 ghost use Rattle.line_forms.specs.Numbers.{IsOffset};

@@ -1,4 +1,3 @@
-ghost use Rattle.std.specs.Prelude.{◌≡◌};
 ghost use Rattle.line_forms.specs.Names.{IsName};
 ghost use Rattle.world_text.specs.Texts.{ReadsNamedWorld};
 ghost use Rattle.world_text.specs.Readings.{HasOtherName};

@@ -1,7 +1,5 @@
-use Rattle.std.proofs.Common.{ap, ◌∙◌, rules, SFits, w64}
+use Rattle.std.proofs.Common.{ap, rules, SFits, w64}
 use Rattle.std.proofs.lemmas.Int.{to_z-of_z}
-use Rattle.rel_nodes.specs.Spans.{span_of_node}
-use Rattle.rel_types.specs.Shown.{shown_plan}
 use Rattle.rel_eval.specs.Singles.{worded}
 use Rattle.rel_eval.proofs.Singles.{words_at}
 use Rattle.rel_eval.proofs.one_texts.one_text.Goals as goal

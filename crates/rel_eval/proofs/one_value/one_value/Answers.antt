@@ -1,6 +1,5 @@
-use Rattle.std.proofs.Common.{None, ap, ◌∙◌}
+use Rattle.std.proofs.Common.{None, ◌∙◌}
 use Rattle.rel_nodes.specs.Spans.{span_of_node}
-use Rattle.rel_types.specs.Shown.{shown_plan}
 use Rattle.rel_eval.specs.Cursors.{cursor_rest}
 use Rattle.rel_eval.specs.Cuts.{meaning}
 use Rattle.rel_eval.specs.Questions.{plan_of}

@@ -1,6 +1,4 @@
-use Rattle.std.proofs.Common.{ap, ◌∙◌}
-use Rattle.rel_nodes.specs.Spans.{span_of_node}
-use Rattle.rel_types.specs.Shown.{shown_plan}
+use Rattle.std.proofs.Common.{ap}
 use Rattle.rel_eval.specs.Singles.{judged}
 use Rattle.rel_eval.proofs.Singles.{judges_at}
 use Rattle.rel_eval.proofs.truths.truth.Goals as goal

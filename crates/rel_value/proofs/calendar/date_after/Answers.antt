@@ -1,4 +1,4 @@
-use Rattle.std.proofs.Common.{◌≡◌, ◌≤◌, ◌<◌, ◌^◌, ℕ, ℤ, pos, ap, sym, subst, ◌∙◌, arith, FitsSigned, w8, w16, w64, to_z, of_z, unsigned_abs, Fits, refl}
+use Rattle.std.proofs.Common.{◌≡◌, ℤ, pos, ap, sym, subst, ◌∙◌, arith, FitsSigned, w8, w16, w64, to_z, of_z, unsigned_abs, Fits}
 use Rattle.std.proofs.lemmas.Int.{to_z-of_z, to_z_pos}
 use Rattle.jiff_core.specs.declared.civil.date.Date.{Date}
 use Rattle.rel_value.specs.declared.calendar.CivilDate.{CivilDate}

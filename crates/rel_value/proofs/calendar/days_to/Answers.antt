@@ -1,4 +1,4 @@
-use Rattle.std.proofs.Common.{◌≡◌, ℕ, ℤ, pos, ◌<◌, ◌≤◌, ◌*◌, Some, IsOk, ap, sym, subst, ◌∙◌, arith, w8, w16, w64, to_z, of_z}
+use Rattle.std.proofs.Common.{◌≡◌, ℕ, ℤ, pos, ◌<◌, ◌≤◌, Some, ap, sym, subst, ◌∙◌, arith, w8, w16, to_z}
 use Rattle.std.proofs.lemmas.Int.{to_z_pos, ints}
 use Rattle.jiff.specs.Words.{IsDate, IsYmd}
 use Rattle.rel_value.specs.declared.calendar.CivilDate.{CivilDate}

@@ -1,4 +1,4 @@
-use Rattle.std.proofs.Common.{◌≡◌, sym, ap, subst, ◌∙◌, ◌++◌, [], ◌∷◌, List, ℕ, append_assoc, OnOk, decimal}
+use Rattle.std.proofs.Common.{◌≡◌, ap, subst, ◌∙◌, ◌++◌, [], ◌∷◌, List, ℕ, append_assoc, OnOk, decimal}
 use Rattle.rel_value.specs.Spellings.{two}
 use Rattle.rel_value.proofs.Digits.{two-small, two-large}
 use Rattle.rel_value.proofs.spelling.write_two.Goals as goal

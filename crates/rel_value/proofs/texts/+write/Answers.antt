@@ -4,7 +4,7 @@ use Rattle.std.proofs.lemmas.Result.{err_from_is_err_and}
 use Rattle.rel_value.specs.declared.value.Value.{Value, the_lemmas}
 use Rattle.rel_value.specs.Operands.{AreSound, IsSound}
 use Rattle.rel_value.specs.Plain.{Parts, no_parts}
-use Rattle.rel_value.specs.Texts.{text_of, texts_of, comma_after, enclosed}
+use Rattle.rel_value.specs.Texts.{text_of, texts_of, enclosed}
 use Rattle.rel_value.specs.Views.{shown, shown_parts, parted, value_items}
 use Rattle.rel_value.proofs.Shown.{parts-out}
 use Rattle.rel_value.proofs.Written.{sound-part, part-written, part-too-long, too-long, comma-first, comma-more, fault-moves}

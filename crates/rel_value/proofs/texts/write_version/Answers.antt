@@ -1,4 +1,4 @@
-use Rattle.std.proofs.Common.{◌≡◌, ◌++◌, ◌∷◌, [], sym, ap, ◌∙◌, arith, take, take_all, get_or, decimal}
+use Rattle.std.proofs.Common.{◌++◌, ap, ◌∙◌, take_all, get_or, decimal}
 use Rattle.rel_value.specs.Texts.{version_text}
 use Rattle.rel_value.proofs.Joined.{written-first, written-more}
 use Rattle.rel_value.proofs.texts.write_version.Goals as goal

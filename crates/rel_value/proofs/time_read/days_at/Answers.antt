@@ -1,5 +1,4 @@
-use Rattle.std.proofs.Common.{◌≡◌, ℕ, ◌/◌, ◌+◌, ◌*◌, sym, ap, ◌∙◌, arith}
-use Rattle.rel_value.specs.declared.calendar.CivilDate.{CivilDate}
+use Rattle.std.proofs.Common.{◌/◌, ◌+◌, ◌*◌, sym, ◌∙◌, arith}
 use Rattle.rel_value.specs.Calendar.{date_after}
 use Rattle.rel_value.specs.Spellings.{shown_seconds}
 use Rattle.rel_value.proofs.Calendars.{date-bounded, dates-same}

@@ -1,4 +1,4 @@
-use Rattle.std.proofs.Common.{◌≡◌, ℕ, ◌+◌, ◌*◌, ◌<◌, sym, ◌∙◌, arith}
+use Rattle.std.proofs.Common.{◌+◌, ◌*◌, sym, ◌∙◌, arith}
 use Rattle.rel_value.proofs.TimeReads.{laid, size-back, minus-back, plus-back}
 use Rattle.std.proofs.Common.{unsigned_abs}
 use Rattle.rel_value.proofs.time_read.offset_at.Goals as goal

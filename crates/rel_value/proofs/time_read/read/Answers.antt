@@ -1,7 +1,7 @@
-use Rattle.std.proofs.Common.{◌≡◌, ℕ, ℤ, pos, ◌/◌, ◌%◌, ◌-ℤ◌, ◌*ℤ◌, to_z, of_z, w64, sym, ap, ◌∙◌, arith, Some}
+use Rattle.std.proofs.Common.{◌≡◌, ◌/◌, arith}
 use Rattle.std.proofs.lemmas.Int.{ints}
 use Rattle.rel_value.specs.Spellings.{shown_seconds}
-use Rattle.rel_value.proofs.TimeReads.{laid, shown-is, shown-same}
+use Rattle.rel_value.proofs.TimeReads.{shown-is, shown-same}
 use Rattle.rel_value.proofs.time_read.read.Goals as goal
 use Rattle.rel_value.proofs.time_read.read.Goals.{then-offset-ltminus840-via-then-offset-ltminus840, then-offset-ltminus840-via-else-offset-ltminus840+then-offset-gt840, then-offset-ltminus840-via-else-offset-ltminus840+else-offset-gt840+then-moment-lt0, then-offset-ltminus840-via-else-offset-ltminus840+else-offset-gt840+else-moment-lt0+then-moment-gt-LAST_MOMENT}
 

@@ -1,4 +1,4 @@
-use Rattle.std.proofs.Common.{◌≡◌, ◌++◌, [], ℕ, ℤ, pos, Bool, true, false, nat_eq, List, Option, Some, None, sym, ap, subst, ◌∙◌, arith, unsigned_abs, FitsSigned, w64}
+use Rattle.std.proofs.Common.{◌≡◌, ◌++◌, ℕ, pos, true, false, nat_eq, Some, sym, ap, ◌∙◌, arith, unsigned_abs, FitsSigned, w64}
 use Rattle.std.specs.Option.{option_map}
 use Rattle.std.specs.Cmp.Lexicographic.{pointwise}
 use Rattle.std.proofs.lemmas.Int.{ints, to_z-of_z}

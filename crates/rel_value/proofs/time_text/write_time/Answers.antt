@@ -1,6 +1,5 @@
-use Rattle.std.proofs.Common.{◌≡◌, ◌++◌, List, ℕ, ℤ, OnOk, subst, sym, ap, ◌∙◌, FitsSigned, w64}
+use Rattle.std.proofs.Common.{◌≡◌, List, ℕ, OnOk, subst, FitsSigned, w64}
 use Rattle.std.proofs.lemmas.Int.{to_z-of_z}
-use Rattle.rel_value.specs.Spellings.{offset_text, time_text}
 use Rattle.rel_value.proofs.Spelled.{time-written}
 use Rattle.rel_value.proofs.time_text.write_time.Goals as goal
 

@@ -1,4 +1,4 @@
-use Rattle.std.proofs.Common.{◌≡◌, true, get_or, sym, ap, ◌∙◌, arith}
+use Rattle.std.proofs.Common.{◌≡◌, true, get_or, sym, ap, ◌∙◌}
 use Rattle.std.proofs.lemmas.Str.{IsCharBoundary-after_ascii}
 use Rattle.rel_value.specs.Casts.{is_blank}
 use Rattle.rel_value.proofs.Trims.{blank-ascii}

@@ -2,7 +2,6 @@ use Rattle.std.proofs.Common.{◌<◌, false, get_or, length, take, sym, ap, ◌
 use Rattle.script_text.specs.Templates.{in_literal, turned}
 use Rattle.script_text.proofs.Literals.{ends_at, none_more, literal_more, turned_is, none_all}
 use Rattle.script_text.proofs.expression.split_expression.Goals as goal
-use Rattle.script_text.proofs.expression.split_expression.Goals.{else-byte-eq125-via-then-byte-eq125+else-not-in_literal, else-byte-eq125-via-else-byte-eq125}
 
 pub returns-then-not-in_literal : goal.returns-then-not-in_literal
 returns-then-not-in_literal c =

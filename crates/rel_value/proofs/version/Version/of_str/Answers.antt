@@ -1,5 +1,4 @@
-use Rattle.std.proofs.Common.{◌≡◌, ℕ, List, sym, ap, ◌∙◌, Some, subst}
-use Rattle.line_forms.specs.Versions.{IsVersionOf}
+use Rattle.std.proofs.Common.{sym, ap, ◌∙◌, Some}
 use Rattle.rel_value.proofs.VersionsRead.{version-some, version-none}
 use Rattle.rel_value.specs.Versions.{version_of}
 use Rattle.rel_value.proofs.version.Version.of_str.Goals as goal

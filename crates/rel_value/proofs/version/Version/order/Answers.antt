@@ -1,4 +1,4 @@
-use Rattle.std.proofs.Common.{◌≡◌, sym, ap, ◌∙◌, List, ℕ, nat_cmp}
+use Rattle.std.proofs.Common.{◌≡◌, sym, ap, ◌∙◌, nat_cmp}
 use Rattle.std.specs.Cmp.Lexicographic.{slice_cmp}
 use Rattle.rel_value.specs.Versions.{four}
 use Rattle.rel_value.proofs.VersionsRead.{four-padded}
