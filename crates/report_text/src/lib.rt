@@ -24,6 +24,6 @@ pub use law::{a_report_is_read_again, one_report};
 pub use reader::{ReportLines, read_report, take_report};
 pub use report::{Report, ReportRows};
 pub use report_row::ReportRow;
-pub use room_writer::{fill_report, outcome_field};
+pub use room_writer::{fill_report, fill_row_fields, outcome_field};
 pub use row_reader::{read_row, read_row_fields, take_row};
 pub use writer::{digest, write_report};
