@@ -1,7 +1,8 @@
 -- How a command can end that reads its input and asks no device, as the words' command says it.
-use Rattle.std.proofs.Common.{◌≡◌, ◌≢◌, ◌⊎◌, ℕ, ◌≤◌, List, [], ◌++◌, length, None, Some, inl, inr, refl, sym, ap, subst, ◌∙◌, append-nil}
+use Rattle.std.proofs.Common.{◌≡◌, ◌≢◌, ◌⊎◌, ℕ, ◌≤◌, arith, List, [], ◌∷◌, ◌++◌, length, None, Some, inl, inr, refl, sym, ap, subst, ◌∙◌, append-nil}
 use Rattle.std.specs.Prelude.{⊤, IsSomeAnd}
 use Rattle.std.specs.Io.KnownBytes.{Consumes, IsAtEnd}
+use Rattle.std.proofs.lemmas.Fmt.{decimal_injective}
 use Rattle.std.specs.declared.option.Option.{Option}
 use Rattle.std.specs.declared.result.Result.{Result}
 use Rattle.std.specs.declared.result.Result.TheVariants.{Ok, Err}
@@ -13,7 +14,7 @@ use Rattle.world_text.specs.Fronts.{Splits}
 use Rattle.world_text.specs.Texts.{Describes, ReadsWorld}
 use Rattle.rel_session.specs.Devices.{Devices}
 use Rattle.desk_top.specs.declared.command.Command.{Command}
-use Rattle.desk_top.specs.declared.command.Command.TheVariants.{Qna, QnaWorld, Check, Help}
+use Rattle.desk_top.specs.declared.command.Command.TheVariants.{Qna, QnaWorld, Check, Make, Help}
 use Rattle.desk_top.specs.declared.status.Status.{Status}
 use Rattle.desk_top.specs.declared.status.Status.TheVariants.{Done, Usage, Refused, Source, Sink, Clock, Pocket, Keeper, Door, Memory, InputTooLong}
 use Rattle.site_check.specs.declared.finding.Finding.{Finding}
@@ -69,6 +70,7 @@ pub good_not_refused : OneFinding → OneFront → WorldIsRead → (k : Command)
 good_not_refused one front is_read Qna input line good refused = refused
 good_not_refused one front is_read QnaWorld input line good (number, bad, is) = good_not_bad front is_read input number good bad
 good_not_refused one front is_read Check input line (fixlets, baselines, good) (f, found, refusal, is) = refusal_not_good one input f fixlets baselines found refusal good
+good_not_refused one front is_read (Make number) input line good refused = refused
 good_not_refused one front is_read Help input line good refused = refused
 
 -- a run over an input that the command takes is done, unless the sink failed or memory ran out
@@ -105,23 +107,37 @@ bad_is_refused k input InputTooLong is done bad no_fault = absurd is
 pub described_apart : (status : Status) → IsDescribedStatus status → status ≡ Refused → ⊥
 described_apart status is same = let P : Status → Type 0 = IsDescribedStatus in subst P same is
 
+-- the second word
+abbrev second : List (List ℕ) → List ℕ
+second (first ∷ word ∷ words) = word
+second words = []
+
 -- words ask for one command
 one_command : (words : List (List ℕ)) (a b : Command) → Asks words a → Asks words b → a ≡ b
 one_command words Qna Qna p q = refl
-one_command words Qna QnaWorld p q = cc
-one_command words Qna Check p q = cc
-one_command words Qna Help p q = cc
-one_command words QnaWorld Qna p q = cc
+one_command words Qna QnaWorld p q = let h = p.1 in let k = q.1 in cc
+one_command words Qna Check p q = let h = p.1 in let k = q.1 in cc
+one_command words Qna (Make n) p q = let h = p.1 in let k = q.1 in cc
+one_command words Qna Help p q = let h = p.1 in let k = q.1 in cc
+one_command words QnaWorld Qna p q = let h = p.1 in let k = q.1 in cc
 one_command words QnaWorld QnaWorld p q = refl
-one_command words QnaWorld Check p q = cc
-one_command words QnaWorld Help p q = cc
-one_command words Check Qna p q = cc
-one_command words Check QnaWorld p q = cc
+one_command words QnaWorld Check p q = let h = p.1 in let k = q.1 in cc
+one_command words QnaWorld (Make n) p q = let h = p.1 in let k = q.1 in cc
+one_command words QnaWorld Help p q = let h = p.1 in let k = q.1 in cc
+one_command words Check Qna p q = let h = p.1 in let k = q.1 in cc
+one_command words Check QnaWorld p q = let h = p.1 in let k = q.1 in cc
 one_command words Check Check p q = refl
-one_command words Check Help p q = cc
-one_command words Help Qna p q = cc
-one_command words Help QnaWorld p q = cc
-one_command words Help Check p q = cc
+one_command words Check (Make n) p q = let h = p.1 in let k = q.1 in cc
+one_command words Check Help p q = let h = p.1 in let k = q.1 in cc
+one_command words (Make m) Qna p q = let h = p.1 in let k = q.1 in cc
+one_command words (Make m) QnaWorld p q = let h = p.1 in let k = q.1 in cc
+one_command words (Make m) Check p q = let h = p.1 in let k = q.1 in cc
+one_command words (Make m) (Make n) (small, is) (small', is') = ap Make (decimal_injective m n (omega (arith, small.1)) (omega (arith, small'.1)) (ap second (sym is ∙ is')))
+one_command words (Make m) Help p q = let h = p.1 in let k = q.1 in cc
+one_command words Help Qna p q = let h = p.1 in let k = q.1 in cc
+one_command words Help QnaWorld p q = let h = p.1 in let k = q.1 in cc
+one_command words Help Check p q = let h = p.1 in let k = q.1 in cc
+one_command words Help (Make n) p q = let h = p.1 in let k = q.1 in cc
 one_command words Help Help p q = refl
 
 -- The input was taken, all of it, and is no longer than it may be.
@@ -141,6 +157,7 @@ took : (k : Command) → IsTextCommand k → (old new : Option (List ℕ)) (take
 took Qna text old new taken input P is all holds = absurd text
 took QnaWorld text old new taken input P is all holds = (taken, all.takes, all.ends, (all.short, subst P is holds))
 took Check text old new taken input P is all holds = (taken, all.takes, all.ends, (all.short, subst P is holds))
+took (Make number) text old new taken input P is all holds = absurd text
 took Help text old new taken input P is all holds = absurd text
 
 pub text_front : (k : Command) → IsTextCommand k → (words : List (List ℕ)) (command : Command) (old new : Option (List ℕ)) (world : Option WorldState) (taken input : List ℕ) (d d' : Devices)
@@ -175,6 +192,7 @@ did_good : (k : Command) → IsTextCommand k → (world : Option WorldState) (in
 did_good Qna text world input d d' did = absurd text
 did_good QnaWorld text world input d d' did = (did.0, did.1, did.2)
 did_good Check text world input d d' did = (did.0, did.1, did.2)
+did_good (Make number) text world input d d' did = absurd text
 did_good Help text world input d d' did = absurd text
 
 pub text_refused : (k : Command) → IsTextCommand k → (words : List (List ℕ)) (command : Command) (old new : Option (List ℕ)) (world : Option WorldState) (taken input : List ℕ) (d d' : Devices) (status : Status)

@@ -17,7 +17,7 @@ use Rattle.rel_session.specs.Lines.{lines_of}
 use Rattle.rel_session.specs.Sessions.{Answers, Asks, Run, Runs, Session, begins_with_colon, fresh}
 use Rattle.rel_session.proofs.OneRun.{runs_once}
 use Rattle.desk_top.specs.declared.command.Command.{Command}
-use Rattle.desk_top.specs.declared.command.Command.TheVariants.{Qna, QnaWorld, Check, Help}
+use Rattle.desk_top.specs.declared.command.Command.TheVariants.{Qna, QnaWorld, Check, Make, Help}
 use Rattle.site_check.specs.declared.finding.Finding.TheVariants.{Good}
 use Rattle.site_check.specs.Lines.{finding_line}
 use Rattle.desk_top.proofs.Ends.{OneFinding, OneFront, refusal_known}
@@ -110,6 +110,7 @@ bytes_once one front QnaWorld w input held a b looked keys others faults given a
 bytes_once one front Check w input held a b looked keys others faults given after below (fixlets, baselines, found, is) (fixlets', baselines', found', is') =
     let same = one input (Good fixlets baselines) (Good fixlets' baselines') found found' (λ e. cc) (λ e. cc) in
     is ∙ ap (λ f. held ++ finding_line f) same ∙ sym is'
+bytes_once one front (Make number) w input held a b looked keys others faults given after below did did' = did ∙ sym did'
 bytes_once one front Help w input held a b looked keys others faults given after below did did' = did ∙ sym did'
 
 pub looks_once : (w : WorldState) (input held a b : List ℕ) (looked keys others : List Key) (faults : ℕ) (given after : List ℤ) → faults < 2 ^ 64 - 1
@@ -132,4 +133,5 @@ refusal_once one front Qna input a b x y = absurd x
 refusal_once one front QnaWorld input a b (m, bad, is) (n, bad', is') = is ∙ ap bad_line (one_bad_line front input m n bad bad') ∙ sym is'
 refusal_once one front Check input a b (f, found, refusal, is) (g, found', refusal', is') =
     is ∙ ap finding_line (one input f g found found' (refusal_known f refusal) (refusal_known g refusal')) ∙ sym is'
+refusal_once one front (Make number) input a b x y = absurd x
 refusal_once one front Help input a b x y = absurd x
