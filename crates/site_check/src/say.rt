@@ -91,7 +91,12 @@ fn say_refusal(alloc: Global, refusal: PieceRefusal, out: &mut Bytes) -> Result<
 }
 
 #[tactic(auto, unfolding(crate::specs::Lines::question_line))]
-fn say_question(alloc: Global, line: u32, fault: QuestionFault, out: &mut Bytes) -> Result<(), AllocError>
+fn say_question(
+    alloc: Global,
+    line: u32,
+    fault: QuestionFault,
+    out: &mut Bytes,
+) -> Result<(), AllocError>
     ensures { OnOk result (out.new ≡ out.old ++ question_line line fault) }
 {
     say_wrong_line(b"24", line, out)?;
