@@ -12,7 +12,7 @@ use std::test::Fail;
 fn said(alloc: Global, body: &[u8]) -> Result<Bytes, Fail> {
     let text = sealed(alloc, body)?;
     let mut out = Bytes::new(alloc);
-    say_finding(&check_site(alloc, text.as_slice()), &mut out)?;
+    say_finding(alloc, &check_site(alloc, text.as_slice()), &mut out)?;
     Ok(out)
 }
 

@@ -1,30 +1,31 @@
 -- How a command can end that reads its input and asks no device, as the words' command says it.
-use Rattle.std.proofs.Common.{◌≡◌, ◌≢◌, ◌⊎◌, ℕ, ◌≤◌, List, ◌++◌, length, None, Some, inl, inr, refl, sym, ap, subst, ◌∙◌, append-nil}
+use Rattle.std.proofs.Common.{◌≡◌, ◌≢◌, ◌⊎◌, ℕ, ◌≤◌, arith, List, [], ◌∷◌, ◌++◌, length, None, Some, inl, inr, refl, sym, ap, subst, ◌∙◌, append-nil}
 use Rattle.std.specs.Prelude.{⊤, IsSomeAnd}
 use Rattle.std.specs.Io.KnownBytes.{Consumes, IsAtEnd}
+use Rattle.std.proofs.lemmas.Fmt.{decimal_injective}
 use Rattle.std.specs.declared.option.Option.{Option}
 use Rattle.std.specs.declared.result.Result.{Result}
 use Rattle.std.specs.declared.result.Result.TheVariants.{Ok, Err}
 use Rattle.bf_world.specs.Worlds.{WorldState}
 use Rattle.world_text.specs.declared.error.WorldError.{WorldError}
 use Rattle.world_text.specs.declared.error.WorldError.TheVariants as world_error
-use Rattle.world_text.specs.Texts.{ReadsWorld}
-use Rattle.world_text.proofs.PassLemmas.{world_read}
+use Rattle.line_forms.specs.LineStates as states
+use Rattle.world_text.specs.Fronts.{Splits}
+use Rattle.world_text.specs.Texts.{Describes, ReadsWorld}
 use Rattle.rel_session.specs.Devices.{Devices}
 use Rattle.desk_top.specs.declared.command.Command.{Command}
-use Rattle.desk_top.specs.declared.command.Command.TheVariants.{Qna, QnaWorld, Check, Help}
+use Rattle.desk_top.specs.declared.command.Command.TheVariants.{Qna, QnaWorld, Check, Make, Help}
 use Rattle.desk_top.specs.declared.status.Status.{Status}
 use Rattle.desk_top.specs.declared.status.Status.TheVariants.{Done, Usage, Refused, Source, Sink, Clock, Pocket, Keeper, Door, Memory, InputTooLong}
 use Rattle.site_check.specs.declared.finding.Finding.{Finding}
 use Rattle.site_check.specs.declared.finding.Finding.TheVariants as finding
 use Rattle.site_check.specs.Findings.{Finds}
 use Rattle.site_check.specs.Lines.{finding_line}
-use Rattle.desk_top.specs.Asked.{status_of_finding, IsTextStatus}
+use Rattle.desk_top.specs.Asked.{status_of_finding, IsDescribedStatus, IsTextStatus}
 use Rattle.desk_top.specs.Commands.{Asks}
 use Rattle.desk_top.specs.Runs.{input_limit, TookInput, TookPart}
 use Rattle.desk_top.specs.Said.{Began, Did, IsGoodInput, IsRefusal, IsRefused, Refuses}
 use Rattle.desk_top.specs.WorldInputs.{IsBadInput}
-use Rattle.desk_top.proofs.Splitting.{one_split}
 
 -- an input that was taken up to its end is what was left
 pub taken_is_left : (old new : Option (List ℕ)) (taken : List ℕ) (P : List ℕ → Type 0) → Consumes old new taken → IsAtEnd new → IsSomeAnd old P → P taken
@@ -36,12 +37,20 @@ no_bad_answer : (w : WorldState) (answer : Result WorldState WorldError) (number
 no_bad_answer w answer number is (inl ok) = cc
 no_bad_answer w answer number is (inr memory) = cc
 
+-- a text begins with one world's text
+abbrev pub OneFront : Type 0
+OneFront = (text world rest other left : List ℕ) → Splits text world rest → Splits text other left → world ≡ other
+
+-- a text that describes a world is read as that, or want of memory stands in its place
+abbrev pub WorldIsRead : Type 0
+WorldIsRead = (text : List ℕ) (w : WorldState) (answer : Result WorldState WorldError) → states.unended_of text ≡ [] → Describes (states.lines_of text) w → ReadsWorld text answer → (answer ≡ Ok w) ⊎ (answer ≡ Err world_error.Memory)
+
 -- an input with the text of a world has no bad line
-pub good_not_bad : (input : List ℕ) (number : ℕ) → IsGoodInput QnaWorld input → IsBadInput input number → ⊥
-good_not_bad input number (w, rest, (text, splits, reads)) (text', rest', splits', reads') =
+pub good_not_bad : OneFront → WorldIsRead → (input : List ℕ) (number : ℕ) → IsGoodInput QnaWorld input → IsBadInput input number → ⊥
+good_not_bad one is_read input number (w, rest, (text, splits, reads)) (text', rest', splits', reads') =
     let Refuses : List ℕ → Type 0 = λ l. ReadsWorld l (Err (world_error.BadLine number)) in
-    let same : text ≡ text' = one_split input text rest text' rest' splits splits' in
-    no_bad_answer w (Err (world_error.BadLine number)) number refl (world_read text w (Err (world_error.BadLine number)) reads.0 reads.1 (subst Refuses (sym same) reads'))
+    let same : text ≡ text' = one input text rest text' rest' splits splits' in
+    no_bad_answer w (Err (world_error.BadLine number)) number refl (is_read text w (Err (world_error.BadLine number)) reads.0 reads.1 (subst Refuses (sym same) reads'))
 
 -- a text has one finding
 abbrev pub OneFinding : Type 0
@@ -57,11 +66,12 @@ refusal_not_good one text f fixlets baselines x refusal y =
     subst Wrong (one text f (finding.Good fixlets baselines) x y (refusal_known f refusal) (λ e. cc)) refusal
 
 -- an input that a command takes isn't refused
-pub good_not_refused : OneFinding → (k : Command) (input line : List ℕ) → IsGoodInput k input → Refuses k input line → ⊥
-good_not_refused one Qna input line good refused = refused
-good_not_refused one QnaWorld input line good (number, bad, is) = good_not_bad input number good bad
-good_not_refused one Check input line (fixlets, baselines, good) (f, found, refusal, is) = refusal_not_good one input f fixlets baselines found refusal good
-good_not_refused one Help input line good refused = refused
+pub good_not_refused : OneFinding → OneFront → WorldIsRead → (k : Command) (input line : List ℕ) → IsGoodInput k input → Refuses k input line → ⊥
+good_not_refused one front is_read Qna input line good refused = refused
+good_not_refused one front is_read QnaWorld input line good (number, bad, is) = good_not_bad front is_read input number good bad
+good_not_refused one front is_read Check input line (fixlets, baselines, good) (f, found, refusal, is) = refusal_not_good one input f fixlets baselines found refusal good
+good_not_refused one front is_read (Make number) input line good refused = refused
+good_not_refused one front is_read Help input line good refused = refused
 
 -- a run over an input that the command takes is done, unless the sink failed or memory ran out
 good_is_done : (k : Command) (input : List ℕ) (status : Status) → IsTextStatus status → (status ≡ Refused → IsGoodInput k input → ⊥)
@@ -93,27 +103,41 @@ bad_is_refused k input Keeper is done bad no_fault = absurd is
 bad_is_refused k input Door is done bad no_fault = absurd is
 bad_is_refused k input InputTooLong is done bad no_fault = absurd is
 
--- what a world's text is refused for, where it is good
-pub world_apart : (input : List ℕ) (status : Status) (Written : List ℕ → Type 0) → (status ≡ Refused → IsRefused QnaWorld input Written) → status ≡ Refused → IsGoodInput QnaWorld input → ⊥
-world_apart input status Written refused is good = let bad = refused is in good_not_bad input bad.1.0 good bad.1.1
+-- questions to a described world end without a refusal
+pub described_apart : (status : Status) → IsDescribedStatus status → status ≡ Refused → ⊥
+described_apart status is same = let P : Status → Type 0 = IsDescribedStatus in subst P same is
+
+-- the second word
+abbrev second : List (List ℕ) → List ℕ
+second (first ∷ word ∷ words) = word
+second words = []
 
 -- words ask for one command
 one_command : (words : List (List ℕ)) (a b : Command) → Asks words a → Asks words b → a ≡ b
 one_command words Qna Qna p q = refl
-one_command words Qna QnaWorld p q = cc
-one_command words Qna Check p q = cc
-one_command words Qna Help p q = cc
-one_command words QnaWorld Qna p q = cc
+one_command words Qna QnaWorld p q = let h = p.1 in let k = q.1 in cc
+one_command words Qna Check p q = let h = p.1 in let k = q.1 in cc
+one_command words Qna (Make n) p q = let h = p.1 in let k = q.1 in cc
+one_command words Qna Help p q = let h = p.1 in let k = q.1 in cc
+one_command words QnaWorld Qna p q = let h = p.1 in let k = q.1 in cc
 one_command words QnaWorld QnaWorld p q = refl
-one_command words QnaWorld Check p q = cc
-one_command words QnaWorld Help p q = cc
-one_command words Check Qna p q = cc
-one_command words Check QnaWorld p q = cc
+one_command words QnaWorld Check p q = let h = p.1 in let k = q.1 in cc
+one_command words QnaWorld (Make n) p q = let h = p.1 in let k = q.1 in cc
+one_command words QnaWorld Help p q = let h = p.1 in let k = q.1 in cc
+one_command words Check Qna p q = let h = p.1 in let k = q.1 in cc
+one_command words Check QnaWorld p q = let h = p.1 in let k = q.1 in cc
 one_command words Check Check p q = refl
-one_command words Check Help p q = cc
-one_command words Help Qna p q = cc
-one_command words Help QnaWorld p q = cc
-one_command words Help Check p q = cc
+one_command words Check (Make n) p q = let h = p.1 in let k = q.1 in cc
+one_command words Check Help p q = let h = p.1 in let k = q.1 in cc
+one_command words (Make m) Qna p q = let h = p.1 in let k = q.1 in cc
+one_command words (Make m) QnaWorld p q = let h = p.1 in let k = q.1 in cc
+one_command words (Make m) Check p q = let h = p.1 in let k = q.1 in cc
+one_command words (Make m) (Make n) (small, is) (small', is') = ap Make (decimal_injective m n (omega (arith, small.1)) (omega (arith, small'.1)) (ap second (sym is ∙ is')))
+one_command words (Make m) Help p q = let h = p.1 in let k = q.1 in cc
+one_command words Help Qna p q = let h = p.1 in let k = q.1 in cc
+one_command words Help QnaWorld p q = let h = p.1 in let k = q.1 in cc
+one_command words Help Check p q = let h = p.1 in let k = q.1 in cc
+one_command words Help (Make n) p q = let h = p.1 in let k = q.1 in cc
 one_command words Help Help p q = refl
 
 -- The input was taken, all of it, and is no longer than it may be.
@@ -133,6 +157,7 @@ took : (k : Command) → IsTextCommand k → (old new : Option (List ℕ)) (take
 took Qna text old new taken input P is all holds = absurd text
 took QnaWorld text old new taken input P is all holds = (taken, all.takes, all.ends, (all.short, subst P is holds))
 took Check text old new taken input P is all holds = (taken, all.takes, all.ends, (all.short, subst P is holds))
+took (Make number) text old new taken input P is all holds = absurd text
 took Help text old new taken input P is all holds = absurd text
 
 pub text_front : (k : Command) → IsTextCommand k → (words : List (List ℕ)) (command : Command) (old new : Option (List ℕ)) (world : Option WorldState) (taken input : List ℕ) (d d' : Devices)
@@ -167,6 +192,7 @@ did_good : (k : Command) → IsTextCommand k → (world : Option WorldState) (in
 did_good Qna text world input d d' did = absurd text
 did_good QnaWorld text world input d d' did = (did.0, did.1, did.2)
 did_good Check text world input d d' did = (did.0, did.1, did.2)
+did_good (Make number) text world input d d' did = absurd text
 did_good Help text world input d d' did = absurd text
 
 pub text_refused : (k : Command) → IsTextCommand k → (words : List (List ℕ)) (command : Command) (old new : Option (List ℕ)) (world : Option WorldState) (taken input : List ℕ) (d d' : Devices) (status : Status)
@@ -193,4 +219,4 @@ checked_refused input finding.Memory status Written found ends is written = absu
 pub checked_apart : OneFinding → (input : List ℕ) (f : Finding) (status : Status) → Finds input f → Some status ≡ status_of_finding f → status ≡ Refused → IsGoodInput Check input → ⊥
 checked_apart one input f status found ends is good =
     let refused = checked_refused input f status (λ line. ⊤) found ends is tt in
-    good_not_refused one Check input refused.0 good refused.1
+    refusal_not_good one input refused.1.0 good.0 good.1 refused.1.1 refused.1.2 good.2

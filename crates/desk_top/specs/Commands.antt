@@ -1,22 +1,24 @@
 -- The table of commands.
-use Rattle.std.specs.Prelude.{◌≡◌, ⊤, ℕ, List, [], ◌∷◌, ◌++◌, codes, flat_map}
+use Rattle.std.specs.Prelude.{◌≡◌, ◌≤◌, ⊤, ℕ, List, [], ◌∷◌, ◌++◌, codes, decimal, flat_map}
 use Rattle.desk_top.specs.declared.command.Command.{Command}
-use Rattle.desk_top.specs.declared.command.Command.TheVariants.{Qna, QnaWorld, Check, Help}
-
--- every command, in the order of the help
-abbrev pub commands : List Command
-commands = Qna ∷ QnaWorld ∷ Check ∷ Help ∷ []
+use Rattle.desk_top.specs.declared.command.Command.TheVariants.{Qna, QnaWorld, Check, Make, Help}
 
 -- the words of a command
 abbrev pub words_of : Command → List (List ℕ)
 words_of Qna = codes "qna" ∷ []
 words_of QnaWorld = codes "qna" ∷ codes "--world" ∷ []
 words_of Check = codes "check" ∷ []
+words_of (Make number) = codes "make" ∷ decimal number ∷ []
 words_of Help = codes "--help" ∷ []
+
+-- the number of a command is one that it takes
+abbrev pub IsCommand : Command → Type 0
+IsCommand (Make number) = (1 ≤ number) × (number ≤ 2000)
+IsCommand _ = ⊤
 
 -- the words ask for the command
 abbrev pub Asks : List (List ℕ) → Command → Type 0
-Asks words command = words ≡ words_of command
+Asks words command = IsCommand command × (words ≡ words_of command)
 
 -- the words ask for some command, of which P holds
 abbrev pub AsksSome : List (List ℕ) → (Command → Type 0) → Type 0
@@ -31,6 +33,7 @@ abbrev pub ReadsSource : Command → Type 0
 ReadsSource Qna = ⊤
 ReadsSource QnaWorld = ⊤
 ReadsSource Check = ⊤
+ReadsSource (Make number) = ⊥
 ReadsSource Help = ⊥
 
 -- what is written where the words are those of no command
@@ -41,10 +44,15 @@ usage_line = codes "usage: desk --help\n"
 abbrev pub spaced : List ℕ → List ℕ
 spaced word = codes " " ++ word
 
--- the help's line of a command
-unfoldable pub help_line : Command → List ℕ
-help_line command = codes "desk" ++ flat_map spaced (words_of command) ++ codes "\n"
+-- the help's line of a command with these words
+abbrev pub help_line : List (List ℕ) → List ℕ
+help_line words = codes "desk" ++ flat_map spaced words ++ codes "\n"
 
--- a line for each command
-abbrev pub help_text : List ℕ
-help_text = flat_map help_line commands
+-- a line for each command, in which N stands for its number
+unfoldable pub help_text : List ℕ
+help_text =
+    help_line (words_of Qna)
+    ++ help_line (words_of QnaWorld)
+    ++ help_line (words_of Check)
+    ++ help_line (codes "make" ∷ codes "N" ∷ [])
+    ++ help_line (words_of Help)

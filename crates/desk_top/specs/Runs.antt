@@ -6,7 +6,7 @@ use Rattle.std.specs.declared.result.Result.TheVariants.{Ok, Err}
 use Rattle.std.specs.Io.KnownBytes.{Consumes, IsAtEnd, Keeps}
 use Rattle.desk_base.specs.Whole.{Took, TookAll}
 use Rattle.desk_top.specs.declared.command.Command.{Command}
-use Rattle.desk_top.specs.declared.command.Command.TheVariants.{Qna, QnaWorld, Check, Help}
+use Rattle.desk_top.specs.declared.command.Command.TheVariants.{Qna, QnaWorld, Check, Make, Help}
 use Rattle.desk_top.specs.declared.status.Status.{Status}
 use Rattle.desk_top.specs.declared.status.Status.TheVariants.{InputTooLong, Source, Memory}
 
@@ -19,6 +19,7 @@ abbrev pub TookInput : Command → Option (List ℕ) → Option (List ℕ) → (
 TookInput Qna old new P = TookAll old new (λ input. (length input ≤ input_limit) × P input)
 TookInput QnaWorld old new P = TookAll old new (λ input. (length input ≤ input_limit) × P input)
 TookInput Check old new P = TookAll old new (λ input. (length input ≤ input_limit) × P input)
+TookInput (Make number) old new P = Keeps old new × P []
 TookInput Help old new P = Keeps old new × P []
 
 -- At most the limit was taken.

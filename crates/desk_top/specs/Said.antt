@@ -7,11 +7,12 @@ use Rattle.rel_session.specs.Lines.{lines_of}
 use Rattle.rel_session.specs.Sessions.{Run, Runs, IsFrontOfRun, fresh}
 use Rattle.rel_session.specs.Devices.{Devices, DidAll, DidFront}
 use Rattle.desk_top.specs.declared.command.Command.{Command}
-use Rattle.desk_top.specs.declared.command.Command.TheVariants.{Qna, QnaWorld, Check, Help}
+use Rattle.desk_top.specs.declared.command.Command.TheVariants.{Qna, QnaWorld, Check, Make, Help}
 use Rattle.site_check.specs.declared.finding.Finding.{Finding}
 use Rattle.site_check.specs.declared.finding.Finding.TheVariants.{Good, Memory}
 use Rattle.site_check.specs.Findings.{Finds}
 use Rattle.site_check.specs.Lines.{finding_line}
+use Rattle.office_text.specs.Made.{office_of}
 use Rattle.desk_top.specs.Commands.{help_text}
 use Rattle.desk_top.specs.WorldInputs.{IsBadInput, IsWorldInput, bad_line}
 
@@ -30,6 +31,7 @@ abbrev pub Did : Command → Option WorldState → List ℕ → Devices → Devi
 Did Qna world input old new = DidAll world (pos 0) fresh (lines_of input) None old new
 Did QnaWorld world input old new = (w : WorldState) × (rest : List ℕ) × IsWorldInput input w rest × DidDescribed w rest old new
 Did Check world input old new = (fixlets baselines : ℕ) × Finds input (Good fixlets baselines) × Appends old.held new.held (finding_line (Good fixlets baselines))
+Did (Make number) world input old new = Appends old.held new.held (office_of number)
 Did Help world input old new = Appends old.held new.held help_text
 
 -- What is found in a site's text is a refusal.
@@ -43,6 +45,7 @@ abbrev pub Refuses : Command → List ℕ → List ℕ → Type 0
 Refuses Qna input line = ⊥
 Refuses QnaWorld input line = (number : ℕ) × IsBadInput input number × (line ≡ bad_line number)
 Refuses Check input line = (finding : Finding) × Finds input finding × IsRefusal finding × (line ≡ finding_line finding)
+Refuses (Make number) input line = ⊥
 Refuses Help input line = ⊥
 
 -- The command refuses the input, and P holds of what is said of it.
@@ -58,6 +61,7 @@ Began QnaWorld world input old new =
 Began Check world input old new =
     ((fixlets baselines : ℕ) × Finds input (Good fixlets baselines) × AppendsFront old.held new.held (finding_line (Good fixlets baselines)))
     ⊎ IsRefused Check input (AppendsFront old.held new.held)
+Began (Make number) world input old new = AppendsSome old.held new.held (IsFront (office_of number))
 Began Help world input old new = AppendsSome old.held new.held (IsFront help_text)
 
 -- The command asks the machine and the clock.
@@ -65,11 +69,13 @@ abbrev pub AsksDevices : Command → Type 0
 AsksDevices Qna = ⊤
 AsksDevices QnaWorld = ⊥
 AsksDevices Check = ⊥
+AsksDevices (Make number) = ⊥
 AsksDevices Help = ⊥
 
--- The input is one that the command does not refuse. Each line of `qna` is.
+-- The input is one that the command does not refuse. Each line of `qna` is, and where nothing is read nothing is refused.
 abbrev pub IsGoodInput : Command → List ℕ → Type 0
 IsGoodInput Qna input = ⊤
 IsGoodInput QnaWorld input = (w : WorldState) × (rest : List ℕ) × IsWorldInput input w rest
 IsGoodInput Check input = (fixlets baselines : ℕ) × Finds input (Good fixlets baselines)
+IsGoodInput (Make number) input = ⊤
 IsGoodInput Help input = ⊤

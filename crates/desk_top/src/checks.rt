@@ -61,6 +61,6 @@ fn write_finding<W: Sink>(alloc: Global, finding: &Finding, sink: &mut W) -> Res
     ensures never { ¬ IsErrOf result Halt.Clock }
 {
     let mut line = Bytes::new(alloc);
-    say_finding(finding, &mut line)?;
+    say_finding(alloc, finding, &mut line)?;
     put(sink, line.as_slice())
 }

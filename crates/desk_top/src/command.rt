@@ -1,10 +1,12 @@
-// The table of commands: the words are read by it, and the help prints it.
-ghost use Rattle.std.specs.Prelude.{◌≡◌, ◌↔◌, ◌++◌, map, flat_map, IsTrue, MatchOption, IfOk, OnOk};
-ghost use Rattle.desk_top.specs.Commands.{Asks, IsNoCommand, words_of, spaced, help_line, help_text};
+// The table of commands: how words ask for one, and the help, which has a line for each.
+ghost use Rattle.std.specs.Prelude.{◌≡◌, ◌↔◌, ℕ, map, IsTrue, MatchOption};
+ghost use Rattle.desk_top.specs.Commands.{Asks, IsNoCommand, help_text};
 
-use desk_base::Bytes;
+use line_forms::read_number;
 use rel_lexer::Text;
-use std::alloc::{AllocError, Global};
+
+/// The most computers that `make` makes.
+const MOST_COMPUTERS: u64 = 2_000;
 
 /// What the words can ask for.
 #[derive(Clone, Copy)]
@@ -15,41 +17,32 @@ pub enum Command {
     QnaWorld,
     /// What is wrong first with the site whose text the source is.
     Check,
+    /// The text of an office with so many computers, from 1 to 2,000.
+    Make(u32),
     /// The words of each command.
     Help,
-}
-
-/// Every command, in the order of the help.
-const COMMANDS: [Command; 4] = [
-    Command::Qna,
-    Command::QnaWorld,
-    Command::Check,
-    Command::Help,
-];
-
-impl Command {
-    fn words(self) -> &'static [&'static str]
-        ensures { map (λ word. word.now) result.now ≡ words_of self }
-    {
-        match self {
-            Command::Qna => &["qna"],
-            Command::QnaWorld => &["qna", "--world"],
-            Command::Check => &["check"],
-            Command::Help => &["--help"],
-        }
-    }
 }
 
 /// The command that has these words.
 pub(crate) fn command_of(words: &[Text]) -> Option<Command>
     ensures { MatchOption result (IsNoCommand words.now) (Asks words.now) }
 {
-    for command in COMMANDS {
-        if are_spelled(words, command.words()) {
-            return Some(command);
-        }
+    if are_spelled(words, &["qna"]) {
+        return Some(Command::Qna);
     }
-    None
+    if are_spelled(words, &["qna", "--world"]) {
+        return Some(Command::QnaWorld);
+    }
+    if are_spelled(words, &["check"]) {
+        return Some(Command::Check);
+    }
+    if are_spelled(words, &["--help"]) {
+        return Some(Command::Help);
+    }
+    let Some(number) = number_to_make(words) else {
+        return None;
+    };
+    Some(Command::Make(number))
 }
 
 fn are_spelled(words: &[Text], spelled: &[&str]) -> bool
@@ -64,34 +57,30 @@ fn are_spelled(words: &[Text], spelled: &[&str]) -> bool
     }
 }
 
-/// A line for each command.
-pub(crate) fn help(alloc: Global) -> Result<Bytes, AllocError>
-    ensures { IfOk result (λ text. text ≡ help_text) }
+/// How many computers the words ask `make` for.
+fn number_to_make(words: &[Text]) -> Option<u32>
+    ensures { MatchOption result ((number : ℕ) → ¬ Asks words.now (Command.Make number))
+        (λ number. Asks words.now (Command.Make number)) }
 {
-    let mut text = Bytes::new(alloc);
-    for command in COMMANDS {
-        say_help_line(command, &mut text)?;
+    let [word, number] = words else {
+        return None;
+    };
+    if word.as_str() != "make" {
+        return None;
     }
-    Ok(text)
+    let Some(number) = read_number(number.as_str().as_bytes(), MOST_COMPUTERS) else {
+        return None;
+    };
+    if number == 0 {
+        return None;
+    }
+    Some(number as u32)
 }
 
-#[tactic(auto, unfolding(crate::specs::Commands::help_line))]
-fn say_help_line(command: Command, out: &mut Bytes) -> Result<(), AllocError>
-    ensures { OnOk result (out.new ≡ out.old ++ help_line command) }
+/// A line for each command. N stands for a number.
+#[tactic(auto, unfolding(crate::specs::Commands::help_text))]
+pub(crate) fn help() -> &'static [u8]
+    ensures { result.now ≡ help_text }
 {
-    out.extend(b"desk")?;
-    say_words(command.words(), out)?;
-    out.push(b'\n')
-}
-
-/// Appends a space and each word.
-fn say_words(words: &[&str], out: &mut Bytes) -> Result<(), AllocError>
-    ensures { OnOk result
-        (out.new ≡ out.old ++ flat_map spaced (map (λ word. word.now) words.now)) }
-{
-    for word in words {
-        out.push(b' ')?;
-        out.extend(word.as_bytes())?;
-    }
-    Ok(())
+    b"desk qna\ndesk qna --world\ndesk check\ndesk make N\ndesk --help\n"
 }

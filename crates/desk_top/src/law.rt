@@ -8,6 +8,7 @@ ghost use Rattle.desk_top.specs.Said.{Did, IsGoodInput, Refuses};
 ghost use Rattle.desk_top.specs.Tellings.{telling};
 
 use site_check::one_finding;
+use world_text::{a_world_is_read, one_front};
 
 /// A command says one thing: where no look fails, what is written is fixed by the input, the machine's world and the moments that the
 /// clock gives. So are the keys that `qna` looks up. An input is refused in one way, and none that a command takes is refused.
@@ -23,5 +24,8 @@ pub fn one_said()
     ensures refusals { (command : Command) (input a b : List ℕ) → Refuses command input a → Refuses command input b → a ≡ b }
     ensures apart { (command : Command) (input line : List ℕ) → IsGoodInput command input → ¬ Refuses command input line }
 {
+    // the laws of the parts, which this one is made of
     one_finding();
+    one_front();
+    a_world_is_read();
 }

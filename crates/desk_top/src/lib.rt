@@ -8,7 +8,6 @@ mod law;
 mod questions;
 mod status;
 mod top;
-mod world_input;
 
 pub use command::Command;
 pub use law::one_said;

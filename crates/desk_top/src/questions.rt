@@ -1,22 +1,21 @@
 // Questions to this machine, and to a described world.
-ghost use Rattle.std.specs.Prelude.{◌≡◌, ◌≢◌, ◌≤◌, ◌⊎◌, None, IsErrOf, MatchResult};
+ghost use Rattle.std.specs.Prelude.{◌≡◌, ◌≢◌, ◌≤◌, ◌⊎◌, ◌++◌, None, IsErrOf, MatchResult, OnOk};
 ghost use Rattle.std.specs.Io.KnownBytes.{Appends};
 ghost use Rattle.desk_base.specs.Counts.{Rose};
 ghost use Rattle.desk_base.specs.Flow.{AppendsFront};
 ghost use Rattle.desk_top.specs.Asked.{holding, IsMachineStatus, IsTextStatus, IsDescribedStatus, IsRefusalStatus};
-ghost use Rattle.desk_top.specs.Said.{Began, Did, DidDescribed, DidDescribedFront, IsRefused};
+ghost use Rattle.desk_top.specs.Said.{Began, Did, DidDescribed, DidDescribedFront, IsGoodInput, IsRefused};
 ghost use Rattle.desk_top.specs.WorldInputs.{bad_line};
 ghost use Rattle.rel_session.specs.Devices.{devices_of};
 
 use crate::described::{DescribedMachine, NoClock};
-use crate::world_input::{say_bad_line, split};
 use crate::{Command, Status};
 use bf_machine::Machine;
 use bf_world::World;
-use desk_base::{Bytes, Clock, Sink};
+use desk_base::{Bytes, Clock, Sink, decimal};
 use rel_session::{Asking, Halt, answer_lines, put};
-use std::alloc::Global;
-use world_text::{WorldError, read_world};
+use std::alloc::{AllocError, Global};
+use world_text::{WorldError, a_world_is_read, one_front, read_world, world_front};
 
 /// Answers the lines of an input by this machine, in the offset 0, each question at a moment of the clock.
 pub(crate) fn ask_machine<W: Sink, M: Machine, C: Clock>(
@@ -60,6 +59,7 @@ pub(crate) fn ask_world<W: Sink>(alloc: Global, input: &[u8], sink: &mut W) -> S
     ensures done { result ≡ Status.Done → Did Command.QnaWorld None input.now
         (holding (W.held sink.old)) (holding (W.held sink.new)) }
     ensures refused { result ≡ Status.Refused → IsRefused Command.QnaWorld input.now (Appends (W.held sink.old) (W.held sink.new)) }
+    ensures apart { result ≡ Status.Refused → ¬ IsGoodInput Command.QnaWorld input.now }
     ensures sink_front { result ≡ Status.Sink → Began Command.QnaWorld None input.now
         (holding (W.held sink.old)) (holding (W.held sink.new)) }
     ensures memory { result ≡ Status.Memory → (sink.new ≡ sink.old) ⊎ Began Command.QnaWorld None input.now
@@ -69,9 +69,12 @@ pub(crate) fn ask_world<W: Sink>(alloc: Global, input: &[u8], sink: &mut W) -> S
     ensures failed { result ≡ Status.Sink → Rose (W.faults sink.old) (W.faults sink.new) }
     ensures steady { result ≢ Status.Sink → W.faults sink.new ≡ W.faults sink.old }
 {
-    let input = split(input);
-    match read_world(alloc, input.world) {
-        Ok(world) => ask_described(alloc, world, input.rest, sink),
+    // so that an input that is refused is none with the text of a world
+    one_front();
+    a_world_is_read();
+    let front = world_front(input);
+    match read_world(alloc, front.world) {
+        Ok(world) => ask_described(alloc, world, front.rest, sink),
         Err(WorldError::BadLine(number)) => refuse(alloc, number, sink),
         Err(WorldError::Memory) => Status::Memory,
     }
@@ -126,4 +129,14 @@ fn write_bad_line<W: Sink>(alloc: Global, number: u32, sink: &mut W) -> Result<(
     let mut line = Bytes::new(alloc);
     say_bad_line(number, &mut line)?;
     put(sink, line.as_slice())
+}
+
+/// Appends what is said of a world text's first bad line.
+#[tactic(auto, unfolding(crate::specs::WorldInputs::bad_line))]
+fn say_bad_line(number: u32, out: &mut Bytes) -> Result<(), AllocError>
+    ensures { OnOk result (out.new ≡ out.old ++ bad_line number) }
+{
+    out.extend(b"bad line ")?;
+    decimal(u64::from(number), out)?;
+    out.push(b'\n')
 }

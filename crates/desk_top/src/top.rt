@@ -2,7 +2,8 @@ ghost use Rattle.std.specs.Prelude.{◌≡◌, ◌≢◌, ◌+◌, ◌≤◌, �
 ghost use Rattle.std.specs.Io.KnownBytes.{Appends};
 ghost use Rattle.desk_base.specs.Counts.{Rose, CountsAtMost};
 ghost use Rattle.desk_base.specs.Flow.{AppendsFront, AppendsSome, IsFront};
-ghost use Rattle.desk_top.specs.Commands.{Asks, AsksSome, IsNoCommand, ReadsSource, usage_line, help_text};
+ghost use Rattle.desk_top.specs.Commands.{Asks, AsksSome, IsCommand, IsNoCommand, ReadsSource, usage_line};
+ghost use Rattle.office_text.specs.Made.{office_of};
 ghost use Rattle.desk_top.specs.Runs.{input_limit, ReadsInput, TookInput, TookPart, TookTooMuch};
 ghost use Rattle.desk_top.specs.Said.{AsksDevices, Began, Did, IsGoodInput, IsRefused};
 ghost use Rattle.desk_top.specs.Statuses.{IsStatusSoFar};
@@ -14,6 +15,7 @@ use crate::questions::{ask_machine, ask_world};
 use crate::status::Status;
 use bf_machine::Machine;
 use desk_base::{Bytes, Clock, Put, Sink, Source, Whole, read_all};
+use office_text::make;
 use rel_lexer::Text;
 use rel_session::{Halt, put};
 use std::alloc::Global;
@@ -124,7 +126,11 @@ pub fn desk<S: Source, W: Sink, M: Machine, C: Clock>(
         };
     };
     match command {
-        Command::Help => match write_help(alloc, sink) {
+        Command::Help => match put(sink, help()) {
+            Ok(()) => Status::Done,
+            Err(halt) => Status::of_halt(halt),
+        },
+        Command::Make(number) => match write_office(alloc, number, sink) {
             Ok(()) => Status::Done,
             Err(halt) => Status::of_halt(halt),
         },
@@ -159,15 +165,17 @@ fn read_input<S: Source>(alloc: Global, source: &mut S) -> Result<Bytes, Status>
     }
 }
 
-fn write_help<W: Sink>(alloc: Global, sink: &mut W) -> Result<(), Halt>
+/// Writes the text of an office with so many computers.
+fn write_office<W: Sink>(alloc: Global, number: u32, sink: &mut W) -> Result<(), Halt>
+    requires { IsCommand (Command.Make number) }
     ensures written { MatchResult result
-        (λ _. Appends (W.held sink.old) (W.held sink.new) help_text)
-        (λ _. AppendsSome (W.held sink.old) (W.held sink.new) (IsFront help_text)) }
+        (λ _. Appends (W.held sink.old) (W.held sink.new) (office_of number))
+        (λ _. AppendsSome (W.held sink.old) (W.held sink.new) (IsFront (office_of number))) }
     ensures later { W.faults sink.old ≤ W.faults sink.new }
     ensures failed { IsErrOf result Halt.Sink → Rose (W.faults sink.old) (W.faults sink.new) }
     ensures steady { ¬ IsErrOf result Halt.Sink → W.faults sink.new ≡ W.faults sink.old }
     ensures never { ¬ IsErrOf result Halt.Clock }
 {
-    let text = help(alloc)?;
+    let text = make(alloc, number)?;
     put(sink, text.as_slice())
 }

@@ -106,8 +106,8 @@ fn errors_are_said(rt: HostRuntime) -> Result<(), AllocError> {
     let place = Place { from: 4, to: 11 };
     let words = Text::from_str(rt.alloc(), "printers")?;
     let mut out = Bytes::new(rt.alloc());
-    say_error(RelKind::DivideByZero, place, &mut out)?;
-    say_undefined(place, &words, &mut out)?;
+    say_error(rt.alloc(), RelKind::DivideByZero, place, &mut out)?;
+    say_undefined(rt.alloc(), place, &words, &mut out)?;
     let mut sink = MemorySink::new(rt.alloc(), Vec::new(rt.alloc()));
     assert!(rt; put(&mut sink, out.as_slice()).is_ok());
     let wanted: &[u8] =

@@ -1,5 +1,5 @@
 -- What can be told of a trace, and what is told over a stretch of it.
-use Rattle.std.proofs.Common.{◌≡◌, ◌⊎◌, ℕ, zero, suc, ◌<◌, ◌≤◌, ℤ, List, [], ◌∷◌, ◌++◌, length, Err, None, Some, inl, inr, refl, sym, ap, ◌∙◌, append_assoc, append-nil, subst, arith}
+use Rattle.std.proofs.Common.{◌≡◌, ◌⊎◌, ℕ, zero, suc, ◌<◌, ◌≤◌, ℤ, List, [], ◌∷◌, ◌++◌, length, Err, None, Some, inl, inr, refl, sym, ap, ◌∙◌, append_assoc, subst, arith}
 use Rattle.std.proofs.lemmas.Bool.{cases_order}
 use Rattle.std.specs.declared.option.Option.{Option}
 use Rattle.rel_lexer.specs.declared.place.Place.{Place}
@@ -116,13 +116,6 @@ comes_of_long offset span room v old new long said = record {
 -- a page is full
 pub comes_of_full : (offset : ℤ) (span : Place) (old new : List ℕ) → new ≡ old ++ said_more → TellsValue offset span (λ t. GoesOn (Some 0) t (λ left. Tells offset span left t)) (Out left.More) old new
 comes_of_full offset span old new said = record { said = said_more; comes = λ t. (paused t, refl, refl, refl, refl, refl); appended = said }
-
--- a page goes on
-pub comes_of_more : (offset : ℤ) (span : Place) (n : ℕ) (bytes : List ℕ) → TellsValue offset span (λ t. GoesOn (Some (suc n)) t (λ left. Tells offset span left t)) (On (Some n)) bytes bytes
-comes_of_more offset span n bytes = record { said = []; comes = λ t. (λ u told. told, refl); appended = sym (append-nil bytes) }
-
-pub comes_of_all : (offset : ℤ) (span : Place) (bytes : List ℕ) → TellsValue offset span (λ t. GoesOn None t (λ left. Tells offset span left t)) (On None) bytes bytes
-comes_of_all offset span bytes = record { said = []; comes = λ t. (λ u told. told, refl); appended = sym (append-nil bytes) }
 
 -- a text that was refused for its length
 pub too_long : (text : List ℕ) (why : ValueFault) → why ≡ fault.TextTooLong → AnswersText text (Err why) → 1048576 < length text

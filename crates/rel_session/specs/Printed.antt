@@ -1,7 +1,8 @@
 -- What is printed of a question: its line, its values, and its error.
-use Rattle.std.specs.Prelude.{◌/◌, ◌%◌, ◌++◌, ◌||◌, ◌==◌, ℕ, nat_lt, List, ◌∷◌, [], if◌then◌else◌, codes, decimal, flat_map, slice_index}
+use Rattle.std.specs.Prelude.{◌/◌, ◌%◌, ◌++◌, ◌||◌, ◌==◌, ℕ, nat_lt, List, ◌∷◌, [], if◌then◌else◌, codes, flat_map, slice_index}
 use Rattle.rel_lexer.specs.declared.place.Place.{Place}
 use Rattle.rel_trace.specs.declared.kind.RelKind.{RelKind}
+use Rattle.rel_eval.specs.Places.{place_text}
 use Rattle.rel_session.specs.Errors.{error_text, undefined_text}
 
 -- the hexadecimal digit of a number from 0 to 15, in lower case
@@ -26,7 +27,7 @@ said_value text = codes "A: " ++ printed text ++ codes "\n"
 
 -- the place where an error arose, behind the error's text
 unfoldable pub said_place : Place → List ℕ
-said_place place = codes " (" ++ decimal place.from ++ codes ".." ++ decimal place.to ++ codes ")\n"
+said_place place = codes " " ++ place_text place ++ codes "\n"
 
 -- an error, and the place where it arose
 unfoldable pub said_error : RelKind → Place → List ℕ

@@ -4,10 +4,10 @@ ghost use Rattle.rel_session.specs.Errors.{undefined_text};
 ghost use Rattle.rel_session.specs.Printed.{hex_digit, printed, printed_byte, said_error, said_fault, said_more, said_no_command, said_nothing_paused, said_place, said_question, said_undefined, said_value};
 
 use crate::errors::error_text;
-use desk_base::{Bytes, decimal};
-use rel_eval::RelKind;
+use desk_base::Bytes;
+use rel_eval::{RelKind, write_place};
 use rel_lexer::{Place, Text};
-use std::alloc::AllocError;
+use std::alloc::{AllocError, Global};
 
 #[tactic(auto, unfolding(crate::specs::Printed::said_question))]
 pub(crate) fn say_question(line: &[u8], out: &mut Bytes) -> Result<(), AllocError>
@@ -55,22 +55,32 @@ fn hex_digit(digit: u8) -> u8
 
 /// Appends the line of an error. At an error of its own, which is want of memory, a front may be appended.
 #[tactic(auto, unfolding(crate::specs::Printed::said_error))]
-pub fn say_error(kind: RelKind, place: Place, out: &mut Bytes) -> Result<(), AllocError>
+pub fn say_error(
+    alloc: Global,
+    kind: RelKind,
+    place: Place,
+    out: &mut Bytes,
+) -> Result<(), AllocError>
     ensures { OnOk result (out.new ≡ out.old ++ said_error kind place) }
 {
     out.extend(b"E: ")?;
     out.extend(error_text(kind).as_bytes())?;
-    say_place(place, out)
+    say_place(alloc, place, out)
 }
 
 /// Appends the line that nothing is defined of these words.
 #[tactic(auto, unfolding(crate::specs::Printed::said_undefined))]
-pub fn say_undefined(place: Place, words: &Text, out: &mut Bytes) -> Result<(), AllocError>
+pub fn say_undefined(
+    alloc: Global,
+    place: Place,
+    words: &Text,
+    out: &mut Bytes,
+) -> Result<(), AllocError>
     ensures { OnOk result (out.new ≡ out.old ++ said_undefined place words.now) }
 {
     out.extend(b"E: ")?;
     say_undefined_text(words, out)?;
-    say_place(place, out)
+    say_place(alloc, place, out)
 }
 
 #[tactic(auto, unfolding(crate::specs::Errors::undefined_text))]
@@ -83,22 +93,20 @@ fn say_undefined_text(words: &Text, out: &mut Bytes) -> Result<(), AllocError>
 }
 
 #[tactic(auto, unfolding(crate::specs::Printed::said_place))]
-fn say_place(place: Place, out: &mut Bytes) -> Result<(), AllocError>
+fn say_place(alloc: Global, place: Place, out: &mut Bytes) -> Result<(), AllocError>
     ensures { OnOk result (out.new ≡ out.old ++ said_place place) }
 {
-    out.extend(b" (")?;
-    decimal(u64::from(place.from), out)?;
-    out.extend(b"..")?;
-    decimal(u64::from(place.to), out)?;
-    out.extend(b")\n")
+    out.push(b' ')?;
+    write_place(alloc, place, out)?;
+    out.push(b'\n')
 }
 
 #[tactic(auto, unfolding(crate::specs::Printed::said_fault))]
-pub(crate) fn say_fault(place: Place, out: &mut Bytes) -> Result<(), AllocError>
+pub(crate) fn say_fault(alloc: Global, place: Place, out: &mut Bytes) -> Result<(), AllocError>
     ensures { OnOk result (out.new ≡ out.old ++ said_fault place) }
 {
     out.extend(b"E: The machine could not answer.")?;
-    say_place(place, out)
+    say_place(alloc, place, out)
 }
 
 #[tactic(auto, unfolding(crate::specs::Printed::said_more))]

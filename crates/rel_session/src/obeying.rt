@@ -209,7 +209,7 @@ impl Session {
     {
         let opened = match open_question(alloc, text, asked) {
             Ok(opened) => opened,
-            Err(refusal) => return Ok(say_refusal(refusal, out)?),
+            Err(refusal) => return Ok(say_refusal(alloc, refusal, out)?),
         };
         self.tell(alloc, opened, asked.asking, sink, machine, out)
     }

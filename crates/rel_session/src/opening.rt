@@ -9,7 +9,6 @@ use crate::paused::Paused;
 use desk_base::Bytes;
 use rel_eval::{Question, Refusal, prepare};
 use rel_inspect::{Pairs, Scene};
-use rel_nodes::span;
 use std::alloc::{AllocError, Global};
 use std::mem::drop;
 
@@ -58,17 +57,21 @@ fn start(alloc: Global, question: &Question, asked: Asked) -> Result<Paused, All
     let cursor = question.open(alloc, &scene)?;
     Ok(Paused {
         cursor,
-        span: span(question.plan().root()),
+        span: question.span(),
     })
 }
 
 /// Appends what a refusal says.
-pub(crate) fn say_refusal(refusal: Refusal, out: &mut Bytes) -> Result<(), AllocError>
+pub(crate) fn say_refusal(
+    alloc: Global,
+    refusal: Refusal,
+    out: &mut Bytes,
+) -> Result<(), AllocError>
     ensures { OnOk result (SaysRefusal refusal out.old out.new) }
 {
     match refusal {
-        Refusal::At(kind, place) => say_error(kind, place, out),
-        Refusal::NotDefined(place, words) => say_undefined(place, &words, out),
+        Refusal::At(kind, place) => say_error(alloc, kind, place, out),
+        Refusal::NotDefined(place, words) => say_undefined(alloc, place, &words, out),
         Refusal::Memory => Err(AllocError),
     }
 }

@@ -123,11 +123,11 @@ impl Paused {
             Pulled::Value(value) => tell_value(alloc, &value, self.span, room, asking, out),
             Pulled::End => Ok(Step::Out(Left::Nothing)),
             Pulled::Error(kind, place) => {
-                say_error(kind, place, out)?;
+                say_error(alloc, kind, place, out)?;
                 Ok(Step::Out(Left::Nothing))
             }
             Pulled::Failed(place) => {
-                say_fault(place, out)?;
+                say_fault(alloc, place, out)?;
                 Ok(Step::Out(Left::Nothing))
             }
             Pulled::Memory | Pulled::Closed => Err(AllocError),
@@ -170,7 +170,7 @@ fn tell_value(
             after_value(room, out)
         }
         Err(ValueFault::TextTooLong) => {
-            say_error(RelKind::TextTooLong, span, out)?;
+            say_error(alloc, RelKind::TextTooLong, span, out)?;
             Ok(Step::Out(Left::Nothing))
         }
         Err(_) => Err(AllocError),

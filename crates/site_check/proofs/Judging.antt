@@ -1,5 +1,5 @@
 -- What a piece is refused for, and which of several pieces.
-use Rattle.std.proofs.Common.{◌≡◌, ℕ, ◌<◌, suc, List, [], ◌∷◌, length, take, drop, get_or, All, Some, Err, refl, sym, subst, ◌+◌}
+use Rattle.std.proofs.Common.{◌≡◌, ℕ, ◌<◌, suc, List, [], ◌∷◌, length, take, drop, get_or, All, Some, refl, sym, subst, ◌+◌}
 use Rattle.std.proofs.Math.Seq.{split_at}
 use Rattle.std.proofs.lemmas.List.{take_more}
 use Rattle.std.proofs.lemmas.List.Elements.{All-nil, All-cons, All-append}
@@ -9,17 +9,10 @@ use Rattle.rel_nodes.specs.Spans.{span_of_node}
 use Rattle.rel_trace.specs.declared.kind.RelKind.{RelKind}
 use Rattle.rel_trace.specs.declared.kind.RelKind.TheVariants.{NotDefined}
 use Rattle.rel_eval.specs.Questions.{IsPlanOf, IsRefusedAs, IsUndefined, question, refused, undefined}
-use Rattle.script_text.specs.declared.error.ScriptError.{ScriptError}
-use Rattle.script_text.specs.Readings.{ReadsScript}
-use Rattle.script_text.specs.Scripts.{IsVerdict}
 use Rattle.fix_site.specs.declared.piece.Piece.{Piece}
-use Rattle.fix_site.specs.declared.piece.Piece.TheVariants.{Script}
 use Rattle.site_check.specs.declared.refusal.PieceRefusal.{PieceRefusal}
-use Rattle.site_check.specs.declared.refusal.PieceRefusal.TheVariants as refusal
 use Rattle.site_check.specs.declared.refusal.QuestionFault.{QuestionFault}
-use Rattle.site_check.specs.declared.refusal.ScriptFault.{ScriptFault}
-use Rattle.site_check.specs.declared.refusal.ScriptFault.TheVariants as script
-use Rattle.site_check.specs.Pieces.{IsNoTruth, IsGoodPiece, IsRefusedPiece, IsWrongQuestion, JudgesQuestion, line_in_text, script_error}
+use Rattle.site_check.specs.Pieces.{IsNoTruth, IsGoodPiece, IsRefusedPiece, IsWrongQuestion, JudgesQuestion}
 use Rattle.site_check.specs.Findings.{FirstRefused}
 
 pub refused_is_judged : (text : List ℕ) (fault : QuestionFault) → IsRefusedAs text fault.kind fault.place → JudgesQuestion text (Some fault)
@@ -30,19 +23,6 @@ undefined_is_judged text place words h = (undefined place words, h, (refl, refl)
 
 pub no_truth_is_judged : (text : List ℕ) (plan : PlainNode) (kind : RelKind) (place : Place) → IsPlanOf text plan → IsNoTruth plan kind → place ≡ span_of_node plan → IsWrongQuestion text kind place
 no_truth_is_judged text plan kind place h wrong at = (question plan, h, (wrong, at))
-
--- a script that isn't read is refused
-verdict_of : (lines : List (List ℕ)) (fault : ScriptFault) (line : ℕ) → ReadsScript lines (Err (script_error fault line)) → IsVerdict lines (Err (script_error fault line))
-verdict_of lines script.NoCommand line h = h
-verdict_of lines script.IfNotClosed line h = h
-verdict_of lines script.StrayElse line h = h
-verdict_of lines script.BraceNotClosed line h = h
-verdict_of lines script.CreateNotClosed line h = h
-
-pub script_is_refused : (first at line : ℕ) (lines : List (List ℕ)) (fault : ScriptFault) (e : ScriptError) → e ≡ script_error fault line → at ≡ line_in_text first line → ReadsScript lines (Err e) → IsRefusedPiece (Script first lines) (refusal.Script at fault)
-script_is_refused first at line lines fault e is moved h =
-    let P : ScriptError → Type 0 = λ x. ReadsScript lines (Err x) in
-    (line, verdict_of lines fault line (subst P is h), moved)
 
 -- one more good piece
 pub good_more : (pieces : List Piece) (i : ℕ) (piece : Piece) → i < length pieces → All IsGoodPiece (take i pieces) → IsGoodPiece (get_or pieces i piece) → All IsGoodPiece (take (i + 1) pieces)

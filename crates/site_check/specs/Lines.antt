@@ -1,7 +1,7 @@
 -- What is said of a finding: a line.
 use Rattle.std.specs.Prelude.{ℕ, List, [], ◌++◌, codes, decimal}
 use Rattle.hex.specs.Hex.{encode_lower}
-use Rattle.rel_lexer.specs.declared.place.Place.{Place}
+use Rattle.rel_eval.specs.Places.{place_text}
 use Rattle.rel_trace.specs.Kinds.{number_of}
 use Rattle.site_check.specs.declared.refusal.PieceRefusal.{PieceRefusal}
 use Rattle.site_check.specs.declared.refusal.PieceRefusal.TheVariants as refusal
@@ -32,10 +32,6 @@ digest_line stated found = codes "22 " ++ encode_lower stated ++ codes " " ++ en
 
 unfoldable pub too_long_line : List ℕ
 too_long_line = codes "23\n"
-
--- the place in a question
-unfoldable pub place_text : Place → List ℕ
-place_text place = codes "(" ++ decimal place.from ++ codes ".." ++ decimal place.to ++ codes ")"
 
 -- the number of a question's fault, and its place
 unfoldable pub question_line : ℕ → QuestionFault → List ℕ

@@ -13,7 +13,6 @@ use crate::refusal::{PieceRefusal, QuestionFault, ScriptFault};
 use fix_site::Piece;
 use rel_eval::{Question, Refusal, prepare};
 use rel_lexer::Text;
-use rel_nodes::span;
 use rel_trace::RelKind;
 use rel_value::Kind;
 use script_text::{ScriptError, an_error_tells_one_of_the_lines, read_script};
@@ -56,7 +55,7 @@ pub fn question_fault(alloc: Global, text: &str) -> Result<Option<QuestionFault>
     };
     Ok(Some(QuestionFault {
         kind,
-        place: span(question.plan().root()),
+        place: question.span(),
     }))
 }
 

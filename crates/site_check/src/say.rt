@@ -1,17 +1,17 @@
 // What is said of a finding.
 ghost use Rattle.std.specs.Prelude.{◌≡◌, ◌++◌, OnOk};
-ghost use Rattle.site_check.specs.Lines.{bad_line, digest_line, finding_line, good_line, place_text, question_line, refusal_line, script_line, script_number, too_long_line, twice_line, wrong_line};
+ghost use Rattle.site_check.specs.Lines.{bad_line, digest_line, finding_line, good_line, question_line, refusal_line, script_line, script_number, too_long_line, twice_line, wrong_line};
 
 use crate::finding::Finding;
 use crate::refusal::{PieceRefusal, QuestionFault, ScriptFault};
 use desk_base::{Bytes, decimal};
 use line_forms::write_digest;
-use rel_lexer::Place;
-use std::alloc::AllocError;
+use rel_eval::write_place;
+use std::alloc::{AllocError, Global};
 
 /// Appends the line that tells a finding; Memory has none, and appends nothing. The error is want of memory, after which `out` is of
 /// no use.
-pub fn say_finding(finding: &Finding, out: &mut Bytes) -> Result<(), AllocError>
+pub fn say_finding(alloc: Global, finding: &Finding, out: &mut Bytes) -> Result<(), AllocError>
     ensures { OnOk result (out.new ≡ out.old ++ finding_line finding.now) }
 {
     match finding {
@@ -20,7 +20,7 @@ pub fn say_finding(finding: &Finding, out: &mut Bytes) -> Result<(), AllocError>
         Finding::TwiceId(line) => say_twice(*line, out),
         Finding::WrongDigest { stated, found } => say_digests(stated, found, out),
         Finding::TooLong => say_too_long(out),
-        Finding::BadPiece(refusal) => say_refusal(*refusal, out),
+        Finding::BadPiece(refusal) => say_refusal(alloc, *refusal, out),
         Finding::Memory => Ok(()),
     }
 }
@@ -80,36 +80,30 @@ fn say_too_long(out: &mut Bytes) -> Result<(), AllocError>
     out.extend(b"23\n")
 }
 
-#[tactic(auto, unfolding(crate::specs::Lines::place_text))]
-fn say_place(place: Place, out: &mut Bytes) -> Result<(), AllocError>
-    ensures { OnOk result (out.new ≡ out.old ++ place_text place) }
-{
-    out.extend(b"(")?;
-    decimal(u64::from(place.from), out)?;
-    out.extend(b"..")?;
-    decimal(u64::from(place.to), out)?;
-    out.extend(b")")
-}
-
 /// Appends the line that tells why a piece is refused.
-fn say_refusal(refusal: PieceRefusal, out: &mut Bytes) -> Result<(), AllocError>
+fn say_refusal(alloc: Global, refusal: PieceRefusal, out: &mut Bytes) -> Result<(), AllocError>
     ensures { OnOk result (out.new ≡ out.old ++ refusal_line refusal) }
 {
     match refusal {
-        PieceRefusal::Question { line, fault } => say_question(line, fault, out),
+        PieceRefusal::Question { line, fault } => say_question(alloc, line, fault, out),
         PieceRefusal::Script { line, fault } => say_script(line, fault, out),
     }
 }
 
 #[tactic(auto, unfolding(crate::specs::Lines::question_line))]
-fn say_question(line: u32, fault: QuestionFault, out: &mut Bytes) -> Result<(), AllocError>
+fn say_question(
+    alloc: Global,
+    line: u32,
+    fault: QuestionFault,
+    out: &mut Bytes,
+) -> Result<(), AllocError>
     ensures { OnOk result (out.new ≡ out.old ++ question_line line fault) }
 {
     say_wrong_line(b"24", line, out)?;
     out.extend(b" kind ")?;
     decimal(u64::from(fault.kind.number()), out)?;
     out.extend(b" ")?;
-    say_place(fault.place, out)?;
+    write_place(alloc, fault.place, out)?;
     out.push(b'\n')
 }
 

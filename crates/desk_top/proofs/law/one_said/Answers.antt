@@ -5,4 +5,10 @@ use Rattle.desk_top.proofs.law.one_said.Goals as goal
 pub returns : goal.returns
 returns c =
     let one = c.one_finding.ensures in
-    record { bytes = bytes_once one; looks = looks_once; refusals = refusal_once one; apart = good_not_refused one }
+    let front = c.one_front.ensures in
+    record {
+      bytes = bytes_once one front;
+      looks = looks_once;
+      refusals = refusal_once one front;
+      apart = good_not_refused one front c.a_world_is_read.ensures;
+    }

@@ -2,7 +2,7 @@ use Rattle.std.proofs.Common.{◌≡◌, None, refl}
 use Rattle.rel_session.specs.Devices.{devices_of}
 use Rattle.desk_top.specs.declared.command.Command.TheVariants.{QnaWorld, Check}
 use Rattle.desk_top.specs.Asked.{holding}
-use Rattle.desk_top.proofs.Ends.{text_front, text_memory, text_complete, text_refusal, text_refused, world_apart}
+use Rattle.desk_top.proofs.Ends.{text_front, text_memory, text_complete, text_refusal, text_refused}
 use Rattle.desk_top.proofs.top.desk.Goals as goal
 
 pub returns-in-Ok-read_input-2-clause-sink_front : goal.returns-in-Ok-read_input-2-clause-sink_front
@@ -33,7 +33,7 @@ returns-in-Ok-read_input-2-clause-complete g c command asks left no_source no_si
     let asked = rw c.in-QnaWorld.is at c.in-Some.ensures in
     let read = c.in-Ok-read_input-2.ensures.reads in
     text_complete QnaWorld _ command _ _ _ _ _ asked asks c.as_slice-in-Ok-read_input-2.ensures
-    (record { takes = read.0; ends = read.1; short = read.2 }) c.ask_world.ensures.status (world_apart _ _ _ c.ask_world.ensures.refused) left (λ s. no_sink (c.ask_world.ensures.failed s))
+    (record { takes = read.0; ends = read.1; short = read.2 }) c.ask_world.ensures.status c.ask_world.ensures.apart left (λ s. no_sink (c.ask_world.ensures.failed s))
 
 pub returns-in-Ok-read_input-2-clause-refused_comes : goal.returns-in-Ok-read_input-2-clause-refused_comes
 returns-in-Ok-read_input-2-clause-refused_comes g c command asks left no_source no_sink =

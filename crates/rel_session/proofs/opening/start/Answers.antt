@@ -1,8 +1,6 @@
 use mir.Val.{to_z, of_z}
 use Rattle.std.proofs.Common.{None, ap, ◌∙◌, rules, SFits, w64}
 use Rattle.std.proofs.lemmas.Int.{to_z-of_z}
-use Rattle.rel_types.specs.Shown.{shown_plan}
-use Rattle.rel_nodes.specs.Spans.{span_of_node}
 use Rattle.rel_eval.specs.Cuts.{meaning}
 use Rattle.rel_eval.specs.Questions.{plan_of}
 use Rattle.rel_session.specs.Waiting.{left_of, meaning_of, span_of}
@@ -20,5 +18,5 @@ returns c =
           ∙ ap (λ z. meaning w (record { moment = z; offset = to_z w64 (of_z w64 asked.asking.offset); parameters = c.new.result; exit = None }) plan) (to_z-of_z w64 asked.moment moment)
           ∙ ap (λ z. meaning w (record { moment = asked.moment; offset = z; parameters = c.new.result; exit = None }) plan) (to_z-of_z w64 asked.asking.offset offset)
           ∙ ap (λ l. meaning w (record { moment = asked.moment; offset = asked.asking.offset; parameters = l; exit = None }) plan) c.new.ensures;
-      span = c.span.ensures ∙ ap span_of_node (c.root.ensures.node ∙ ap shown_plan c.plan.ensures);
+      span = c.span.ensures;
     }

@@ -1,6 +1,4 @@
-use Rattle.std.proofs.Common.{List, ℕ, Ok, subst, ap, ◌∙◌}
-use Rattle.rel_nodes.specs.Spans.{span_of_node}
-use Rattle.rel_types.specs.Shown.{shown_plan}
+use Rattle.std.proofs.Common.{List, ℕ, Ok, subst}
 use Rattle.rel_eval.specs.Answers.{Prepares}
 use Rattle.rel_eval.specs.Questions.{plan_of}
 use Rattle.site_check.proofs.Judging.{no_truth_is_judged}
@@ -11,4 +9,4 @@ returns c =
     let P : List ℕ → Type 0 = λ text. Prepares text (Ok c.in-Ok.question) in
     no_truth_is_judged c.args.text.now (plan_of c.in-Ok.question) c.in-Some.kind c.span.result
     (subst P c.as_bytes.ensures.value c.in-Ok.ensures)
-    c.in-Some.ensures (c.span.ensures ∙ ap span_of_node (c.root.ensures.node ∙ ap shown_plan c.plan.ensures))
+    c.in-Some.ensures c.span.ensures
