@@ -2,6 +2,7 @@
 use Rattle.std.proofs.Common.{◌≡◌, ◌≢◌, ◌⊎◌, ℕ, ◌≤◌, arith, List, [], ◌∷◌, ◌++◌, length, None, Some, inl, inr, refl, sym, ap, subst, ◌∙◌, append-nil}
 use Rattle.std.specs.Prelude.{⊤, IsSomeAnd}
 use Rattle.std.specs.Io.KnownBytes.{Consumes, IsAtEnd}
+use Rattle.std.proofs.KnownBytes.{Keeps-refl}
 use Rattle.std.proofs.lemmas.Fmt.{decimal_injective}
 use Rattle.std.specs.declared.option.Option.{Option}
 use Rattle.std.specs.declared.result.Result.{Result}
@@ -166,6 +167,13 @@ pub text_front : (k : Command) → IsTextCommand k → (words : List (List ℕ))
 text_front k text words command old new world taken input d d' asked asks is all began =
     let P : Command → Type 0 = λ m. TookInput m old new (λ i. Began m world i d d') in
     subst P (one_command words k command asked asks) (took k text old new taken input (λ i. Began k world i d d') is all began)
+
+-- a command that reads nothing
+pub made_front : (words : List (List ℕ)) (number : ℕ) (command : Command) (old : Option (List ℕ)) (world : Option WorldState) (d d' : Devices)
+    → Asks words (Make number) → Asks words command → Began (Make number) world [] d d' → TookInput command old old (λ i. Began command world i d d')
+made_front words number command old world d d' asked asks began =
+    let P : Command → Type 0 = λ m. TookInput m old old (λ i. Began m world i d d') in
+    subst P (one_command words (Make number) command asked asks) (Keeps-refl old, began)
 
 pub text_memory : (k : Command) → IsTextCommand k → (Unwritten Unasked Undated : Type 0) (old new : Option (List ℕ)) (world : Option WorldState) (taken input : List ℕ) (d d' : Devices)
     → input ≡ taken → TakesAll old new taken → Unasked → Undated → Unwritten ⊎ Began k world input d d'

@@ -62,9 +62,15 @@ fn number_to_make(words: &[Text]) -> Option<u32>
     ensures { MatchOption result ((number : ℕ) → ¬ Asks words.now (Command.Make number))
         (λ number. Asks words.now (Command.Make number)) }
 {
-    let [word, number] = words else {
+    let Some((word, words)) = words.split_first() else {
         return None;
     };
+    let Some((number, words)) = words.split_first() else {
+        return None;
+    };
+    if !words.is_empty() {
+        return None;
+    }
     if word.as_str() != "make" {
         return None;
     }

@@ -2,7 +2,7 @@ use Rattle.std.proofs.Common.{◌≡◌, None, refl}
 use Rattle.rel_session.specs.Devices.{devices_of}
 use Rattle.desk_top.specs.declared.command.Command.TheVariants.{QnaWorld, Check}
 use Rattle.desk_top.specs.Asked.{holding}
-use Rattle.desk_top.proofs.Ends.{text_front, text_memory, text_complete, text_refusal, text_refused}
+use Rattle.desk_top.proofs.Ends.{made_front, text_front, text_memory, text_complete, text_refusal, text_refused}
 use Rattle.desk_top.proofs.top.desk.Goals as goal
 
 pub returns-in-Ok-read_input-2-clause-sink_front : goal.returns-in-Ok-read_input-2-clause-sink_front
@@ -84,3 +84,8 @@ returns-in-Ok-read_input-3-clause-refused_comes g c command asks left no_source 
     let read = c.in-Ok-read_input-3.ensures.reads in
     text_refused Check tt _ command _ _ None _ _ (holding (g.W.Sink.held c.args.sink.now)) (holding (g.W.Sink.held c.check_input.new.sink)) _ asked asks c.as_slice-in-Ok-read_input-3.ensures
     (record { takes = read.0; ends = read.1; short = read.2 }) c.check_input.ensures.status c.check_input.ensures.done left (λ s. no_sink (c.check_input.ensures.failed s))
+
+pub returns-in-Err-write_office-clause-sink_front : goal.returns-in-Err-write_office-clause-sink_front
+returns-in-Err-write_office-clause-sink_front g c is command asks =
+    let asked = rw c.in-Make.is at c.in-Some.ensures in
+    made_front _ c.in-Make.number command _ _ _ _ asked asks c.in-Err-write_office.ensures.written
