@@ -74,5 +74,5 @@ of_forget other rest e = let s : word_sum (first_fields other) ≡ 647 = ap word
 
 -- the last line of an office is the first one of no order
 pub not_end : (o : Order) (rest : Lines) → first_fields o ≡ codes "end" ∷ rest → ⊥
-not_end (order.Publish text) rest e = let s : 759 ≡ 311 = ap word_sum e in omega arith
+not_end (order.Publish text) rest e = let s : word_sum (first_fields (order.Publish text)) ≡ 311 = ap word_sum e in omega arith
 not_end other rest e = let s : word_sum (first_fields other) ≡ 311 = ap word_sum e in omega arith

@@ -23,6 +23,10 @@ site_body =
 unfoldable pub site_digest : List ℕ
 site_digest = sha256 (lines_text site_body)
 
+-- the site
+abbrev pub site_lines : List (List ℕ)
+site_lines = site_body ++ (field_text (codes "digest") ++ encode_lower site_digest) ∷ []
+
 -- the action that runs the fixlet on every computer
 unfoldable pub action_lines : List (List ℕ)
 action_lines =
@@ -84,13 +88,21 @@ turn_lines place =
 abbrev pub places : ℕ → List ℕ
 places number = range_with_len 1 number
 
+-- the lines of so many computers, and of their turns
+abbrev pub computers_lines : ℕ → List (List ℕ)
+computers_lines number = flat_map (λ place. computer_lines place (minor number place)) (places number)
+
+abbrev pub turns_lines : ℕ → List (List ℕ)
+turns_lines number = flat_map turn_lines (places number)
+
 -- the lines for so many computers
 abbrev pub made_lines : ℕ → List (List ℕ)
 made_lines number =
-    (codes "office" ∷ codes "publish" ∷ site_body)
-    ++ ((field_text (codes "digest") ++ encode_lower site_digest) ∷ codes "act" ∷ action_lines)
-    ++ (codes "relay r1" ∷ flat_map (λ place. computer_lines place (minor number place)) (places number))
-    ++ (codes "gather r1" ∷ flat_map turn_lines (places number))
+    (codes "office" ∷ codes "publish" ∷ [])
+    ++ site_lines
+    ++ (codes "act" ∷ action_lines)
+    ++ (codes "relay r1" ∷ computers_lines number)
+    ++ (codes "gather r1" ∷ turns_lines number)
     ++ (codes "forward r1" ∷ codes "end" ∷ [])
 
 -- the text for so many computers

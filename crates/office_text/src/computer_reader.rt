@@ -1,12 +1,11 @@
-ghost use Rattle.std.specs.Prelude.{MatchOption, List, ℕ, ◌∷◌, ◌≡◌};
-ghost use Rattle.office_text.specs.Readings.{AreNewNames, computer_line, FindsNames, IsInText, TakesComputer};
+ghost use Rattle.office_text.specs.Readings.{FindsNames, IsInText, TakesComputer};
 
 use crate::error::OfficeError;
 use crate::field_reader::{take_new_computer_name, take_relay_name};
 use crate::order::Order;
 use crate::orders_so_far::OrdersSoFar;
 use crate::text_reader::{Last, take_to};
-use line_forms::{Fields, Lines};
+use line_forms::{Fields, Lines, lines_are_read_again, lines_make_the_text};
 use rel_lexer::Text;
 use std::alloc::Global;
 use world_text::{WorldError, read_named_world};
@@ -36,6 +35,8 @@ pub(crate) fn take_computer_order(
     let name = Text::from_str(alloc, names.computer)?;
     let relay = Text::from_str(alloc, names.relay)?;
     let taken = take_to(alloc, Last::End, lines)?;
+    lines_make_the_text();
+    lines_are_read_again();
     match read_named_world(alloc, names.computer, taken.text.as_slice()) {
         Ok(world) => Ok(Some(Order::Computer { name, relay, world })),
         Err(WorldError::BadLine(line)) => {

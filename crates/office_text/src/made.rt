@@ -1,6 +1,6 @@
-ghost use Rattle.std.specs.Prelude.{◌≡◌, ◌++◌, ◌≤◌, IfOk, OnOk, flat_map};
+ghost use Rattle.std.specs.Prelude.{◌≡◌, ◌++◌, ◌≤◌, IfOk, OnOk};
 ghost use Rattle.line_forms.specs.Lines.{lines_text};
-ghost use Rattle.office_text.specs.Made.{office_of, site_body, action_lines, computer_lines, minor, next_draw, places, turn_lines};
+ghost use Rattle.office_text.specs.Made.{office_of, site_body, site_lines, action_lines, computer_lines, computers_lines, next_draw, turn_lines, turns_lines};
 
 use desk_base::{Bytes, decimal};
 use line_forms::write_digest;
@@ -26,7 +26,9 @@ pub fn make(alloc: Global, number: u32) -> Result<Bytes, AllocError>
 }
 
 /// Appends the site with its digest.
-fn add_site(out: &mut Bytes) -> Result<(), AllocError> {
+fn add_site(out: &mut Bytes) -> Result<(), AllocError>
+    ensures { OnOk result (out.new ≡ out.old ++ lines_text site_lines) }
+{
     let body = site_text();
     out.extend(body)?;
     out.extend(b"digest ")?;
@@ -49,7 +51,7 @@ fn action_text() -> &'static [u8]
 /// Appends the computers.
 fn add_computers(number: u32, out: &mut Bytes) -> Result<(), AllocError>
     requires { number ≤ 2000 }
-    ensures { OnOk result (out.new ≡ out.old ++ lines_text (flat_map (λ place. computer_lines place (minor number place)) (places number))) }
+    ensures { OnOk result (out.new ≡ out.old ++ lines_text (computers_lines number)) }
 {
     let mut drawn = u64::from(number);
     for place in 0..number {
@@ -83,7 +85,7 @@ fn add_computer(place: u32, minor: u64, out: &mut Bytes) -> Result<(), AllocErro
 /// Appends the turns and reports.
 fn add_turns(number: u32, out: &mut Bytes) -> Result<(), AllocError>
     requires { number ≤ 2000 }
-    ensures { OnOk result (out.new ≡ out.old ++ lines_text (flat_map turn_lines (places number))) }
+    ensures { OnOk result (out.new ≡ out.old ++ lines_text (turns_lines number)) }
 {
     for place in 0..number {
         add_turn(place + 1, out)?;

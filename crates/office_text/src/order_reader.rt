@@ -1,3 +1,4 @@
+ghost use Rattle.std.specs.Prelude.{◌≡◌, MatchOption};
 ghost use Rattle.office_text.specs.Readings.{IsInText, TakesOrder};
 
 use crate::computer_reader::take_computer_order;
@@ -39,7 +40,9 @@ pub(crate) fn take_order(
 }
 
 /// An order whose lines were taken, or the line at which they don't go on.
-fn whole(order: Option<Order>, lines: &Lines<'_>) -> Result<Option<Order>, OfficeError> {
+fn whole(order: Option<Order>, lines: &Lines<'_>) -> Result<Option<Order>, OfficeError>
+    ensures { MatchOption order (result ≡ Err (OfficeError.BadLine lines.now.number)) (λ order. result ≡ Ok (Some order)) }
+{
     match order {
         Some(order) => Ok(Some(order)),
         None => Err(OfficeError::BadLine(lines.number())),
