@@ -145,17 +145,38 @@ fn texts_end_at_their_lines(rt: HostRuntime) -> Result<(), Fail> {
 
 /// Worlds of a computer `c`, each with the number of the first bad line of the whole.
 const WORLDS: [(&str, u32); 12] = [
-    ("world\nname c\nsystem 1 x\noffset 0\nmoment 0\nend\nend\n", 0),
-    ("world\nname d\nsystem 1 x\noffset 0\nmoment 0\nend\nend\n", 5),
+    (
+        "world\nname c\nsystem 1 x\noffset 0\nmoment 0\nend\nend\n",
+        0,
+    ),
+    (
+        "world\nname d\nsystem 1 x\noffset 0\nmoment 0\nend\nend\n",
+        5,
+    ),
     ("world\nname d\nsystem x\noffset 0\nmoment 0\nend\nend\n", 5),
-    ("worlds\nname d\nsystem 1 x\noffset 0\nmoment 0\nend\nend\n", 4),
-    ("world\nname c\nsystem 1 x\noffset 0\nmoment 0\nfolder a\nend\nend\n", 0),
-    ("world\nname c\nsystem 1 x\noffset 0\nmoment 0\nfolder /\nend\nend\n", 9),
+    (
+        "worlds\nname d\nsystem 1 x\noffset 0\nmoment 0\nend\nend\n",
+        4,
+    ),
+    (
+        "world\nname c\nsystem 1 x\noffset 0\nmoment 0\nfolder a\nend\nend\n",
+        0,
+    ),
+    (
+        "world\nname c\nsystem 1 x\noffset 0\nmoment 0\nfolder /\nend\nend\n",
+        9,
+    ),
     ("world\nname c\nsystem 1 x\noffset 0\nmoment 0\nend\n", 10),
-    ("world\nname c\nsystem 1 x\noffset 0\nmoment 0\nfile 0 a\n| x\n", 11),
+    (
+        "world\nname c\nsystem 1 x\noffset 0\nmoment 0\nfile 0 a\n| x\n",
+        11,
+    ),
     ("world\nname c\nsystem 1 x\noffset 0\nend\nend\n", 8),
     ("end\n", 4),
-    ("world\nname c\nsystem 1 x\noffset 0\nmoment 0\nend\ncomputer c r\n", 10),
+    (
+        "world\nname c\nsystem 1 x\noffset 0\nmoment 0\nend\ncomputer c r\n",
+        10,
+    ),
     ("", 4),
 ];
 

@@ -35,7 +35,8 @@ forget r1
 end
 ";
 
-const WANTED: &str = "publish site.digest x.;act action.end.;stop 7;file a..;relay r1;computer c1 r1 c1 60;gather r1;turn c1 1000;restart c1;send c1 2;push r1;deliver 3;report c1;forward r1;forget r1;";
+const WANTED: &str =
+    "publish site.digest x.;act action.end.;stop 7;file a..;relay r1;computer c1 r1 c1 60;gather r1;turn c1 1000;restart c1;send c1 2;push r1;deliver 3;report c1;forward r1;forget r1;";
 
 /// Appends what an order says; a dot stands for an LF.
 fn write(alloc: Global, order: &Order, words: &mut String) -> Result<(), Fail> {
@@ -85,7 +86,11 @@ fn write_number(alloc: Global, word: &str, number: u64, words: &mut String) -> R
 fn write_text(word: &str, text: &[u8], words: &mut String) -> Result<(), Fail> {
     write_name(word, "", words)?;
     for byte in text {
-        words.push(if *byte == b'\n' { '.' } else { char::from(*byte) })?;
+        words.push(if *byte == b'\n' {
+            '.'
+        } else {
+            char::from(*byte)
+        })?;
     }
     Ok(())
 }

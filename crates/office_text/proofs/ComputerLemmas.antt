@@ -1,14 +1,17 @@
 -- The lines of a computer: those of its world, and where they stop.
-use Rattle.std.proofs.Common.{ℕ, zero, suc, ◌≡◌, ◌≢◌, pos, ◌+◌, ◌-◌, ◌^◌, ◌<◌, ◌≤◌, min, List, [], ◌∷◌, ◌++◌, length, take, drop, Bool, true, false, refl, sym, ap, subst, ◌∙◌, arith, ◌⊎◌, inl, inr, All, append_assoc, append-nil, length-append}
+use Rattle.std.proofs.Common.{ℕ, zero, suc, ◌≡◌, ◌≢◌, pos, ◌+◌, ◌-◌, ◌^◌, ◌<◌, ◌≤◌, min, List, [], ◌∷◌, ◌++◌, length, take, drop, Bool, true, false, None, Some, refl, sym, ap, subst, ◌∙◌, arith, ◌⊎◌, inl, inr, All, append_assoc, append-nil, length-append}
 use Rattle.std.specs.Prelude.{codes, Ok}
-use Rattle.std.proofs.lemmas.List.{take-append-drop, take_all, length-take-le}
+use Rattle.std.proofs.lemmas.List.{append_cancel_left, take-append-drop, take_all, length-take-le}
 use Rattle.std.proofs.lemmas.List.Elements.{All-nil, All-cons, All-head, All-tail}
 use Rattle.line_forms.specs.BadLines.{Begins, AnswersBadLine, IsFirstBadLine}
 use Rattle.line_forms.specs.LineStates.{LineState, lines_of, unended_of}
 use Rattle.line_forms.specs.Lines.{IsLine, StandsBehind, lines_text}
-use Rattle.line_forms.specs.Readers.{Passes, StopsAt}
+use Rattle.line_forms.specs.FieldLists.{fields_of, line_of}
+use Rattle.line_forms.specs.Fields.{field_text}
+use Rattle.line_forms.specs.Readers.{IsNotAhead, Passes, StopsAt}
 use Rattle.line_forms.proofs.BadLines.{Begins-good}
 use Rattle.line_forms.proofs.Passing.{cons_head, cons_tail, passes_then}
+use Rattle.line_forms.proofs.Pieces.{join-pieces}
 use Rattle.bf_world.specs.Worlds.{WorldState, bare}
 use Rattle.world_text.specs.Texts.{AreNamedLines, Describes, ReadsNamedWorld}
 use Rattle.office_text.specs.declared.order.Order.{Order}
@@ -16,10 +19,10 @@ use Rattle.office_text.specs.declared.order.Order.TheVariants as order
 use Rattle.office_text.specs.declared.text_reader.Last.TheVariants as last
 use Rattle.office_text.specs.Orders.{CanFollow}
 use Rattle.office_text.specs.OrderLines.{first_fields, first_line, IsBody, EndsAt, IsEnd}
-use Rattle.office_text.specs.Readings.{AreNewNames, AreNextLines, computer_line, HaveEnded, IsBadAt, IsInText}
+use Rattle.office_text.specs.Readings.{AreNewNames, AreNextLines, computer_line, HaveEnded, IsBadAt, IsInText, IsNewComputer, IsRelay, TakesComputer, TakesField, itself}
 use Rattle.office_text.proofs.Fronts.{Lines, nothing, something, ends_not_among, ends_same}
 use Rattle.office_text.proofs.BodyLemmas.{world_ends}
-use Rattle.office_text.proofs.FieldLemmas.{first_one}
+use Rattle.office_text.proofs.FieldLemmas.{first_one, names_again}
 use Rattle.office_text.proofs.Stops.{behind_first}
 use Rattle.office_text.proofs.WordLemmas.{of_computer}
 
@@ -183,3 +186,46 @@ computer_bad before name relay L old mid new ended n first answer names there ag
       computer_stops before name relay (take (k - 1) L) (behind mid (take (k - 1) L) (drop (k - 1) L ++ new.lines)) names (world_stops name L mid new ended k again have bad),
       number_on old mid (computer_line (name, relay)) L k n first answer there one low most n_is first_is answer_is,
     )
+
+-- ---- the names on a line, behind its word
+abbrev names_line : List ℕ → List ℕ
+names_line rest = field_text (codes "computer") ++ rest
+
+-- they are its fields
+fields_are : (before : List Order) (state : LineState) (rest : List ℕ) (more : Lines) (names : List ℕ × List ℕ) (left : Lines) → state.lines ≡ names_line rest ∷ more → AreNewNames before names → state.lines ≡ computer_line names ∷ left →
+    fields_of rest ≡ names.0 ∷ names.1 ∷ []
+fields_are before state rest more names left is new e =
+    let same : names_line rest ≡ names_line (line_of (names.0 ∷ names.1 ∷ [])) = cons_head (names_line rest) (computer_line names) more left (sym is ∙ e) in
+    ap fields_of (append_cancel_left (field_text (codes "computer")) rest (line_of (names.0 ∷ names.1 ∷ [])) same) ∙ names_again names.0 names.1 new.0.0 new.1.0
+
+pub name_missing : (before : List Order) (state : LineState) (rest : List ℕ) (more fields left : Lines) → state.lines ≡ names_line rest ∷ more → fields ≡ fields_of rest → TakesField (IsNewComputer before) itself fields left None →
+    IsNotAhead (AreNewNames before) computer_line state
+name_missing before state rest more fields left is fields_is none names behind new e =
+    none names.0 (names.1 ∷ []) new.0 (fields_is ∙ fields_are before state rest more names behind is new e)
+
+pub relay_missing : (before : List Order) (state : LineState) (rest name : List ℕ) (more fields mid left : Lines) → state.lines ≡ names_line rest ∷ more → fields ≡ fields_of rest → fields ≡ name ∷ mid → TakesField (IsRelay before) itself mid left None →
+    IsNotAhead (AreNewNames before) computer_line state
+relay_missing before state rest name more fields mid left is fields_is first none names behind new e =
+    none names.1 [] new.1 (cons_tail name names.0 mid (names.1 ∷ []) (sym first ∙ fields_is ∙ fields_are before state rest more names behind is new e))
+
+pub more_names : (before : List Order) (state : LineState) (rest name relay : List ℕ) (more fields mid left : Lines) → state.lines ≡ names_line rest ∷ more → fields ≡ fields_of rest → fields ≡ name ∷ mid → mid ≡ relay ∷ left → (left ≡ [] → ⊥) →
+    IsNotAhead (AreNewNames before) computer_line state
+more_names before state rest name relay more fields mid left is fields_is first second some names behind new e =
+    some (cons_tail relay names.1 left [] (sym second ∙ cons_tail name names.0 mid (names.1 ∷ []) (sym first ∙ fields_is ∙ fields_are before state rest more names behind is new e)))
+
+pub names_are : (state : LineState) (rest name relay : List ℕ) (more fields mid left : Lines) → state.lines ≡ names_line rest ∷ more → fields ≡ fields_of rest → fields ≡ name ∷ mid → mid ≡ relay ∷ left → left ≡ [] → state.lines ≡ computer_line (name, relay) ∷ more
+names_are state rest name relay more fields mid left is fields_is first second none =
+    let all : fields_of rest ≡ name ∷ relay ∷ [] = sym fields_is ∙ first ∙ ap (λ l. name ∷ l) (second ∙ ap (λ l. relay ∷ l) none) in
+    is ∙ ap (λ l. names_line l ∷ more) (sym (join-pieces 32 rest) ∙ ap line_of all)
+
+-- ---- a computer with its world
+pub computer_read : (before : List Order) (name relay own_name own_relay : List ℕ) (world : WorldState) (L : Lines) (text : List ℕ) (old mid new : LineState) → AreNewNames before (name, relay) → IsAgain L → Passes old mid (computer_line (name, relay) ∷ []) →
+    Passes mid new L → text ≡ lines_text L → ReadsNamedWorld name text (Ok world) → own_name ≡ name → own_relay ≡ relay → TakesComputer before old new (Ok (Some (order.Computer own_name own_relay world)))
+computer_read before name relay own_name own_relay world L text old mid new names again one more text_is read name_is relay_is =
+    let T : List ℕ → Type 0 = λ t. ReadsNamedWorld name t (Ok world) in
+    let D : Lines → Type 0 = λ l. Describes l world in
+    let R : List ℕ → List ℕ → Type 0 = λ n r. TakesComputer before old new (Ok (Some (order.Computer n r world))) in
+    let named = subst T text_is read in
+    let described : Describes L world = subst D again.lines_are named.0.1 in
+    let taken : R name relay = (L, computer_can before name relay world names, (described, named.1), passes_then old mid new (computer_line (name, relay) ∷ []) L one more) in
+    subst (λ n. R n own_relay) (sym name_is) (subst (λ r. R name r) (sym relay_is) taken)

@@ -124,5 +124,6 @@ first_one a b is also e = sym (first_again a is) ∙ ap fields_of e ∙ first_ag
 pub line_again : (line : List ℕ) → list_all (λ x. nat_le 45 x) line ≡ true → fields_of line ≡ line ∷ []
 line_again line h = again (line ∷ []) (omega arith) (one_plain line h)
 
-pub computer_again : (name relay : List ℕ) → IsName name → IsName relay → fields_of (line_of (codes "computer" ∷ name ∷ relay ∷ [])) ≡ codes "computer" ∷ name ∷ relay ∷ []
-computer_again name relay is also = again (codes "computer" ∷ name ∷ relay ∷ []) (omega arith) (three_plain (codes "computer") name relay refl (plain_name name is) (plain_name relay also))
+-- two names
+pub names_again : (name relay : List ℕ) → IsName name → IsName relay → fields_of (line_of (name ∷ relay ∷ [])) ≡ name ∷ relay ∷ []
+names_again name relay is also = again (name ∷ relay ∷ []) (omega arith) (All-cons IsPlain name (relay ∷ []) (plain_name name is) (All-cons IsPlain relay [] (plain_name relay also) (All-nil IsPlain)))

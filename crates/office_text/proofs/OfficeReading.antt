@@ -25,6 +25,10 @@ in_text old new lines (text, before, stands) passes = (text, before ++ lines, pa
 pub at_first : (text : List ℕ) → IsInText (before_lines text)
 at_first text = (text, [], StandsBehind-start text)
 
+-- a cursor that began before the first line
+pub from_first : (text : List ℕ) (start new : LineState) (lines : Lines) → start ≡ before_lines text → Passes start new lines → Passes (before_lines text) new lines
+from_first text start new lines is passes = let P : LineState → Type 0 = λ s. Passes s new lines in subst P is passes
+
 -- ---- the orders
 pub has_none : (state : LineState) → HasOrders state state []
 has_none state = record { lines = []; each = each_none; are = refl; passes = passes_none state }

@@ -11,7 +11,7 @@ use Rattle.office_text.specs.declared.order.Order.{Order}
 use Rattle.office_text.specs.declared.order.Order.TheVariants as order
 use Rattle.office_text.specs.Orders.{CanFollow}
 use Rattle.office_text.specs.OrderLines.{first_line, AreTextTo, HoldContent, IsBody, IsEnd, IsSiteEnd}
-use Rattle.office_text.specs.Readings.{AreNewNames, AreNextLines, computer_line, IsShort, TakesBody, TakesOr, TakesOrder}
+use Rattle.office_text.specs.Readings.{AreNewNames, AreNextLines, computer_line, IsShort, TakesBody, TakesComputer, TakesOrder}
 use Rattle.office_text.proofs.Fronts.{Lines}
 use Rattle.office_text.proofs.FieldLemmas.{first_one}
 use Rattle.office_text.proofs.Stops.{behind_first}
@@ -89,3 +89,33 @@ none_ahead before state short publish act file computer (order.Act text) more ca
 none_ahead before state short publish act file computer (order.File bytes) more can e = file more e
 none_ahead before state short publish act file computer (order.Computer name relay world) more can e = computer (name, relay) more ((can.form.0, can.names.0), (can.form.1, can.names.1)) e
 none_ahead before state short publish act file computer other more can e = short other more (can, refl) e
+
+-- a word that was ahead, and one that wasn't
+pub word_taken : (word : List ℕ) (start old new : LineState) (answer : Bool) → old ≡ start → answer ≡ true → TakesExactly word old new answer → Passes start new (word ∷ [])
+word_taken word start old new answer same is takes =
+    let T : Bool → Type 0 = TakesExactly word old new in
+    let P : LineState → Type 0 = λ s. Passes s new (word ∷ []) in
+    subst P same (subst T is takes)
+
+pub still : (word : List ℕ) (start old new : LineState) (answer : Bool) → old ≡ start → answer ≡ false → TakesExactly word old new answer → new ≡ start
+still word start old new answer same is takes = let T : Bool → Type 0 = TakesExactly word old new in (subst T is takes).0 ∙ same
+
+pub not_ahead : (word : List ℕ) (start old new : LineState) (answer : Bool) → old ≡ start → answer ≡ false → TakesExactly word old new answer → (more : Lines) → ¬ (start.lines ≡ word ∷ more)
+not_ahead word start old new answer same is takes more e =
+    let T : Bool → Type 0 = TakesExactly word old new in
+    (subst T is takes).1 more (ap (λ (s : LineState). s.lines) same ∙ e)
+
+-- no order of one line was ahead
+pub no_short : (before : List Order) (start new : LineState) (answer : Option Order) → answer ≡ None → TakesOne (IsShort before) first_line start new answer → (new ≡ start) × IsNotAhead (IsShort before) first_line start
+no_short before start new answer is takes = let T : Option Order → Type 0 = TakesOne (IsShort before) first_line start new in subst T is takes
+
+-- a computer, or no order
+pub computer_or_none : (before : List Order) (start old new : LineState) (answer : Result (Option Order) OfficeError) → old ≡ start → (IsNotAhead (AreNewNames before) computer_line start → IsNotAhead (CanFollow before) first_line start) →
+    TakesComputer before old new answer → TakesOrder before start new answer
+computer_or_none before start old new answer same none takes = let T : LineState → Type 0 = λ s. TakesComputer before s new answer in by answer (subst T same takes)
+  where
+    by : (answer : Result (Option Order) OfficeError) → TakesComputer before start new answer → TakesOrder before start new answer
+    by (Ok (Some order)) h = h
+    by (Ok None) h = (h.0, none h.1)
+    by (Err (error.BadLine line)) h = h
+    by (Err error.Memory) h = h

@@ -1,6 +1,6 @@
 -- Orders of one line, and the fields of their lines.
 use Rattle.std.proofs.Common.{ℕ, zero, suc, ◌≡◌, ◌+◌, ◌<◌, ◌==◌, ◌||◌, if◌then◌else◌, ℤ, List, [], ◌∷◌, ◌++◌, length, Option, Some, None, refl, sym, ap, subst, ◌∙◌, arith, append-nil, length-append}
-use Rattle.std.specs.Prelude.{codes, decimal, MatchOption}
+use Rattle.std.specs.Prelude.{codes, decimal, IsSomeAnd, MatchOption}
 use Rattle.std.specs.Fmt.{signed_decimal}
 use Rattle.std.proofs.lemmas.List.{nil_from_length}
 use Rattle.line_forms.specs.FieldLists.{fields_of, line_of}
@@ -33,6 +33,12 @@ first_of o field old more e = split (first_fields o) (some o) e
     split [] h e = absurd (omega (arith, h))
     split (x ∷ fields) h e = (fields, ap (λ z. z ∷ fields) (sym (cons_head field x old (fields ++ more) e)), cons_tail field x old (fields ++ more) e)
 
+-- what was found, put into an order
+pub mapped : {V : Type 0} (make : V → Order) (taken : Option V) (answer : Option Order) → MatchOption taken (answer ≡ None) (λ v. IsSomeAnd answer (λ o. o ≡ make v)) → MatchOption taken (answer ≡ None) (λ v. answer ≡ Some (make v))
+mapped make None answer h = h
+mapped make (Some v) None h = absurd h
+mapped make (Some v) (Some o) h = ap Some h
+
 -- what the arm of a word takes, which has one field behind it
 pub arm : {V : Type 0} (before : List Order) (w : Word) (Is : V → Type 0) (text_of : V → List ℕ) (make : V → Order) (old new : Lines) (taken : Option V) (answer : Option Order) →
     ((v : V) → Is v → IsShort before (make v)) → ((v : V) → IsShort before (make v) → Is v) → ((v : V) → first_fields (make v) ≡ keyword w ∷ text_of v ∷ []) →
@@ -41,11 +47,11 @@ pub arm : {V : Type 0} (before : List Order) (w : Word) (Is : V → Type 0) (tex
 arm {V} before w Is text_of make old new None answer can back spell which e takes =
     let P : Option Order → Type 0 = TakesArguments before w old new in
     subst P (sym e) (λ o more short h.
-        let f = first_of o (keyword w) old more h in
-        let v = which o f.0 f.1 in
-        let S : Order → Type 0 = IsShort before in
-        let rest : f.0 ≡ text_of v.0 ∷ [] = cons_tail (keyword w) (keyword w) f.0 (text_of v.0 ∷ []) (sym f.1 ∙ ap first_fields v.1 ∙ spell v.0) in
-        takes v.0 more (back v.0 (subst S v.1 short)) (f.2 ∙ ap (λ l. l ++ more) rest))
+    let f = first_of o (keyword w) old more h in
+    let v = which o f.0 f.1 in
+    let S : Order → Type 0 = IsShort before in
+    let rest : f.0 ≡ text_of v.0 ∷ [] = cons_tail (keyword w) (keyword w) f.0 (text_of v.0 ∷ []) (sym f.1 ∙ ap first_fields v.1 ∙ spell v.0) in
+    takes v.0 more (back v.0 (subst S v.1 short)) (f.2 ∙ ap (λ l. l ++ more) rest))
 arm {V} before w Is text_of make old new (Some v) answer can back spell which e takes =
     let P : Option Order → Type 0 = TakesArguments before w old new in
     subst P (sym e) (can v takes.0, ap (λ l. keyword w ∷ l) takes.1 ∙ ap (λ l. l ++ new) (sym (spell v)))

@@ -1,6 +1,6 @@
 -- Texts that are taken line by line, and where they stop.
 use Rattle.std.proofs.Common.{ℕ, ◌≡◌, ◌+◌, ◌<◌, List, [], ◌∷◌, ◌++◌, map, length, Option, Some, None, Bool, true, false, refl, sym, ap, subst, ◌∙◌, arith, ◌⊎◌, inl, inr, All, append_assoc, append-nil}
-use Rattle.std.specs.Prelude.{codes}
+use Rattle.std.specs.Prelude.{codes, not}
 use Rattle.std.proofs.lemmas.List.Elements.{All-nil, All-cons, All-head, All-push, All-tail}
 use Rattle.std.proofs.lemmas.List.{map-append}
 use Rattle.line_forms.specs.BadLines.{Begins}
@@ -100,12 +100,10 @@ taken_last l old mid now line before after new so one then_is new_is is = (
 pub taken_all : (l : Last) (old now : LineState) (text : List ℕ) → TakenSoFar l old now text → now.lines ≡ [] → TakesTo l old now (record { text = text; ended = false })
 taken_all l old now text so none = (so.lines, so.passes, so.text_is, (so.others, none))
 
--- a text that has ended, or not
-pub whole_text : (l : Last) (old new : LineState) (text : List ℕ) → TakesTo l old new (record { text = text; ended = true }) → TakesBody (AreTextTo (IsLast l)) old new (Some text)
-whole_text l old new text (lines, passes, is, ends) = (lines, (ends, is), passes)
-
-pub cut_text : (l : Last) (old new : LineState) (text : List ℕ) → TakesTo l old new (record { text = text; ended = false }) → TakesBody (AreTextTo (IsLast l)) old new None
-cut_text l old new text (lines, passes, is, (others, none)) = (lines, passes, text_stops l lines new others none)
+-- a text that hasn't ended
+pub cut_text : (l : Last) (old new : LineState) (text : List ℕ) (ended : Bool) → not ended ≡ true → TakesTo l old new (record { text = text; ended = ended }) → TakesBody (AreTextTo (IsLast l)) old new None
+cut_text l old new text true is (lines, passes, text_is, ends) = absurd (cc)
+cut_text l old new text false is (lines, passes, text_is, (others, none)) = (lines, passes, text_stops l lines new others none)
 
 -- ---- lines of content that are taken one after another
 pub record ContentSoFar (old now : LineState) (bytes : List ℕ) : Type 0 where

@@ -50,11 +50,7 @@ pub(crate) fn take_computer_order(
 fn names_ahead<'a>(orders: &OrdersSoFar, lines: &Lines<'a>) -> Option<Names<'a>>
     ensures { FindsNames orders.now lines.now result }
 {
-    let mut fields = Fields::new(lines.line_ahead()?);
-    let word = fields.take_field()?;
-    if word != b"computer".as_slice() {
-        return None;
-    }
+    let mut fields = Fields::new(lines.rest_ahead(b"computer")?);
     let computer = take_new_computer_name(orders, &mut fields)?;
     let relay = take_relay_name(orders, &mut fields)?;
     if !fields.is_over() {
