@@ -1,0 +1,14 @@
+pub mod Fronts
+pub mod WordLemmas
+pub mod FieldLemmas
+pub mod BodyLemmas
+pub mod OneOrder
+pub mod OrderLists
+pub mod Stops
+pub mod KnownLemmas
+pub mod ShortLemmas
+pub mod TextLemmas
+pub mod ComputerLemmas
+pub mod OrderReading
+pub mod OfficeReading
+pub mod MadeLemmas
