@@ -12,7 +12,7 @@ use Rattle.world_text.specs.Texts.{Head, IsHead, Describes, bare}
 use Rattle.world_text.proofs.FieldLemmas.{content_one, end_not_content}
 use Rattle.world_text.proofs.RowLists.{end_not_among}
 use Rattle.office_text.specs.OrderLines.{IsEnd, EndsAt, HoldContent}
-use Rattle.office_text.proofs.Fronts.{Lines, nothing}
+use Rattle.office_text.proofs.Fronts.{Lines}
 
 -- a line of this word isn't the last one
 not_end_word : (line word rest : List ℕ) (first : ℕ) → IsFirstField line word rest → get_or (word ++ 32 ∷ rest) 0 0 ≡ first → (first == 101) ≡ false → ¬ IsEnd line

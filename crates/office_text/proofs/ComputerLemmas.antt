@@ -1,5 +1,5 @@
 -- The lines of a computer: those of its world, and where they stop.
-use Rattle.std.proofs.Common.{ℕ, zero, suc, ◌≡◌, ◌≢◌, pos, ◌+◌, ◌-◌, ◌^◌, ◌<◌, ◌≤◌, min, List, [], ◌∷◌, ◌++◌, length, take, drop, Bool, true, false, None, Some, refl, sym, ap, subst, ◌∙◌, arith, ◌⊎◌, inl, inr, All, append_assoc, append-nil, length-append}
+use Rattle.std.proofs.Common.{ℕ, zero, suc, ◌≡◌, ◌≢◌, pos, ◌+◌, ◌-◌, ◌^◌, ◌<◌, ◌≤◌, min, List, [], ◌∷◌, ◌++◌, length, take, drop, Bool, true, false, None, Some, refl, sym, ap, subst, ◌∙◌, arith, inl, inr, All, append_assoc, append-nil, length-append}
 use Rattle.std.specs.Prelude.{codes, Ok}
 use Rattle.std.proofs.lemmas.List.{append_cancel_left, take-append-drop, take_all, length-take-le}
 use Rattle.std.proofs.lemmas.List.Elements.{All-nil, All-cons, All-head, All-tail}
@@ -18,9 +18,9 @@ use Rattle.office_text.specs.declared.order.Order.{Order}
 use Rattle.office_text.specs.declared.order.Order.TheVariants as order
 use Rattle.office_text.specs.declared.text_reader.Last.TheVariants as last
 use Rattle.office_text.specs.Orders.{CanFollow}
-use Rattle.office_text.specs.OrderLines.{first_fields, first_line, IsBody, EndsAt, IsEnd}
+use Rattle.office_text.specs.OrderLines.{first_fields, first_line, IsBody, IsEnd}
 use Rattle.office_text.specs.Readings.{AreNewNames, AreNextLines, computer_line, HaveEnded, IsBadAt, IsInText, IsNewComputer, IsRelay, TakesComputer, TakesField, itself}
-use Rattle.office_text.proofs.Fronts.{Lines, nothing, something, ends_not_among, ends_same}
+use Rattle.office_text.proofs.Fronts.{Lines, nothing, ends_not_among, ends_same}
 use Rattle.office_text.proofs.BodyLemmas.{world_ends}
 use Rattle.office_text.proofs.FieldLemmas.{first_one, names_again}
 use Rattle.office_text.proofs.Stops.{behind_first}

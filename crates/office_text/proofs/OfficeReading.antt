@@ -1,19 +1,18 @@
 -- An office that is read: its orders one after another, and its end.
-use Rattle.std.proofs.Common.{ℕ, ◌≡◌, ◌<◌, List, [], ◌∷◌, ◌++◌, length, Option, Some, None, Ok, Err, refl, sym, ap, subst, ◌∙◌, ◌⊎◌, inl, inr, append_assoc, append-nil}
+use Rattle.std.proofs.Common.{ℕ, ◌≡◌, List, [], ◌∷◌, ◌++◌, Some, None, Ok, Err, refl, sym, ap, subst, ◌∙◌, ◌⊎◌, inl, inr}
 use Rattle.std.specs.Prelude.{codes}
 use Rattle.std.specs.declared.result.Result.{Result}
 use Rattle.line_forms.specs.BadLines.{AnswersBadLine}
 use Rattle.line_forms.specs.LineStates.{LineState, before_lines, lines_of, unended_of}
-use Rattle.line_forms.specs.Readers.{IsNotAhead, IsOver, IsStuck, Passes}
+use Rattle.line_forms.specs.Readers.{IsOver, IsStuck, Passes}
 use Rattle.line_forms.proofs.BadLines.{StandsBehind-start, first_bad_line-none}
 use Rattle.line_forms.proofs.Passing.{all_lines, left_answers, passes_none, passes_then, stands_behind, stuck_answers}
 use Rattle.office_text.specs.declared.error.OfficeError.{OfficeError}
 use Rattle.office_text.specs.declared.error.OfficeError.TheVariants as error
 use Rattle.office_text.specs.declared.order.Order.{Order}
-use Rattle.office_text.specs.Orders.{CanFollow}
-use Rattle.office_text.specs.OrderLines.{first_line, IsBody}
+use Rattle.office_text.specs.OrderLines.{first_line}
 use Rattle.office_text.specs.Offices.{IsOffice, AreOfficeLines, ReadsOffice}
-use Rattle.office_text.specs.Readings.{AreNextLines, HasOrders, IsBadAt, IsInText, TakesOrder, TakesOrders}
+use Rattle.office_text.specs.Readings.{HasOrders, IsInText, TakesOrder, TakesOrders}
 use Rattle.office_text.proofs.Fronts.{Lines}
 use Rattle.office_text.proofs.OrderLists.{each_none, each_more, lines_more, office_one}
 use Rattle.office_text.proofs.Stops.{office_ends, stops_between, stops_first, stops_inside}

@@ -1,17 +1,15 @@
 -- The lines of orders are those of one list of orders.
-use Rattle.std.proofs.Common.{ℕ, ◌≡◌, ℤ, List, [], ◌∷◌, ◌++◌, refl, sym, ap, subst, ◌∙◌, All, append_assoc}
+use Rattle.std.proofs.Common.{ℕ, ◌≡◌, List, [], ◌∷◌, ◌++◌, sym, ap, subst, ◌∙◌}
 use Rattle.std.specs.Prelude.{codes, decimal}
 use Rattle.std.specs.Fmt.{signed_decimal}
-use Rattle.desk_base.specs.Moments.{IsMoment}
 use Rattle.line_forms.specs.Lines.{lines_text}
-use Rattle.line_forms.specs.Numbers.{IsId}
 use Rattle.line_forms.proofs.Passing.{cons_head, cons_tail}
 use Rattle.bf_world.specs.Worlds.{WorldState}
 use Rattle.world_text.proofs.StopLemmas.{describes_one}
 use Rattle.world_text.specs.Texts.{Describes}
 use Rattle.office_text.specs.declared.order.Order.{Order}
 use Rattle.office_text.specs.declared.order.Order.TheVariants as order
-use Rattle.office_text.specs.Orders.{IsAnyNumber, IsOrder}
+use Rattle.office_text.specs.Orders.{IsOrder}
 use Rattle.office_text.specs.OrderLines.{first_fields, first_line, AreTextTo, HoldContent, IsBody, IsEnd, IsSiteEnd}
 use Rattle.office_text.proofs.Fronts.{Lines, ends_same}
 use Rattle.office_text.proofs.BodyLemmas.{content_ends, contents_one, world_ends}

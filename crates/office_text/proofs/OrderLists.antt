@@ -1,5 +1,5 @@
 -- Lists of orders and their lines, with an order more, and how an office goes on behind them.
-use Rattle.std.proofs.Common.{ℕ, ◌≡◌, ◌<◌, List, [], ◌∷◌, ◌++◌, length, refl, sym, ap, subst, ◌∙◌, arith, ◌⊎◌, inl, inr, All, append_assoc, append-nil}
+use Rattle.std.proofs.Common.{◌≡◌, List, [], ◌∷◌, ◌++◌, refl, sym, ap, subst, ◌∙◌, ◌⊎◌, inl, inr, All, append_assoc, append-nil}
 use Rattle.std.specs.Prelude.{codes}
 use Rattle.std.proofs.lemmas.List.{append_cancel_left}
 use Rattle.std.proofs.lemmas.List.Elements.{All-nil, All-cons, All-head, All-tail}
@@ -10,7 +10,7 @@ use Rattle.office_text.specs.declared.order.Order.{Order}
 use Rattle.office_text.specs.Orders.{IsOrder, CanFollow}
 use Rattle.office_text.specs.OrderLines.{first_line, IsBody, AreLinesOf}
 use Rattle.office_text.specs.Offices.{IsOffice, AreOfficeLines}
-use Rattle.office_text.proofs.Fronts.{Lines, nothing, something}
+use Rattle.office_text.proofs.Fronts.{Lines}
 use Rattle.office_text.proofs.FieldLemmas.{first_again, line_again}
 use Rattle.office_text.proofs.OneOrder.{order_one}
 use Rattle.office_text.proofs.WordLemmas.{not_end}

@@ -1,5 +1,5 @@
 -- The lines of an order that are read: behind a word with a text, of one line, of a computer.
-use Rattle.std.proofs.Common.{ℕ, ◌≡◌, ◌<◌, List, [], ◌∷◌, ◌++◌, length, Option, Some, None, Ok, Err, Bool, true, false, refl, sym, ap, subst, ◌∙◌, arith}
+use Rattle.std.proofs.Common.{ℕ, ◌≡◌, List, [], ◌∷◌, Option, Some, None, Ok, Err, Bool, true, false, refl, sym, ap, subst, ◌∙◌, arith}
 use Rattle.std.specs.Prelude.{codes, MatchOption}
 use Rattle.std.specs.declared.result.Result.{Result}
 use Rattle.line_forms.specs.LineStates.{LineState}
@@ -11,7 +11,7 @@ use Rattle.office_text.specs.declared.order.Order.{Order}
 use Rattle.office_text.specs.declared.order.Order.TheVariants as order
 use Rattle.office_text.specs.Orders.{CanFollow}
 use Rattle.office_text.specs.OrderLines.{first_line, AreTextTo, HoldContent, IsBody, IsEnd, IsSiteEnd}
-use Rattle.office_text.specs.Readings.{AreNewNames, AreNextLines, computer_line, IsShort, TakesBody, TakesComputer, TakesOrder}
+use Rattle.office_text.specs.Readings.{AreNewNames, computer_line, IsShort, TakesBody, TakesComputer, TakesOrder}
 use Rattle.office_text.proofs.Fronts.{Lines}
 use Rattle.office_text.proofs.FieldLemmas.{first_one}
 use Rattle.office_text.proofs.Stops.{behind_first}

@@ -1,6 +1,6 @@
 -- Orders of one line, and the fields of their lines.
-use Rattle.std.proofs.Common.{ℕ, zero, suc, ◌≡◌, ◌+◌, ◌<◌, ◌==◌, ◌||◌, if◌then◌else◌, ℤ, List, [], ◌∷◌, ◌++◌, length, Option, Some, None, refl, sym, ap, subst, ◌∙◌, arith, append-nil, length-append}
-use Rattle.std.specs.Prelude.{codes, decimal, IsSomeAnd, MatchOption}
+use Rattle.std.proofs.Common.{ℕ, ◌≡◌, ◌+◌, ◌<◌, ◌==◌, ◌||◌, if◌then◌else◌, List, [], ◌∷◌, ◌++◌, length, Option, Some, None, refl, sym, ap, subst, ◌∙◌, arith, append-nil, length-append}
+use Rattle.std.specs.Prelude.{decimal, IsSomeAnd, MatchOption}
 use Rattle.std.specs.Fmt.{signed_decimal}
 use Rattle.std.proofs.lemmas.List.{nil_from_length}
 use Rattle.line_forms.specs.FieldLists.{fields_of, line_of}
@@ -10,10 +10,9 @@ use Rattle.office_text.specs.declared.order.Order.{Order}
 use Rattle.office_text.specs.declared.order.Order.TheVariants as order
 use Rattle.office_text.specs.declared.word.Word.{Word}
 use Rattle.office_text.specs.declared.word.Word.TheVariants as word
-use Rattle.office_text.specs.Orders.{CanFollow}
 use Rattle.office_text.specs.OrderLines.{first_fields, first_line, IsBody, IsEnd, IsSiteEnd}
 use Rattle.office_text.specs.Readings.{keyword, IsShort, TakesArguments, TakesField}
-use Rattle.office_text.proofs.Fronts.{Lines, nothing, something, ends_some}
+use Rattle.office_text.proofs.Fronts.{Lines, nothing, ends_some}
 use Rattle.office_text.proofs.BodyLemmas.{content_ends, world_ends}
 use Rattle.office_text.proofs.FieldLemmas.{first_again}
 use Rattle.office_text.proofs.WordLemmas.{word_sum}

@@ -1,5 +1,5 @@
 -- Where the lines of an office stop: at its first line, in an order, where none follows, and at its end.
-use Rattle.std.proofs.Common.{ℕ, suc, ◌≡◌, ◌+◌, ◌<◌, List, [], ◌∷◌, ◌++◌, length, refl, sym, ap, subst, ◌∙◌, arith, ◌⊎◌, inl, inr, append_assoc, append-nil, length-append}
+use Rattle.std.proofs.Common.{ℕ, ◌≡◌, ◌+◌, ◌<◌, List, [], ◌∷◌, ◌++◌, length, refl, sym, ap, subst, ◌∙◌, arith, inl, inr, append_assoc, append-nil, length-append}
 use Rattle.std.specs.Prelude.{codes}
 use Rattle.std.proofs.lemmas.List.{append_cancel_left}
 use Rattle.line_forms.specs.BadLines.{Begins}
@@ -7,13 +7,13 @@ use Rattle.line_forms.specs.LineStates.{LineState}
 use Rattle.line_forms.specs.Readers.{EachCan, IsNotAhead, NeverGoesOn, StopsAt}
 use Rattle.line_forms.proofs.Passing.{cons_head, cons_tail}
 use Rattle.office_text.specs.declared.order.Order.{Order}
-use Rattle.office_text.specs.Orders.{IsOrder, CanFollow}
+use Rattle.office_text.specs.Orders.{CanFollow}
 use Rattle.office_text.specs.OrderLines.{first_line, IsBody, AreLinesOf}
-use Rattle.office_text.specs.Offices.{IsOffice, AreOfficeLines}
+use Rattle.office_text.specs.Offices.{AreOfficeLines}
 use Rattle.office_text.specs.Readings.{AreNextLines}
 use Rattle.office_text.proofs.Fronts.{Lines, fronts, nothing, something}
 use Rattle.office_text.proofs.OneOrder.{order_one}
-use Rattle.office_text.proofs.OrderLists.{Continues, continues, each_none, each_more, lines_more, first_not_end}
+use Rattle.office_text.proofs.OrderLists.{continues, each_none, each_more, lines_more, first_not_end}
 
 -- the lines behind those of the orders so far, where the next order is this one
 next_can : (orders : List Order) (o : Order) (more : List Order) → EachCan CanFollow (orders ++ o ∷ more) → CanFollow orders o

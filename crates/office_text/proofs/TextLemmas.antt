@@ -1,22 +1,21 @@
 -- Texts that are taken line by line, and where they stop.
-use Rattle.std.proofs.Common.{ℕ, ◌≡◌, ◌+◌, ◌<◌, List, [], ◌∷◌, ◌++◌, map, length, Option, Some, None, Bool, true, false, refl, sym, ap, subst, ◌∙◌, arith, ◌⊎◌, inl, inr, All, append_assoc, append-nil}
+use Rattle.std.proofs.Common.{ℕ, ◌≡◌, ◌+◌, List, [], ◌∷◌, ◌++◌, map, Some, None, Bool, true, false, refl, sym, ap, subst, ◌∙◌, ◌⊎◌, inl, inr, All, append_assoc, append-nil}
 use Rattle.std.specs.Prelude.{codes, not}
-use Rattle.std.proofs.lemmas.List.Elements.{All-nil, All-cons, All-head, All-push, All-tail}
+use Rattle.std.proofs.lemmas.List.Elements.{All-nil, All-head, All-push, All-tail}
 use Rattle.std.proofs.lemmas.List.{map-append}
-use Rattle.line_forms.specs.BadLines.{Begins}
 use Rattle.line_forms.specs.Contents.{content_line}
 use Rattle.line_forms.specs.Fields.{field_text}
 use Rattle.line_forms.specs.LineStates.{LineState}
 use Rattle.line_forms.specs.Lines.{ended_line, lines_text}
 use Rattle.line_forms.specs.Names.{IsLineText}
-use Rattle.line_forms.specs.Readers.{IsNotAhead, IsStuck, Passes, StopsAt}
+use Rattle.line_forms.specs.Readers.{IsNotAhead, Passes, StopsAt}
 use Rattle.line_forms.proofs.Passing.{cons_head, cons_tail, passes_none, passes_then}
 use Rattle.world_text.proofs.FieldLemmas.{end_not_content}
 use Rattle.office_text.specs.declared.text_reader.Last.{Last}
 use Rattle.office_text.specs.declared.text_reader.Last.TheVariants as last
-use Rattle.office_text.specs.OrderLines.{AreTextTo, EndsAt, HoldContent, IsEnd}
+use Rattle.office_text.specs.OrderLines.{AreTextTo, HoldContent, IsEnd}
 use Rattle.office_text.specs.Readings.{IsLast, TakesBody, TakesContent, TakesTo}
-use Rattle.office_text.proofs.Fronts.{Lines, nothing, something, ends_not_among}
+use Rattle.office_text.proofs.Fronts.{Lines, nothing, ends_not_among}
 use Rattle.office_text.proofs.BodyLemmas.{content_ends, not_end_contents}
 
 pub lines_text-append : (a b : Lines) → lines_text (a ++ b) ≡ lines_text a ++ lines_text b

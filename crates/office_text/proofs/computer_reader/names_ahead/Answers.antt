@@ -1,4 +1,4 @@
-use Rattle.std.proofs.Common.{◌≡◌, List, [], Option, sym, subst}
+use Rattle.std.proofs.Common.{◌≡◌, [], Option, sym, subst}
 use Rattle.office_text.specs.declared.computer_reader.Names.{Names}
 use Rattle.office_text.specs.Readings.{FindsNames}
 use Rattle.office_text.proofs.Fronts.{not_so}

@@ -1,4 +1,4 @@
-use Rattle.std.proofs.Common.{ℕ, List, Err, subst, sym, ◌∙◌}
+use Rattle.std.proofs.Common.{ℕ, List, Err, subst, ◌∙◌}
 use Rattle.line_forms.specs.BadLines.{AnswersBadLine}
 use Rattle.world_text.specs.declared.error.WorldError.{WorldError}
 use Rattle.world_text.specs.Texts.{AreNamedLines, ReadsNamedWorld}

@@ -1,4 +1,4 @@
-use Rattle.std.proofs.Common.{Bool, ℕ, ◌≡◌, List, [], ◌∷◌, subst, sym, ap, ◌∙◌}
+use Rattle.std.proofs.Common.{Bool, ℕ, [], ◌∷◌, subst, sym, ap, ◌∙◌}
 use Rattle.std.specs.Prelude.{codes}
 use Rattle.std.proofs.lemmas.Result.{err_from_is_err_and}
 use Rattle.line_forms.specs.BadLines.{AnswersBadLine}

@@ -1,4 +1,4 @@
-use Rattle.std.proofs.Common.{List, Option, Ok, Some, subst, sym}
+use Rattle.std.proofs.Common.{List, Option, Ok, subst, sym}
 use Rattle.office_text.specs.declared.order.Order.{Order}
 use Rattle.office_text.specs.Readings.{HasOrders, TakesOrder}
 use Rattle.office_text.proofs.OfficeReading.{has_more, in_text}
