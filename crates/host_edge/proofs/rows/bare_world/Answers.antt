@@ -1,9 +1,9 @@
--- The version of a bare machine is one.
+-- The version of a bare world is one.
 use Rattle.std.proofs.Common.{ℕ, List, [], ◌∷◌, map, refl, sym, subst, arith}
 use Rattle.std.specs.Str.Parse.{digits_value}
 use Rattle.std.proofs.lemmas.List.Elements.{All-nil, All-cons}
 use Rattle.line_forms.specs.Versions.{IsVersion, IsVersionNumber}
-use Rattle.desk.proofs.bare_machine.Goals as goal
+use Rattle.host_edge.proofs.rows.bare_world.Goals as goal
 
 number : IsVersionNumber (49 ∷ [])
 number = ((omega arith, (omega arith, tt)), omega arith)
