@@ -1,7 +1,8 @@
-ghost use Rattle.std.specs.Prelude.{◌≡◌, [], ◌≤◌, length};
-ghost use Rattle.host_edge.specs.Ordered.{AreEntries};
+ghost use Rattle.std.specs.Prelude.{◌≡◌, [], IsTrue};
+ghost use Rattle.host_edge.specs.Ordered.{AreEntries, CanFollow};
 
-use bf_world::{Entry, EntryList, is_part};
+use bf_world::{Entry, EntryList};
+use line_forms::read_part;
 use std::alloc::{AllocError, Global};
 use std::marker::Model;
 
@@ -41,13 +42,15 @@ impl Ordered {
         Ok(())
     }
 
-    fn can_take(&self, entry: &Entry) -> bool {
-        if !is_part(entry.name.as_str()) {
+    fn can_take(&self, entry: &Entry) -> bool
+        ensures { IsTrue result → CanFollow self.now entry.now }
+    {
+        let Some(_) = read_part(entry.name.as_str().as_bytes()) else {
             return false;
-        }
+        };
         match self.entries.last() {
             None => true,
-            Some(last) => last.name.as_str() < entry.name.as_str(),
+            Some(last) => last.name.as_str().cmp(entry.name.as_str()).is_lt(),
         }
     }
 

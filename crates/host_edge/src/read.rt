@@ -1,5 +1,5 @@
 use crate::Host;
-use crate::kind::{metadata_at, there};
+use crate::kind::{metadata_at, says_nothing_is_there, there};
 use crate::trouble::Trouble;
 use desk_base::Bytes;
 use std::alloc::Global;
@@ -35,13 +35,15 @@ fn read_to_end<F: Read>(alloc: Global, file: &mut F) -> Result<Option<Bytes>, Tr
     let mut bytes = Bytes::new(alloc);
     let mut room = [0u8; ROOM];
     for _ in 0..u64::MAX {
-        let Some(count) = there(file.read(&mut room))? else {
-            return Ok(None);
+        let count = match file.read(&mut room) {
+            Ok(count) => count,
+            Err(error) if says_nothing_is_there(&error) => return Ok(None),
+            Err(error) => return Err(Trouble::from(error)),
         };
         if count == 0 {
             return Ok(Some(bytes));
         }
-        if bytes.as_slice().len() > LONGEST_FILE - count.min(LONGEST_FILE) {
+        if bytes.as_slice().len() > LONGEST_FILE - count {
             return Err(too_long());
         }
         bytes.extend(&room[..count])?;
