@@ -35,7 +35,7 @@ impl<C: time::Clock, E: Eprint> Clock for SystemClock<C, E> {
         match moment_of(&self.inner) {
             Ok(moment) => Told::Moment(moment),
             Err(error) => {
-                self.faults.add("now", error);
+                self.faults.add("read", "the time", error);
                 Told::Failed
             }
         }

@@ -1,8 +1,7 @@
 ghost use Rattle.std.specs.Prelude.{◌≡◌, ◌≤◌};
 ghost use Rattle.desk_base.specs.Counts.{Rose};
 
-use std::fmt::Display;
-use std::io::Eprint;
+use std::io::{Eprint, Error};
 use std::marker::Model;
 
 /// The faults of an object. The count is a u64 that stands still at its last value; contracts see it. Each fault is told in one line on
@@ -34,13 +33,13 @@ impl<E: Eprint> Faults<E> {
         }
     }
 
-    /// Counts a fault, and tells which call it was and the reason. What can't be told is counted all the same.
-    pub(crate) fn add<C: Display + Drop, D: Display + Drop>(&mut self, call: C, reason: D)
+    /// Counts a fault of a call, and tells it with what the call was about and the reason. What can't be told is counted all the same.
+    pub(crate) fn add(&mut self, call: &str, subject: &str, reason: Error)
         ensures rose { Rose self.old self.new }
         ensures later { self.old ≤ self.new }
     {
         self.count = self.count.saturating_add(1);
         let device = self.device;
-        let _ = eprintln!(self.errors; "desk: {device}: {call}: {reason}");
+        let _ = eprintln!(self.errors; "desk: {device}: {call} {subject}: {reason}");
     }
 }

@@ -164,8 +164,7 @@ impl<H: Host> HostMachine<H> {
             Err(Undone::Refused(reason)) => Acted::Refused(reason),
             Err(Undone::Trouble(Trouble::Memory)) => Acted::Memory,
             Err(Undone::Trouble(Trouble::System(error))) => {
-                self.faults
-                    .add(format_args!("act {}", subject_of(command)), error);
+                self.faults.add("act", subject_of(command), error);
                 Acted::Failed
             }
         }
@@ -209,8 +208,7 @@ impl<H: Host> Machine for HostMachine<H> {
             Ok(answer) => Looked::Answer(answer),
             Err(Trouble::Memory) => Looked::Memory,
             Err(Trouble::System(error)) => {
-                self.faults
-                    .add(format_args!("look {}", subject_of_key(key)), error);
+                self.faults.add("look", subject_of_key(key), error);
                 Looked::Failed
             }
         }
@@ -233,7 +231,7 @@ impl<H: Host> Machine for HostMachine<H> {
             Ok(None) => Polled::Running,
             Ok(Some(exit)) => Polled::Exited(exit),
             Err(error) => {
-                self.faults.add(format_args!("poll {}", process.0), error);
+                self.faults.add("poll", "a program", error);
                 Polled::Failed
             }
         }

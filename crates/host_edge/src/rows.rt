@@ -95,10 +95,11 @@ fn read_versioned(line: &[u8]) -> Option<Versioned<'_>>
     ensures { IfSome result (λ row. IsVersion row.version.now) }
 {
     let cut = first_field(line)?;
-    Some(Versioned {
-        version: read_version(cut.first)?,
-        name: read_rest(cut.rest)?,
-    })
+    let Some(version) = read_version(cut.first) else {
+        return None;
+    };
+    let name = read_rest(cut.rest)?;
+    Some(Versioned { version, name })
 }
 
 /// The one line of a text, ended by an LF, as `VERSION NAME`.

@@ -32,7 +32,7 @@ impl<W: Write, E: Eprint> Sink for FileSink<W, E> {
         match self.inner.write_all(piece) {
             Ok(()) => Put::Done,
             Err(error) => {
-                self.faults.add("write", error);
+                self.faults.add("write", "bytes", error);
                 Put::Failed
             }
         }

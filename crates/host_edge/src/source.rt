@@ -35,7 +35,7 @@ impl<R: Read, E: Eprint> Source for FileSource<R, E> {
             Ok(0) => Got::End,
             Ok(count) => Got::Some(count),
             Err(error) => {
-                self.faults.add("read", error);
+                self.faults.add("read", "bytes", error);
                 Got::Failed
             }
         }
