@@ -1,20 +1,17 @@
-//! The desk over standard input and output.
+//! The desk on the machine at hand, over standard input and output.
 #![tactic(auto)]
 
-mod adapters;
-#[cfg(test)]
-mod tests;
-
-use adapters::{Reading, Timing, Writing};
-use bf_machine::PlainMachine;
-use bf_world::World;
 use desk_top::{Status, desk};
+use host_edge::{FileSink, FileSource, HostMachine, SystemClock};
 use rel_lexer::Text;
-use std::alloc::{AllocError, Global};
+use std::alloc::AllocError;
 use std::io::ErrorKind;
-use std::process::ExitCode;
+use std::process::{ExitCode, Processes};
 use std::rt::{Env, Runtime};
 use std::{env, io};
+
+/// The exit status where the path of the current folder is no text.
+const NO_FOLDER: u8 = 64;
 
 /// The words of the command line, without the program's name. Words that are not all text are none of the table's, and are
 /// passed on as no words.
@@ -32,24 +29,22 @@ fn words_of(rt: &(impl Env + AllocGlobal)) -> Result<Vec<Text>, AllocError> {
     Ok(words)
 }
 
-/// Until there is a real machine: one with nothing on it.
-fn bare_machine(alloc: Global) -> Result<PlainMachine, AllocError> {
-    let name = Text::from_str(alloc, "desk")?;
-    let system = Text::from_str(alloc, "none")?;
-    let version = Text::from_str(alloc, "1")?;
-    let world = World::new(alloc, name, system, version, 0, 0);
-    let none = || Vec::new(alloc);
-    Ok(PlainMachine::new(alloc, world, none(), none(), none()))
+/// Whether the path of the current folder, in which the machine works, is text. Where it can't be asked, nothing speaks against it.
+fn works_in_text(rt: &(impl Env + AllocGlobal)) -> bool {
+    match env::current_dir(rt) {
+        Ok(_) => true,
+        Err(error) => error.kind() != ErrorKind::InvalidFilename,
+    }
 }
 
-/// Runs the words over standard input and output, the machine and the clock.
-fn run(rt: &(impl Runtime + AllocGlobal)) -> Result<Status, AllocError> {
+/// Runs the words over standard input and output, the machine at hand and the clock.
+fn run<R: Runtime + AllocGlobal + Processes>(rt: &R) -> Result<Status, AllocError> {
     let alloc = rt.alloc();
     let words = words_of(rt)?;
-    let mut machine = bare_machine(alloc)?;
-    let mut source = Reading::new(rt.reader());
-    let mut sink = Writing::new(io::writer(rt));
-    let mut clock = Timing::new(rt);
+    let mut machine = HostMachine::new(alloc, rt)?;
+    let mut source = FileSource::new(rt.reader(), rt);
+    let mut sink = FileSink::new(io::writer(rt), rt);
+    let mut clock = SystemClock::new(rt, rt);
     Ok(desk(
         alloc,
         &words,
@@ -61,6 +56,9 @@ fn run(rt: &(impl Runtime + AllocGlobal)) -> Result<Status, AllocError> {
 }
 
 fn main(rt: HostRuntime) -> ExitCode {
+    if !works_in_text(&rt) {
+        return ExitCode::from(NO_FOLDER);
+    }
     let status = match run(&rt) {
         Ok(status) => status,
         Err(_) => Status::Memory,

@@ -1,0 +1,45 @@
+ghost use Rattle.std.specs.Prelude.{◌≡◌, ◌≤◌};
+ghost use Rattle.desk_base.specs.Counts.{Rose};
+
+use std::io::{Eprint, Error};
+use std::marker::Model;
+
+/// The faults of an object. The count is a u64 that stands still at its last value; contracts see it. Each fault is told in one line on
+/// standard error.
+#[derive(Drop)]
+pub(crate) struct Faults<E: Eprint> {
+    device: &'static str,
+    errors: E,
+    count: u64,
+}
+
+impl<E: Eprint> Model for Faults<E> {
+    ghost use Rattle.std.specs.Prelude.{ℕ};
+
+    ghost Value = { ℕ };
+
+    ghost view = { λ f. f.count };
+}
+
+impl<E: Eprint> Faults<E> {
+    /// None so far of this object.
+    pub(crate) fn none(device: &'static str, errors: E) -> Faults<E>
+        ensures { result ≡ 0 }
+    {
+        Faults {
+            device,
+            errors,
+            count: 0,
+        }
+    }
+
+    /// Counts a fault of a call, and tells it with what the call was about and the reason. What can't be told is counted all the same.
+    pub(crate) fn add(&mut self, call: &str, subject: &str, reason: Error)
+        ensures rose { Rose self.old self.new }
+        ensures later { self.old ≤ self.new }
+    {
+        self.count = self.count.saturating_add(1);
+        let device = self.device;
+        let _ = eprintln!(self.errors; "desk: {device}: {call} {subject}: {reason}");
+    }
+}

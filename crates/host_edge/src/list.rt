@@ -1,0 +1,67 @@
+ghost use Rattle.std.specs.Prelude.{IfOk, IfSome};
+ghost use Rattle.host_edge.specs.Ordered.{AreEntries};
+
+use crate::Host;
+use crate::kind::there;
+use crate::ordered::Ordered;
+use crate::trouble::Trouble;
+use bf_world::{Entry, EntryList};
+use rel_lexer::Text;
+use std::alloc::{AllocError, Global};
+use std::fs::{self, DirEntry};
+use std::io;
+
+/// The entries of the folder at a place whose names have at most `longest` bytes, or None where no folder is there. Left out are names
+/// that aren't UTF-8 or not one part of a path, and what is gone before its kind is asked.
+pub(crate) fn entries_at<H: Host>(
+    host: &H,
+    place: &str,
+    longest: usize,
+) -> Result<Option<EntryList>, Trouble>
+    ensures { IfOk result (λ entries. IfSome entries AreEntries) }
+{
+    let Some(listing) = there(fs::read_dir(host, place))? else {
+        return Ok(None);
+    };
+    let mut entries = Vec::new(host.alloc());
+    for entry in listing {
+        if let Some(entry) = entry_of(host.alloc(), entry, longest)? {
+            entries.push(entry).map_err(AllocError::from)?;
+        }
+    }
+    Ok(Some(in_order(host.alloc(), entries)?))
+}
+
+/// What a folder's listing gives, where it is an entry with a name of at most `longest` bytes. It is a folder only where it is one without
+/// following a link.
+fn entry_of<H: Host>(
+    alloc: Global,
+    entry: io::Result<DirEntry<H>>,
+    longest: usize,
+) -> Result<Option<Entry>, Trouble> {
+    let Some(entry) = there(entry)? else {
+        return Ok(None);
+    };
+    if entry.file_name().len() > longest {
+        return Ok(None);
+    }
+    let Some(kind) = there(entry.file_type())? else {
+        return Ok(None);
+    };
+    Ok(Some(Entry {
+        name: Text::from_str(alloc, entry.file_name())?,
+        folder: kind.is_dir(),
+    }))
+}
+
+/// The entries in byte order of their names, without those that are no part of a path.
+fn in_order(alloc: Global, mut entries: Vec<Entry>) -> Result<EntryList, Trouble>
+    ensures { IfOk result AreEntries }
+{
+    entries.sort_unstable_by(|a, b| a.name.as_str().cmp(b.name.as_str()));
+    let mut ordered = Ordered::new(alloc);
+    for entry in entries {
+        ordered.push(entry)?;
+    }
+    Ok(ordered.into_list())
+}

@@ -1,0 +1,35 @@
+use bf_world::{is_path, joined};
+use rel_lexer::Text;
+use std::alloc::{AllocError, Global};
+
+/// Where a path lies: one without a leading `/` lies beneath the work folder. None where the text is no path.
+pub(crate) fn place_of(alloc: Global, work: &str, path: &str) -> Result<Option<Text>, AllocError> {
+    if !is_path(path) {
+        return Ok(None);
+    }
+    if path.starts_with('/') {
+        return Ok(Some(Text::from_str(alloc, path)?));
+    }
+    Ok(Some(joined(alloc, work, path)?))
+}
+
+/// Where a path other than `/` lies, which a command may name.
+pub(crate) fn free_place_of(
+    alloc: Global,
+    work: &str,
+    path: &str,
+) -> Result<Option<Text>, AllocError> {
+    if path == "/" {
+        return Ok(None);
+    }
+    place_of(alloc, work, path)
+}
+
+/// The folder in which a place lies.
+pub(crate) fn folder_of(place: &str) -> &str {
+    match place.rsplit_once('/') {
+        Some((folder, _)) if folder.is_empty() => "/",
+        Some((folder, _)) => folder,
+        None => ".",
+    }
+}

@@ -1,0 +1,57 @@
+use crate::Host;
+use crate::kind::{metadata_at, says_nothing_is_there, there};
+use crate::trouble::Trouble;
+use desk_base::Bytes;
+use std::alloc::Global;
+use std::fs::File;
+use std::io::{Error, ErrorKind, Read};
+
+/// The most bytes of a file that is read.
+const LONGEST_FILE: usize = 1_073_741_824;
+
+/// How many bytes are read at a time.
+const ROOM: usize = 16_384;
+
+/// The bytes of the file at a place, or None where no file is there. The kind is asked before it is opened, so that a pipe isn't waited
+/// for. A size that is stated as 0, as under `/proc`, says nothing: each file is read to its end.
+pub(crate) fn content_at<H: Host>(host: &H, place: &str) -> Result<Option<Bytes>, Trouble> {
+    let Some(metadata) = metadata_at(host, place)? else {
+        return Ok(None);
+    };
+    if !metadata.is_file() {
+        return Ok(None);
+    }
+    if metadata.len() > LONGEST_FILE as u64 {
+        return Err(too_long());
+    }
+    match there(File::open(host, place))? {
+        Some(mut file) => read_to_end(host.alloc(), &mut file),
+        None => Ok(None),
+    }
+}
+
+/// The bytes of an open file, or None where it is one of a program that has ended.
+fn read_to_end<F: Read>(alloc: Global, file: &mut F) -> Result<Option<Bytes>, Trouble> {
+    let mut bytes = Bytes::new(alloc);
+    let mut room = [0u8; ROOM];
+    for _ in 0..u64::MAX {
+        let count = match file.read(&mut room) {
+            Ok(count) => count,
+            Err(error) if says_nothing_is_there(&error) => return Ok(None),
+            Err(error) => return Err(Trouble::from(error)),
+        };
+        if count == 0 {
+            return Ok(Some(bytes));
+        }
+        if bytes.as_slice().len() > LONGEST_FILE - count {
+            return Err(too_long());
+        }
+        bytes.extend(&room[..count])?;
+    }
+    Err(too_long())
+}
+
+fn too_long() -> Trouble {
+    let words = "the file has more than 1,073,741,824 bytes";
+    Trouble::System(Error::new(ErrorKind::FileTooLarge, words))
+}

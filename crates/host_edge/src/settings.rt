@@ -1,0 +1,106 @@
+use crate::rows::read_setting;
+use crate::trouble::{Trouble, Undone};
+use crate::{Host, HostMachine};
+use bf_world::joined;
+use desk_base::Bytes;
+use line_forms::{
+    Ahead, Lines, read_name, read_rest, write_field, write_line, write_signed_number,
+};
+use std::alloc::{AllocError, Global};
+use std::io::{Error, ErrorKind};
+
+/// The file of the work folder in which the settings stand.
+pub(crate) const SETTINGS: &str = "settings";
+
+/// The commands on settings. All lines of the file that don't spell the setting stay as they stand.
+impl<H: Host> HostMachine<H> {
+    /// Sets a setting, where it has no value or one from before the date.
+    pub(crate) fn put_setting(&self, name: &str, value: &str, date: i64) -> Result<(), Undone> {
+        let text = self.text_of(SETTINGS)?;
+        match date_in(text.as_slice(), name) {
+            Some(kept) if kept >= date => return Ok(()),
+            _ => {}
+        }
+        if !has_line(name, value) {
+            let words = "the name or the value can't stand in a line";
+            let error = Error::new(ErrorKind::InvalidInput, words);
+            return Err(Undone::Trouble(Trouble::System(error)));
+        }
+        let lines = with(self.host.alloc(), text.as_slice(), name, value, date)?;
+        self.put_settings(lines.as_slice())
+    }
+
+    /// Drops a setting, where it has a value from before the date.
+    pub(crate) fn drop_setting(&self, name: &str, date: i64) -> Result<(), Undone> {
+        let text = self.text_of(SETTINGS)?;
+        match date_in(text.as_slice(), name) {
+            Some(kept) if kept < date => {
+                let lines = without(self.host.alloc(), text.as_slice(), name)?;
+                self.put_settings(lines.as_slice())
+            }
+            _ => Ok(()),
+        }
+    }
+
+    fn put_settings(&self, text: &[u8]) -> Result<(), Undone> {
+        let place = joined(self.host.alloc(), self.work.as_str(), SETTINGS)?;
+        self.check_no_other(&place)?;
+        self.put_content(&place, text)?;
+        Ok(())
+    }
+}
+
+/// Whether a line spells the setting of this name.
+fn is_of(line: &[u8], name: &str) -> bool {
+    match read_setting(line) {
+        Some(setting) => setting.name == name,
+        None => false,
+    }
+}
+
+/// The date of the setting of this name in the text of the file `settings`: that of its last line.
+fn date_in(text: &[u8], name: &str) -> Option<i64> {
+    let mut date = None;
+    let mut lines = Lines::new(text);
+    while let Ahead::Line(line) = lines.take_line() {
+        if let Some(setting) = read_setting(line) {
+            if setting.name == name {
+                date = Some(setting.date);
+            }
+        }
+    }
+    date
+}
+
+/// Whether a name and a value can stand in a line of `settings`.
+fn has_line(name: &str, value: &str) -> bool {
+    read_name(name.as_bytes()).is_some() && read_rest(value.as_bytes()).is_some()
+}
+
+/// The lines of a text that don't spell the setting of this name, as they stand. Bytes that no LF ends are no line.
+fn without(alloc: Global, text: &[u8], name: &str) -> Result<Bytes, AllocError> {
+    let mut kept = Bytes::new(alloc);
+    let mut lines = Lines::new(text);
+    while let Ahead::Line(line) = lines.take_line() {
+        if !is_of(line, name) {
+            write_line(alloc, line, &mut kept)?;
+        }
+    }
+    Ok(kept)
+}
+
+/// The same, and behind them the setting of this name.
+fn with(
+    alloc: Global,
+    text: &[u8],
+    name: &str,
+    value: &str,
+    date: i64,
+) -> Result<Bytes, AllocError> {
+    let mut lines = without(alloc, text, name)?;
+    write_signed_number(date, &mut lines)?;
+    lines.push(b' ')?;
+    write_field(alloc, name.as_bytes(), &mut lines)?;
+    write_line(alloc, value.as_bytes(), &mut lines)?;
+    Ok(lines)
+}

@@ -1,0 +1,62 @@
+use bf_world::Reason;
+use std::alloc::AllocError;
+use std::io;
+use std::io::ErrorKind;
+
+/// Why a look gives up.
+#[derive(Drop)]
+pub(crate) enum Trouble {
+    /// Memory ran out.
+    Memory,
+    /// The system refused something, or gave what can't be an answer.
+    System(io::Error),
+}
+
+/// Why a command isn't done.
+#[derive(Drop)]
+pub(crate) enum Undone {
+    /// A check of the command refuses it.
+    Refused(Reason),
+    /// Something else keeps it from being done.
+    Trouble(Trouble),
+}
+
+impl From<AllocError> for Trouble {
+    fn from(_error: AllocError) -> Trouble {
+        Trouble::Memory
+    }
+}
+
+impl From<io::Error> for Trouble {
+    fn from(error: io::Error) -> Trouble {
+        if error.kind() == ErrorKind::OutOfMemory {
+            Trouble::Memory
+        } else {
+            Trouble::System(error)
+        }
+    }
+}
+
+impl From<Reason> for Undone {
+    fn from(reason: Reason) -> Undone {
+        Undone::Refused(reason)
+    }
+}
+
+impl From<Trouble> for Undone {
+    fn from(trouble: Trouble) -> Undone {
+        Undone::Trouble(trouble)
+    }
+}
+
+impl From<AllocError> for Undone {
+    fn from(_error: AllocError) -> Undone {
+        Undone::Trouble(Trouble::Memory)
+    }
+}
+
+impl From<io::Error> for Undone {
+    fn from(error: io::Error) -> Undone {
+        Undone::Trouble(Trouble::from(error))
+    }
+}
