@@ -1,4 +1,4 @@
-ghost use Rattle.std.specs.Prelude.{◌≡◌, ◌≢◌, ◌+◌, ◌≤◌, None, IfOk};
+ghost use Rattle.std.specs.Prelude.{◌≡◌, ◌≢◌, ◌≤◌, None, IfOk};
 ghost use Rattle.desk_base.specs.Counts.{Rose};
 ghost use Rattle.bf_machine.specs.Acts.{CountsStarted};
 ghost use Rattle.bf_world.specs.declared.command.ProcessNo.{ProcessNo};

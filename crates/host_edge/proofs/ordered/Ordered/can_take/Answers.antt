@@ -19,6 +19,6 @@ returns-in-Some-last c = λ lt.
     let above : IsTrue (is_lt (byte_order last.name name)) = subst (λ (n : List ℕ). IsTrue (is_lt (byte_order last.name n))) c.as_str-in-Some-last-2.ensures above_it in
     let entries : c.self.inside.entries.items ≡ c.args.self.now = c.self.view_is in
     let found : slice_get c.args.self.now (length c.args.self.now - 1) ≡ Some last =
-        subst (λ (es : List Entry). slice_get es (length es - 1) ≡ Some last) (c.deref.ensures.value ∙ entries) (sym c.in-Some-last.ensures.value) in
+    subst (λ (es : List Entry). slice_get es (length es - 1) ≡ Some last) (c.deref.ensures.value ∙ entries) (sym c.in-Some-last.ensures.value) in
     let are : AreEntries c.args.self.now = subst AreEntries entries c.self.invariant in
     (part, above-last c.args.self.now last name found above are.1)

@@ -1,4 +1,4 @@
-use Rattle.std.proofs.Common.{◌≡◌, List, [], subst, sym}
+use Rattle.std.proofs.Common.{subst, sym}
 use Rattle.host_edge.specs.Ordered.{AreEntries}
 use Rattle.host_edge.proofs.Following.{no-entries}
 use Rattle.host_edge.proofs.ordered.Ordered.new.Goals as goal
