@@ -1,0 +1,3 @@
+mod KeyLists
+mod Orders
+mod QueueLemmas
