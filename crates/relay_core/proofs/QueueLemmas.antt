@@ -8,9 +8,9 @@ use Rattle.std.specs.Ordering.{nat_cmp, is_eq, ordering_then}
 use Rattle.std.specs.Cmp.{IsEquivalence, and_equiv, on_equiv, nat_eq_equiv, unsigned_ties, first_so, second_so}
 use Rattle.std.specs.Cmp.Lexicographic.{slice_cmp, pointwise, nat_list_eq_equiv, texts_ties, bytes_decides}
 use Rattle.std.specs.Map.{lookup, keys_of}
-use Rattle.std.specs.List.{IsDistinct, AllByRecursion, list_any, position_from}
+use Rattle.std.specs.List.{IsDistinct, All, AllByRecursion, list_any, position_from}
 use Rattle.std.specs.BTreeMap.{BTreeMap, get, is_at}
-use Rattle.std.proofs.Common.{◌<◌, ◌+◌, suc, length, get_or, take, drop, refl, sym, ap, ◌∙◌, subst, append_assoc}
+use Rattle.std.proofs.Common.{arith, ◌<◌, ◌+◌, suc, length, get_or, take, drop, refl, sym, ap, ◌∙◌, subst, append_assoc}
 use Rattle.std.proofs.lemmas.Bool.{eqb-true}
 use Rattle.std.proofs.lemmas.List.{map-append, map_push, take-append-drop}
 use Rattle.std.proofs.Math.Seq.{drop-cons}
@@ -18,6 +18,7 @@ use Rattle.std.proofs.lemmas.List.Elements.{filter-append}
 use Rattle.std.proofs.lemmas.Map.Made.{lookup-map_values, keys_of-map_values, is_some-lookup}
 use Rattle.std.proofs.lemmas.Map.Keys.{IsDistinct-push}
 use Rattle.report_text.specs.declared.report.Report.{Report}
+use Rattle.report_text.specs.Reports.{IsReport}
 use Rattle.relay_core.specs.declared.key.Key.{Key}
 use Rattle.relay_core.specs.declared.report_queue.KeyState.{KeyState}
 use Rattle.relay_core.specs.declared.report_queue.KeyState.TheVariants.{Queued, Held}
@@ -241,6 +242,17 @@ not_placed key (report ∷ queue) i none =
       true ↦ λ none. cc
     | false ↦ λ none. not_placed key queue (i + 1) none
     ] none
+
+-- no report has a name of more than 64 bytes
+pub long_name : (key : ReportKey) (queue : List Report) → All IsReport queue → 64 < length key.computer → queued_digest queue key ≡ None
+long_name key [] good long = refl
+long_name key (report ∷ queue) good long =
+    elim (same_key key (key_of report)) as (λ b. same_key key (key_of report) ≡ b → cond b (Some (report_digest report)) (queued_digest queue key) ≡ None) [
+      true ↦ λ same.
+        let is : length key.computer ≡ length report.computer = ap (λ (k : ReportKey). length k.computer) (same_key_is key (key_of report) same) in
+        absurd (omega (arith, (good 0 report (omega arith)).computer.1))
+    | false ↦ λ other. long_name key queue (λ k d inside. good (suc k) d (omega arith)) long
+    ] refl
 
 -- a list around one of its elements
 pub split_at : {X : Type 0} (xs : List X) (i : ℕ) (x : X) → i < length xs → x ≡ get_or xs i x → xs ≡ take i xs ++ x ∷ drop (suc i) xs

@@ -1,5 +1,7 @@
 -- What a relay does with sites.
-use Rattle.std.specs.Prelude.{◌≡◌, ℕ, ◌<◌, ◌≤◌, List, ◌∷◌, ◌++◌, map, filter, All, Contains}
+use Rattle.std.specs.Prelude.{◌≡◌, ℕ, ◌+◌, ◌<◌, ◌≤◌, List, ◌∷◌, ◌++◌, length, take, drop, map, filter, All, Contains, Ok, Err, Some, None}
+use Rattle.std.specs.declared.option.Option.{Option}
+use Rattle.std.specs.declared.result.Result.{Result}
 use Rattle.std.specs.Ordering.{nat_cmp, is_lt}
 use Rattle.std.specs.Cmp.Lexicographic.{slice_cmp}
 use Rattle.std.specs.List.Sorted.{IsStrictlySortedBy}
@@ -31,6 +33,12 @@ with_site site sites = sites_before site.name sites ++ site ∷ sites_after site
 abbrev pub IsKept : List Site → List ℕ → Site → Type 0
 IsKept sites name site = Contains sites site × (site.name ≡ name)
 
+-- the version of the kept site of the name, if it isn't below this one
+abbrev pub FindsNotBelow : List Site → List ℕ → ℕ → Option ℕ → Type 0
+FindsNotBelow sites name version None = (kept : Site) → IsKept sites name kept → kept.version < version
+FindsNotBelow sites name version (Some other) =
+    (kept : Site) × IsKept sites name kept × (other ≡ kept.version) × (version ≤ other)
+
 -- no site of the name is kept whose version is above this one
 abbrev pub IsNewest : List Site → List ℕ → ℕ → Type 0
 IsNewest sites name version = (kept : Site) → IsKept sites name kept → kept.version ≤ version
@@ -49,3 +57,10 @@ KeepsSite old site gathered.Memory new = new ≡ old
 abbrev pub AnswersAsk : List Site → List ℕ → ℕ → Asked → Type 0
 AnswersAsk sites name version (asked.New site) = IsKept sites name site.now × (version < site.now.version)
 AnswersAsk sites name version asked.Same = IsNewest sites name version
+
+-- the place of the kept site of this name, or the one where it would stand
+abbrev pub HasPlace : List Site → List ℕ → Result ℕ ℕ → Type 0
+HasPlace sites name (Ok place) =
+    (place < length sites) × (take place sites ≡ sites_before name sites) × (drop (place + 1) sites ≡ sites_after name sites)
+HasPlace sites name (Err place) =
+    (place ≤ length sites) × (take place sites ≡ sites_before name sites) × (drop place sites ≡ sites_after name sites)

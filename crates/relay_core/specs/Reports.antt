@@ -11,9 +11,9 @@ use Rattle.relay_core.specs.Relays.{RelayState}
 use Rattle.relay_core.specs.declared.relay.RelayAnswer.{RelayAnswer}
 use Rattle.relay_core.specs.declared.relay.RelayAnswer.TheVariants.{Told, Memory}
 
--- the verdict on a report whose key stands with this digest already
-abbrev pub compared : Verdict → List ℕ → Report → Verdict
-compared same there report = if pointwise nat_eq there (report_digest report) then same else Conflict there
+-- the verdict on a report with this digest, whose key stands with that one already
+abbrev pub compared : Verdict → List ℕ → List ℕ → Verdict
+compared same there digest = if pointwise nat_eq there digest then same else Conflict there
 
 -- the verdict on a report whose key is neither known nor queued
 abbrev pub limited : RelayState → Verdict
@@ -21,12 +21,12 @@ limited relay = if nat_lt (length relay.queue) relay.limit then Carried else Ful
 
 -- the verdict on a report whose key isn't known
 abbrev pub queue_verdict : Option (List ℕ) → RelayState → Report → Verdict
-queue_verdict (Some queued) relay report = compared Carried queued report
+queue_verdict (Some queued) relay report = compared Carried queued (report_digest report)
 queue_verdict None relay report = limited relay
 
 -- the verdict on a report, where this is held of its key
 abbrev pub held_verdict : Option (List ℕ) → RelayState → Report → Verdict
-held_verdict (Some held) relay report = compared Stored held report
+held_verdict (Some held) relay report = compared Stored held (report_digest report)
 held_verdict None relay report = queue_verdict (queued_digest relay.queue (key_of report)) relay report
 
 -- The verdict on a report that comes up. Its key is looked for among the known ones first, then in the queue, and then the limit

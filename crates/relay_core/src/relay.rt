@@ -1,12 +1,12 @@
-ghost use Rattle.std.specs.Prelude.{◌≡◌, ◌≤◌, length, All, IsTrue, IfOk, OnErr};
+ghost use Rattle.std.specs.Prelude.{◌≡◌, All, IfOk, OnOk, OnErr};
 ghost use Rattle.report_text.specs.Reports.{IsReport};
 ghost use Rattle.fix_site.specs.Sites.{IsSite};
 ghost use Rattle.relay_core.specs.Relays.{empty_relay};
-ghost use Rattle.relay_core.specs.ReportKeys.{ReportKey};
 ghost use Rattle.relay_core.specs.Reports.{AnswersUp, up_verdict, after_up, is_queued, after_sent};
-ghost use Rattle.relay_core.specs.KeptSites.{KeepsSite, AnswersAsk, AreKept};
+ghost use Rattle.relay_core.specs.Reports as verdict;
+ghost use Rattle.relay_core.specs.KeptSites.{KeepsSite, AnswersAsk, AreKept, with_site};
 
-use crate::key::{Key, LONGEST_NAME};
+use crate::key::Key;
 use crate::report_queue::{KeyState, ReportQueue};
 use crate::site_list::SiteList;
 use fix_site::Site;
@@ -76,6 +76,7 @@ impl Relay {
         }
     }
 
+    /// The verdict on the report, which is queued where it has a place. An error changes nothing.
     fn carry(&mut self, report: &Report) -> Result<Verdict, AllocError>
         requires { IsReport report.now }
         ensures verdict { IfOk result (λ verdict. verdict ≡ up_verdict self.old report.now) }
@@ -110,11 +111,7 @@ impl Relay {
         ensures queued { result ≡ is_queued self.old (record { computer = computer.now; seq = seq }) }
         ensures after { self.new ≡ after_sent self.old (record { computer = computer.now; seq = seq }) held.now }
     {
-        if computer.as_str().len() > LONGEST_NAME {
-            return false;
-        }
-        let key = Key::new(computer.as_str(), seq);
-        let Some(KeyState::Queued(_)) = self.reports.state(&key) else {
+        let Some(key) = self.reports.queued_key(computer.as_str(), seq) else {
             return false;
         };
         self.reports.hold(key, *held);
@@ -126,10 +123,11 @@ impl Relay {
         requires { IsSite site.now }
         ensures { KeepsSite self.old site.now result self.new }
     {
-        if let Some(kept) = self.sites.get(site.name.as_str()) {
-            if site.version <= kept.version {
-                return Gathered::Older(kept.version);
-            }
+        if let Some(kept) = self
+            .sites
+            .version_not_below(site.name.as_str(), site.version)
+        {
+            return Gathered::Older(kept);
         }
         match self.put(site) {
             Ok(()) => Gathered::New,
@@ -137,8 +135,11 @@ impl Relay {
         }
     }
 
+    /// Keeps a copy of the site, in the place of one of its name. An error changes nothing.
     fn put(&mut self, site: &Site) -> Result<(), AllocError>
         requires { IsSite site.now }
+        ensures ok { OnOk result (self.new ≡ record self.old { sites = with_site site.now self.old.sites }) }
+        ensures err { OnErr result (self.new ≡ self.old) }
     {
         self.sites.put(site.copy()?)
     }
@@ -162,8 +163,9 @@ impl Relay {
     }
 }
 
-/// The verdict where a report of the same key is there with this digest.
+/// The verdict on a report with this digest, whose key stands with that one already.
 fn compared(same: Verdict, there: [u8; 32], digest: [u8; 32]) -> Verdict
+    ensures { result ≡ verdict.compared same there digest }
 {
     if there == digest { same } else { Verdict::Conflict(there) }
 }

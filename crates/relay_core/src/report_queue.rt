@@ -1,10 +1,10 @@
-ghost use Rattle.std.specs.Prelude.{◌≡◌, ◌++◌, ◌∷◌, [], ◌<◌, ◌-◌, length, Some, All, OnOk, OnErr, take, position};
+ghost use Rattle.std.specs.Prelude.{◌≡◌, ◌++◌, ◌∷◌, [], ◌<◌, ◌-◌, length, None, Some, MatchOption, All, OnOk, OnErr, take, position};
 ghost use Rattle.report_text.specs.Reports.{IsReport};
-ghost use Rattle.relay_core.specs.ReportKeys.{key_of, same_key, report_digest};
+ghost use Rattle.relay_core.specs.ReportKeys.{key_of, same_key, report_digest, queued_digest};
 ghost use Rattle.relay_core.specs.Reports.{without, with_held};
 ghost use Rattle.relay_core.specs.Indexes.{shown_key, FindsState, IsNewKey, IsQueued, HasState, Writes};
 
-use crate::key::Key;
+use crate::key::{Key, LONGEST_NAME};
 use report_text::Report;
 use std::alloc::{AllocError, Global};
 use std::collections::{BTreeMap, VecDeque};
@@ -76,6 +76,23 @@ impl ReportQueue {
         ensures { FindsState self.now (shown_key key.now) result }
     {
         self.states.get(key).copied()
+    }
+
+    /// The key of the queued report of this computer and number, if there is one.
+    pub(crate) fn queued_key(&self, computer: &str, seq: u64) -> Option<Key>
+        ensures { MatchOption result (queued_digest self.now.queue (record { computer = computer.now; seq = seq }) ≡ None)
+            (λ key. (shown_key key ≡ record { computer = computer.now; seq = seq }) × IsQueued self.now (shown_key key)) }
+    {
+        // the names of queued reports aren't longer
+        let _ = &self.reports;
+        if computer.len() > LONGEST_NAME {
+            return None;
+        }
+        let key = Key::new(computer, seq);
+        match self.state(&key) {
+            Some(KeyState::Queued(_)) => Some(key),
+            _ => None,
+        }
     }
 
     /// Queues a report of which this is the key and the digest, and takes the room for what is remembered of it. An error changes nothing.
