@@ -1,4 +1,5 @@
 pub mod Told
+pub mod Rises
 pub mod Looks
 pub mod Acts
 pub mod Polls

@@ -1,10 +1,11 @@
 -- What a look does.
-use Rattle.std.specs.Prelude.{◌≡◌, List, [], ◌∷◌, ⊤, Some}
+use Rattle.std.specs.Prelude.{◌≡◌, List, [], ◌∷◌, ⊤, None, Some}
 use Rattle.std.specs.declared.option.Option.{Option}
 use Rattle.bf_world.specs.declared.key.Key.{Key}
 use Rattle.bf_world.specs.Answers.{IsGoodAnswer, HasAscendingNames}
 use Rattle.bf_world.specs.Shown.{shown}
 use Rattle.bf_world.specs.Worlds.{WorldState}
+use Rattle.bf_machine.specs.Told.{Grows}
 use Rattle.bf_machine.specs.declared.machine.Looked.{Looked}
 use Rattle.bf_machine.specs.declared.machine.Looked.TheVariants as looked
 
@@ -27,3 +28,8 @@ IsGood _ = ⊤
 abbrev pub Ascends : Looked → Type 0
 Ascends (looked.Answer answer) = HasAscendingNames answer
 Ascends _ = ⊤
+
+-- The keys that a machine tells grow by these, where it tells its world.
+abbrev pub LooksUp : Option WorldState → Option (List Key) → Option (List Key) → List Key → Type 0
+LooksUp None old new keys = ⊤
+LooksUp (Some w) old new keys = Grows old new keys

@@ -1,10 +1,10 @@
-use desk_base::Bytes;
+use desk_base::{Bytes, Room};
 use line_forms::{
-    Fields, LineForm, Lines, a_cursor_stands_at_the_bad_line, after_word, first_field, last_part,
-    one_first_bad_line, read_content, read_digest, read_i64, read_id, read_moment, read_name,
-    read_number, read_offset, read_part, read_path, read_rest, read_u32, read_version,
-    version_numbers, write_content, write_digest, write_field, write_line, write_number,
-    write_signed_number,
+    Fields, LineForm, Lines, a_cursor_stands_at_the_bad_line, after_word, fill_content,
+    fill_digest, fill_ended_line, fill_field, first_field, last_part, one_first_bad_line,
+    read_content, read_digest, read_i64, read_id, read_moment, read_name, read_number, read_offset,
+    read_part, read_path, read_rest, read_u32, read_version, version_numbers, write_content,
+    write_digest, write_field, write_line, write_number, write_signed_number,
 };
 use std::test::Fail;
 
@@ -78,6 +78,20 @@ fn fields_and_lines_are_written(rt: HostRuntime) -> Result<(), Fail> {
         &read_digest(DIGEST.as_bytes()).ok_or("no digest")?,
         &mut digits,
     )?;
+    assert_eq!(rt; digits.as_slice(), DIGEST.as_bytes());
+    Ok(())
+}
+
+#[test]
+fn fields_and_lines_are_written_into_given_room(rt: HostRuntime) -> Result<(), Fail> {
+    let digest = read_digest(DIGEST.as_bytes()).ok_or("no digest")?;
+    let mut room = Room::with_capacity(rt.alloc(), 10)?;
+    fill_content(b"a b", &mut room);
+    fill_ended_line(b"", &mut room);
+    fill_field(b"row", &mut room);
+    assert_eq!(rt; room.as_slice(), b"| a b\nrow ".as_slice());
+    let mut digits = Room::with_capacity(rt.alloc(), 64)?;
+    fill_digest(&digest, &mut digits);
     assert_eq!(rt; digits.as_slice(), DIGEST.as_bytes());
     Ok(())
 }

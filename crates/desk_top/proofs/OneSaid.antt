@@ -11,7 +11,8 @@ use Rattle.line_forms.specs.BadLines.{AnswersBadLine}
 use Rattle.line_forms.proofs.BadLines.{first_bad_line-one}
 use Rattle.rel_session.specs.declared.line.Line.{Line}
 use Rattle.rel_session.specs.declared.line.Line.TheVariants.{Question, Page, More, NoCommand}
-use Rattle.rel_session.specs.Devices.{DidAll, RoseBy}
+use Rattle.bf_machine.specs.Rises.{RoseBy}
+use Rattle.rel_session.specs.Devices.{DidAll}
 use Rattle.rel_session.specs.Lines.{lines_of}
 use Rattle.rel_session.specs.Sessions.{Answers, Asks, Run, Runs, Session, begins_with_colon, fresh}
 use Rattle.rel_session.proofs.OneRun.{runs_once}

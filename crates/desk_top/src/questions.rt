@@ -35,6 +35,7 @@ pub(crate) fn ask_machine<W: Sink, M: Machine, C: Clock>(
     ensures status { IsMachineStatus result }
     ensures world { M.world machine.new ≡ M.world machine.old }
     ensures acted { M.acted machine.new ≡ M.acted machine.old }
+    ensures polled { M.polled machine.new ≡ M.polled machine.old }
     ensures started { M.started machine.new ≡ M.started machine.old }
     ensures machine_later { M.faults machine.old ≤ M.faults machine.new }
     ensures later { W.faults sink.old ≤ W.faults sink.new }

@@ -108,6 +108,7 @@ pub fn desk<S: Source, W: Sink, M: Machine, C: Clock>(
     // Questions leave the machine's world, and only `qna` asks the machine and the clock.
     ensures world { M.world machine.new ≡ M.world machine.old }
     ensures acted { M.acted machine.new ≡ M.acted machine.old }
+    ensures polled { M.polled machine.new ≡ M.polled machine.old }
     ensures started { M.started machine.new ≡ M.started machine.old }
     ensures unasked { ¬ AsksSome words.now AsksDevices → (machine.new ≡ machine.old) × (clock.new ≡ clock.old) }
 

@@ -8,19 +8,20 @@ use Rattle.line_forms.specs.Names.{IsName}
 use Rattle.line_forms.specs.Fields.{field_text}
 use Rattle.line_forms.specs.FieldLists.{line_of}
 use Rattle.line_forms.specs.LineStates.{LineState}
+use Rattle.line_forms.specs.Readers.{Passes, AreLinesOf, IsStuck, IsNotAhead, TakesExactly, IsAny, ReadsPart, NeverGoesOn}
+use Rattle.line_forms.specs.Numbers.{IsId}
+use Rattle.line_forms.proofs.Passing.{cons_head, cons_tail, passes_then}
 use Rattle.act_rules.specs.declared.rule.Rules.{Rules}
 use Rattle.fix_site.specs.declared.action.Action.{Action}
 use Rattle.fix_site.specs.declared.action.Target.{Target}
 use Rattle.fix_site.specs.declared.action.Target.TheVariants as target
 use Rattle.fix_site.specs.declared.action_reader.ActionEnd.{ActionEnd}
-use Rattle.fix_site.specs.Ids.{IsId}
 use Rattle.fix_site.specs.RuleLines.{IsRules, start_line, rules_lines}
 use Rattle.fix_site.specs.Actions.{IsAction, IsTarget, action_line, issued_line, content_line, members_line, target_lines, state_line, end_line, action_rest, action_lines, AreActionLines}
-use Rattle.fix_site.specs.Readings.{Passes, AreLinesOf, IsStuck, IsNotAhead, TakesExactly, IsTargetOver, IsAny, choice_line, named_fields, HeadValue, IsHead, head_lines, IsEnd, end_lines, IsActionOf, ReadsPart}
-use Rattle.fix_site.proofs.Parts.{Lines, IsOneWay, Then, HasSome, single, one_way-line, rest_same, regroup, cons_head, cons_tail}
+use Rattle.fix_site.specs.Readings.{IsTargetOver, choice_line, named_fields, HeadValue, IsHead, head_lines, IsEnd, end_lines, IsActionOf}
+use Rattle.fix_site.proofs.Parts.{Lines, IsOneWay, Then, HasSome, single, one_way-line, rest_same, regroup}
 use Rattle.fix_site.proofs.Lists.{EndsForeign, IsForeign, with_first, Many, each_none, each_more, stops_empty, many_one}
-use Rattle.fix_site.proofs.Ends.{NeverGoesOn}
-use Rattle.fix_site.proofs.Stuck.{no_tail, Only, passes_then, stuck_first, stuck_behind, stuck_many, stuck_same, stuck_line, stuck_only}
+use Rattle.fix_site.proofs.Stuck.{no_tail, Only, stuck_first, stuck_behind, stuck_many, stuck_same, stuck_line, stuck_only}
 use Rattle.fix_site.proofs.ContentLines.{apart}
 use Rattle.fix_site.proofs.FieldLemmas.{named_one, moment_one, id_one}
 use Rattle.fix_site.proofs.Rules.{rules_one, some_rules}

@@ -4,16 +4,18 @@ use Rattle.std.specs.Prelude.{codes, flat_map}
 use Rattle.std.proofs.lemmas.List.Elements.{All-nil, All-cons, All-head, All-tail}
 use Rattle.line_forms.specs.Names.{IsRest}
 use Rattle.line_forms.specs.LineStates.{LineState}
+use Rattle.line_forms.specs.Readers.{Passes, AreLinesOf, IsStuck, EachCan, IsNotAhead, TakesAll, TakesExactly}
+use Rattle.line_forms.specs.Numbers.{IsId}
+use Rattle.line_forms.proofs.Passing.{cons_head, cons_tail, passes_then}
 use Rattle.fix_site.specs.declared.baseline.Baseline.{Baseline}
 use Rattle.fix_site.specs.declared.block.Block.{Block}
-use Rattle.fix_site.specs.Ids.{IsId}
 use Rattle.fix_site.specs.Actions.{end_line}
 use Rattle.fix_site.specs.Contents.{title_line, relevance_line, component_line, baseline_rest}
 use Rattle.fix_site.specs.Blocks.{HasFixlet}
-use Rattle.fix_site.specs.Readings.{Passes, AreLinesOf, IsStuck, EachCan, Anywhere, IsBaselineOf, IsComponent, IsNotAhead, TakesAll, TakesExactly}
-use Rattle.fix_site.proofs.Parts.{Lines, IsOneWay, Then, HasSome, single, cons_head, cons_tail, regroup}
+use Rattle.fix_site.specs.Readings.{Anywhere, IsBaselineOf, IsComponent}
+use Rattle.fix_site.proofs.Parts.{Lines, IsOneWay, Then, HasSome, single, regroup}
 use Rattle.fix_site.proofs.Lists.{OneWayBehind, EndsForeign, with_first, Many, each_none, each_more, many_one, stops_empty}
-use Rattle.fix_site.proofs.Stuck.{no_tail, flat_single, Only, passes_then, stuck_first, stuck_behind, stuck_many, stuck_same, stuck_line, stuck_only}
+use Rattle.fix_site.proofs.Stuck.{no_tail, flat_single, Only, stuck_first, stuck_behind, stuck_many, stuck_same, stuck_line, stuck_only}
 use Rattle.fix_site.proofs.ListLemmas.{all_each, each_all}
 use Rattle.fix_site.proofs.ContentLines.{a_rest, title_one, relevance_one, component_same, component_not_relevance, end_not_component}
 

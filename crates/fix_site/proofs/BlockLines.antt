@@ -5,6 +5,9 @@ use Rattle.std.proofs.lemmas.List.{append_cancel_left}
 use Rattle.std.proofs.lemmas.List.Elements.{All-head, All-contains}
 use Rattle.line_forms.specs.Fields.{field_text}
 use Rattle.line_forms.specs.LineStates.{LineState}
+use Rattle.line_forms.specs.Readers.{Passes, AreLinesOf, StopsAt, IsStuck, IsNotAhead}
+use Rattle.line_forms.specs.Numbers.{IsId}
+use Rattle.line_forms.proofs.Passing.{cons_head, cons_tail, passes_then}
 use Rattle.fix_site.specs.declared.action.Action.{Action}
 use Rattle.fix_site.specs.declared.fixlet.Success.TheVariants as success
 use Rattle.fix_site.specs.declared.block.Block.{Block}
@@ -12,15 +15,14 @@ use Rattle.fix_site.specs.declared.block.Block.TheVariants.{Fixlet as fixlet_blo
 use Rattle.fix_site.specs.declared.block_reader.Head.{Head}
 use Rattle.fix_site.specs.declared.block_reader.Kind.{Kind}
 use Rattle.fix_site.specs.declared.block_reader.Kind.TheVariants as kind
-use Rattle.fix_site.specs.Ids.{IsId}
 use Rattle.fix_site.specs.Actions.{action_rest}
 use Rattle.fix_site.specs.Contents.{fixlet_rest, baseline_rest}
 use Rattle.fix_site.specs.Blocks.{IsBlock, IsKindOf, HasId, HasFixlet, CanFollow, AreBlocks, HasNewId, block_id, id_line, block_rest, block_lines}
-use Rattle.fix_site.specs.Readings.{Passes, AreLinesOf, StopsAt, IsStuck, IsNotAhead, IsTwice, IsFixletOf, IsBaselineOf, IsActionOf, IsComponent}
+use Rattle.fix_site.specs.Readings.{IsTwice, IsFixletOf, IsBaselineOf, IsActionOf, IsComponent}
 use Rattle.fix_site.specs.BlockHeads.{IsKindFor, head_line, CanBegin, CanStand, IsBlockOf}
-use Rattle.fix_site.proofs.Parts.{Lines, cons_head, cons_tail}
+use Rattle.fix_site.proofs.Parts.{Lines}
 use Rattle.fix_site.proofs.Lists.{OneWayBehind, with_first}
-use Rattle.fix_site.proofs.Stuck.{passes_then, stuck_same}
+use Rattle.fix_site.proofs.Stuck.{stuck_same}
 use Rattle.fix_site.proofs.ListLemmas.{each_all}
 use Rattle.fix_site.proofs.ContentLines.{apart}
 use Rattle.fix_site.proofs.FieldLemmas.{id_one}

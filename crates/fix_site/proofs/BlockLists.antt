@@ -2,12 +2,13 @@
 use Rattle.std.proofs.Common.{ℕ, ◌≡◌, List, [], ◌∷◌, ◌++◌, sym, ap, subst, ◌∙◌, append_assoc, append-nil, None, Ok}
 use Rattle.std.specs.Prelude.{flat_map}
 use Rattle.line_forms.specs.LineStates.{LineState}
+use Rattle.line_forms.specs.Readers.{Passes}
+use Rattle.line_forms.proofs.Passing.{passes_then}
 use Rattle.fix_site.specs.declared.block.Block.{Block}
 use Rattle.fix_site.specs.Blocks.{AreBlocks, CanFollow, block_lines}
-use Rattle.fix_site.specs.Readings.{Passes, TakesBlock, TakesBlocks}
+use Rattle.fix_site.specs.Readings.{TakesBlock, TakesBlocks}
 use Rattle.fix_site.proofs.Parts.{Lines}
 use Rattle.fix_site.proofs.Lists.{each_more}
-use Rattle.fix_site.proofs.Stuck.{passes_then}
 
 all_more : (blocks : List Block) (block : Block) → flat_map block_lines (blocks ++ block ∷ []) ≡ flat_map block_lines blocks ++ block_lines block
 all_more [] block = append-nil (block_lines block)

@@ -10,12 +10,14 @@ use Rattle.line_forms.specs.Contents as held
 use Rattle.line_forms.specs.Fields.{field_text}
 use Rattle.fix_site.specs.declared.fixlet.Success.{Success}
 use Rattle.fix_site.specs.declared.fixlet.Success.TheVariants as success
-use Rattle.fix_site.specs.Ids.{IsId}
 use Rattle.fix_site.specs.Actions.{end_line}
 use Rattle.fix_site.specs.Contents.{IsSuccess, title_line, relevance_line, success_line, component_line}
 use Rattle.line_forms.specs.LineStates.{LineState}
-use Rattle.fix_site.specs.Readings.{Anywhere, FitsScript, Passes, IsNotAhead, TakesExactly}
-use Rattle.fix_site.proofs.Parts.{Lines, IsOneWay, single, one_way-line, cons_head}
+use Rattle.line_forms.specs.Readers.{Passes, IsNotAhead, TakesExactly}
+use Rattle.line_forms.specs.Numbers.{IsId}
+use Rattle.line_forms.proofs.Passing.{cons_head}
+use Rattle.fix_site.specs.Readings.{Anywhere, FitsScript}
+use Rattle.fix_site.proofs.Parts.{Lines, IsOneWay, single, one_way-line}
 use Rattle.fix_site.proofs.Lists.{OneWayBehind, with_first}
 use Rattle.fix_site.proofs.Stuck.{no_tail, not_taken}
 use Rattle.fix_site.proofs.FieldLemmas.{id_one}

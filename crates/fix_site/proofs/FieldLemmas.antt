@@ -14,11 +14,11 @@ use Rattle.line_forms.specs.Cuts.{Lacks}
 use Rattle.line_forms.specs.Names.{IsName, is_name_byte}
 use Rattle.line_forms.specs.FieldLists.{fields_of, line_of}
 use Rattle.line_forms.proofs.Pieces.{pieces-join, join-pieces}
+use Rattle.line_forms.specs.Numbers.{IsId}
+use Rattle.line_forms.proofs.Passing.{cons_head, cons_tail}
 use Rattle.act_rules.specs.declared.rule.Hours.{Hours}
-use Rattle.fix_site.specs.Ids.{IsId}
 use Rattle.fix_site.specs.RuleLines.{IsHours, IsCount, IsWait}
 use Rattle.fix_site.specs.Readings.{named_fields, counted_fields}
-use Rattle.fix_site.proofs.Parts.{cons_head, cons_tail}
 use lib.Signed.{mag}
 
 -- every byte is 45, the sign `-`, or above

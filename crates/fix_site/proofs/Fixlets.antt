@@ -4,16 +4,18 @@ use Rattle.std.specs.Prelude.{codes, flat_map}
 use Rattle.line_forms.specs.Contents as held
 use Rattle.line_forms.specs.Names.{IsRest}
 use Rattle.line_forms.specs.LineStates.{LineState}
+use Rattle.line_forms.specs.Readers.{Passes, AreLinesOf, IsStuck, IsNotAhead, TakesAll, TakesExactly}
+use Rattle.line_forms.specs.Numbers.{IsId}
+use Rattle.line_forms.proofs.Passing.{cons_head, cons_tail, passes_then}
 use Rattle.fix_site.specs.declared.fixlet.Fixlet.{Fixlet}
 use Rattle.fix_site.specs.declared.fixlet.Success.{Success}
 use Rattle.fix_site.specs.declared.fixlet.Success.TheVariants as success
-use Rattle.fix_site.specs.Ids.{IsId}
 use Rattle.fix_site.specs.Actions.{end_line}
 use Rattle.fix_site.specs.Contents.{IsSuccess, title_line, relevance_line, success_line, fixlet_rest}
-use Rattle.fix_site.specs.Readings.{Passes, AreLinesOf, IsStuck, Anywhere, FitsScript, IsFixletOf, IsNotAhead, TakesAll, TakesExactly}
-use Rattle.fix_site.proofs.Parts.{Lines, IsOneWay, Then, HasSome, single, cons_head, cons_tail, regroup}
+use Rattle.fix_site.specs.Readings.{Anywhere, FitsScript, IsFixletOf}
+use Rattle.fix_site.proofs.Parts.{Lines, IsOneWay, Then, HasSome, single, regroup}
 use Rattle.fix_site.proofs.Lists.{EndsForeign, with_first, Many, each_none, many_one}
-use Rattle.fix_site.proofs.Stuck.{no_tail, flat_single, Only, passes_then, stuck_first, stuck_behind, stuck_many, stuck_same, stuck_line, stuck_only}
+use Rattle.fix_site.proofs.Stuck.{no_tail, flat_single, Only, stuck_first, stuck_behind, stuck_many, stuck_same, stuck_line, stuck_only}
 use Rattle.fix_site.proofs.ListLemmas.{all_each, each_all, script_each, each_script}
 use Rattle.fix_site.proofs.ContentLines.{a_rest, title_one, relevance_one, success_one, success_not_relevance, script_one, end_not_content}
 

@@ -10,6 +10,7 @@ use Rattle.line_forms.specs.LineStates.{lines_of, unended_of}
 use Rattle.line_forms.specs.Lines.{IsLine, lines_text}
 use Rattle.line_forms.specs.BadLines.{IsTextOf}
 use Rattle.line_forms.proofs.BadLines.{first_bad_line-none}
+use Rattle.line_forms.proofs.Passing.{cons_head, cons_tail}
 use Rattle.fix_site.specs.declared.action.Action.{Action}
 use Rattle.fix_site.specs.declared.block.Block.{Block}
 use Rattle.fix_site.specs.declared.site.Site.{Site}
@@ -19,7 +20,7 @@ use Rattle.fix_site.specs.Actions.{IsAction, AreActionLines, action_lines, actio
 use Rattle.fix_site.specs.Blocks.{AreBlocks, CanFollow, id_line, block_lines}
 use Rattle.fix_site.specs.Sites.{IsSite, IsDigestValue, AreSiteLines, site_line, digest_line, site_digest, body_lines, lines_with, site_lines, site_text}
 use Rattle.fix_site.specs.Answers.{IsShort, ReadsAction, ReadsSite}
-use Rattle.fix_site.proofs.Parts.{Lines, cons_head, cons_tail}
+use Rattle.fix_site.proofs.Parts.{Lines}
 use Rattle.fix_site.proofs.Lists.{Compares, compare}
 use Rattle.fix_site.proofs.Actions.{action_lines_one}
 use Rattle.fix_site.proofs.BlockLines.{block_one}

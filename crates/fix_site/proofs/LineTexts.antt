@@ -14,6 +14,7 @@ use Rattle.line_forms.specs.Names.{IsName, IsRest, IsLineText}
 use Rattle.line_forms.specs.Fields.{field_text}
 use Rattle.line_forms.specs.FieldLists.{line_of}
 use Rattle.line_forms.specs.Lines.{IsLine}
+use Rattle.line_forms.specs.Numbers.{IsId}
 use Rattle.act_rules.specs.declared.rule.Rules.{Rules}
 use Rattle.fix_site.specs.declared.action.Action.{Action}
 use Rattle.fix_site.specs.declared.action.Target.{Target}
@@ -25,7 +26,6 @@ use Rattle.fix_site.specs.declared.fixlet.Fixlet.{Fixlet}
 use Rattle.fix_site.specs.declared.fixlet.Success.{Success}
 use Rattle.fix_site.specs.declared.fixlet.Success.TheVariants as success
 use Rattle.fix_site.specs.declared.site.Site.{Site}
-use Rattle.fix_site.specs.Ids.{IsId}
 use Rattle.fix_site.specs.RuleLines.{IsRules, moment_field, hours_fields, day_digit, reapply_fields, client_lines, hours_line, days_line, retries_line, reapply_line, start_line, until_line, rules_lines}
 use Rattle.fix_site.specs.Actions.{IsAction, IsTarget, action_line, issued_line, content_line, members_line, computer_line, target_lines, state_line, end_line, action_rest, action_lines}
 use Rattle.fix_site.specs.Contents.{IsFixlet, IsBaseline, IsSuccess, fixlet_line, baseline_line, title_line, relevance_line, success_line, component_line, fixlet_rest, baseline_rest}

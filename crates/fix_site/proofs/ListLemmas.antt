@@ -3,8 +3,9 @@ use Rattle.std.proofs.Common.{ℕ, suc, ◌≡◌, ◌+◌, ◌<◌, ◌≤◌, 
 use Rattle.std.proofs.lemmas.List.Elements.{All-nil, All-cons, All-head, All-tail}
 use Rattle.line_forms.specs.Lines.{lines_text, ended_line}
 use Rattle.line_forms.specs.Names.{IsLineText}
+use Rattle.line_forms.specs.Readers.{EachCan}
 use Rattle.fix_site.specs.Contents.{IsScript}
-use Rattle.fix_site.specs.Readings.{EachCan, Anywhere, FitsScript, FitsRoom}
+use Rattle.fix_site.specs.Readings.{Anywhere, FitsScript, FitsRoom}
 
 pub all_at : {V : Type 0} (P : V → Type 0) (before after : List V) (v : V) → All P (before ++ v ∷ after) → P v
 all_at P [] after v h = All-head P v after h

@@ -3,8 +3,9 @@ use Rattle.std.proofs.Common.{ℕ, ◌≡◌, List, [], ◌∷◌, ◌++◌, ref
 use Rattle.std.specs.Prelude.{flat_map}
 use Rattle.line_forms.specs.LineStates.{LineState}
 use Rattle.line_forms.specs.BadLines.{Begins}
-use Rattle.fix_site.specs.Readings.{AreLinesOf, StopsAt, EachCan, IsNotAhead}
-use Rattle.fix_site.proofs.Parts.{Lines, cons_head, cons_tail, splits, rest_same, covers, no_value_ahead, Then, HasSome}
+use Rattle.line_forms.specs.Readers.{AreLinesOf, StopsAt, EachCan, IsNotAhead}
+use Rattle.line_forms.proofs.Passing.{cons_head, cons_tail}
+use Rattle.fix_site.proofs.Parts.{Lines, splits, rest_same, covers, no_value_ahead, Then, HasSome}
 
 -- each value of a list stands behind those before it; one more can be added, and taken off
 pub each_none : {V : Type 0} (Can : List V → V → Type 0) → EachCan Can []

@@ -3,17 +3,12 @@ use Rattle.std.proofs.Common.{ℕ, ◌≡◌, List, [], ◌∷◌, ◌++◌, ref
 use Rattle.std.proofs.lemmas.List.{append_cancel_left}
 use Rattle.line_forms.specs.LineStates.{LineState}
 use Rattle.line_forms.specs.BadLines.{Begins}
-use Rattle.fix_site.specs.Readings.{AreLinesOf, StopsAt, IsNotAhead}
+use Rattle.line_forms.specs.Readers.{AreLinesOf, StopsAt, IsNotAhead}
+use Rattle.line_forms.proofs.Passing.{cons_head, cons_tail}
 
 -- lists of lines
 abbrev pub Lines : Type 0
 Lines = List (List ℕ)
-
-pub cons_head : {A : Type 0} (x y : A) (xs ys : List A) → x ∷ xs ≡ y ∷ ys → x ≡ y
-cons_head x y xs ys h = cc
-
-pub cons_tail : {A : Type 0} (x y : A) (xs ys : List A) → x ∷ xs ≡ y ∷ ys → xs ≡ ys
-cons_tail x y xs ys h = cc
 
 -- two lists that begin one list: one of them begins the other
 abbrev pub Splits : Lines → Lines → Lines → Lines → Type 0

@@ -7,12 +7,13 @@ use Rattle.std.proofs.lemmas.List.Elements.{All-nil, All-cons, All-append, All-h
 use Rattle.std.proofs.lemmas.Fmt.{decimal_by_steps, decimal_injective}
 use Rattle.desk_base.specs.Moments.{IsMoment}
 use Rattle.line_forms.specs.FieldLists.{line_of}
+use Rattle.line_forms.specs.Readers.{Spells}
+use Rattle.line_forms.proofs.Passing.{cons_head, cons_tail}
 use Rattle.act_rules.specs.declared.rule.Hours.{Hours}
 use Rattle.act_rules.specs.declared.rule.Reapply.{Reapply}
 use Rattle.act_rules.specs.declared.rule.Reapply.TheVariants.{Never, Again, While}
 use Rattle.fix_site.specs.RuleLines.{IsHours, IsCount, IsWait, IsReapply, moment_field, hours_fields, day_digit, reapply_fields}
-use Rattle.fix_site.specs.Readings.{Spells, IsMaybeMoment, counted_fields}
-use Rattle.fix_site.proofs.Parts.{cons_head, cons_tail}
+use Rattle.fix_site.specs.Readings.{IsMaybeMoment, counted_fields}
 use Rattle.fix_site.proofs.FieldLemmas.{IsPlain, plain_by, plain_counted, fields_one, both_one, hours_plain, moment_one}
 
 -- no byte of a number is above 57, the digit 9

@@ -5,15 +5,17 @@ use Rattle.std.proofs.lemmas.List.{append_cancel_left}
 use Rattle.line_forms.specs.Fields.{field_text}
 use Rattle.line_forms.specs.FieldLists.{line_of}
 use Rattle.line_forms.specs.LineStates.{LineState}
+use Rattle.line_forms.specs.Readers.{Passes, AreLinesOf, IsStuck, EachCan, IsNotAhead, TakesAll, TakesExactly}
+use Rattle.line_forms.proofs.Passing.{cons_head, cons_tail, passes_none, passes_then}
 use Rattle.act_rules.specs.declared.rule.Rules.{Rules}
 use Rattle.act_rules.specs.declared.rule.Hours.{Hours}
 use Rattle.act_rules.specs.declared.rule.Reapply.{Reapply}
 use Rattle.act_rules.specs.declared.rule.Reapply.TheVariants.{Never}
 use Rattle.fix_site.specs.RuleLines.{IsRules, IsHours, IsCount, IsWait, IsReapply, moment_field, hours_fields, day_digit, reapply_fields, start_line, until_line, client_lines, hours_line, days_line, retries_line, reapply_line, rules_lines}
-use Rattle.fix_site.specs.Readings.{Passes, AreLinesOf, IsStuck, EachCan, IsNotAhead, TakesAll, TakesExactly, IsMaybeMoment, counted_fields}
-use Rattle.fix_site.proofs.Parts.{Lines, IsOneWay, Then, HasSome, single, one_way-line, cons_head, cons_tail}
+use Rattle.fix_site.specs.Readings.{IsMaybeMoment, counted_fields}
+use Rattle.fix_site.proofs.Parts.{Lines, IsOneWay, Then, HasSome, single, one_way-line}
 use Rattle.fix_site.proofs.Lists.{OneWayBehind, EndsForeign, with_first, Many, each_none, each_more}
-use Rattle.fix_site.proofs.Stuck.{no_tail, passes_none, passes_then, stuck_first, stuck_behind, stuck_many, stuck_same, stuck_line}
+use Rattle.fix_site.proofs.Stuck.{no_tail, stuck_first, stuck_behind, stuck_many, stuck_same, stuck_line}
 use Rattle.fix_site.proofs.ContentLines.{apart}
 use Rattle.fix_site.proofs.FieldLemmas.{counted_one}
 use Rattle.fix_site.proofs.RuleFields.{moment_same, hours_same, days_same, reapply_same}

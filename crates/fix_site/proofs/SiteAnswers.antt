@@ -7,18 +7,20 @@ use Rattle.hex.specs.Hex.{encode_lower}
 use Rattle.sha2.specs.Sha256.{sha256}
 use Rattle.line_forms.specs.Names.{IsName}
 use Rattle.line_forms.specs.Fields.{field_text}
-use Rattle.line_forms.specs.LineStates.{LineState, lines_of}
+use Rattle.line_forms.specs.LineStates.{LineState, lines_of, before_lines}
 use Rattle.line_forms.specs.Lines.{lines_text, ended_line}
+use Rattle.line_forms.specs.Readers.{Passes, StopsAt, IsOver}
+use Rattle.line_forms.specs.Numbers.{IsId}
+use Rattle.line_forms.proofs.Passing.{stands_behind, stops_first_bad, behind_first_bad}
 use Rattle.fix_site.specs.declared.error.SiteError.{SiteError}
 use Rattle.fix_site.specs.declared.error.SiteError.TheVariants as error
 use Rattle.fix_site.specs.declared.site.Site.{Site}
-use Rattle.fix_site.specs.Ids.{IsId}
 use Rattle.fix_site.specs.Sites.{IsSite, IsDigestValue, AreSiteLines, EndsInTwiceId, site_line, digest_line, body_lines, lines_with, site_digest}
 use Rattle.fix_site.specs.Answers.{IsShort, AnswersOtherLine, ReadsSite}
-use Rattle.fix_site.specs.Readings.{Passes, StopsAt, IsTwiceAhead, TakesBlocks, ReadsStated}
+use Rattle.fix_site.specs.Readings.{IsTwiceAhead, TakesBlocks, ReadsStated}
 use Rattle.fix_site.proofs.Parts.{Lines}
 use Rattle.fix_site.proofs.ListLemmas.{lines_text-append}
-use Rattle.fix_site.proofs.Ends.{start_of, IsOver, stands_behind, stuck_first_bad, left_first_bad, first_lines, no_more_lines}
+use Rattle.fix_site.proofs.Ends.{first_lines, no_more_lines}
 use Rattle.fix_site.proofs.SiteStops.{site_block, site_twice, twice_not_begun, whole_not_twice, site_ends}
 use Rattle.fix_site.proofs.LineTexts.{digest_length}
 
@@ -33,18 +35,18 @@ stated_wrong name version old a new error.TooLong is good one (blocks, mid, are,
 stated_wrong name version old a new error.Memory is good one h = tt
 
 -- no line ahead is one with an id that stood before
-never_twice : (text : List ℕ) (before ahead : Lines) (new : LineState) → new.lines ≡ ahead → Passes (start_of text) new before → (EndsInTwiceId before → ⊥) → ((line : List ℕ) (more : Lines) → new.lines ≡ line ∷ more → ¬ EndsInTwiceId (before ++ line ∷ [])) →
+never_twice : (text : List ℕ) (before ahead : Lines) (new : LineState) → new.lines ≡ ahead → Passes (before_lines text) new before → (EndsInTwiceId before → ⊥) → ((line : List ℕ) (more : Lines) → new.lines ≡ line ∷ more → ¬ EndsInTwiceId (before ++ line ∷ [])) →
     ¬ EndsInTwiceId (take (length before + 1) (lines_of text))
 never_twice text before [] new e passes none next ends = let P : Lines → Type 0 = EndsInTwiceId in none (subst P (no_more_lines text before new passes e) ends)
 never_twice text before (line ∷ more) new e passes none next ends =
     let P : Lines → Type 0 = EndsInTwiceId in next line more e (subst P (first_lines text before new line more passes e) ends)
 
-pub site_wrong : (text : List ℕ) (new : LineState) (e : SiteError) → IsShort text → ReadsStated (start_of text) new (Err e) → ReadsSite text (Err e)
+pub site_wrong : (text : List ℕ) (new : LineState) (e : SiteError) → IsShort text → ReadsStated (before_lines text) new (Err e) → ReadsSite text (Err e)
 site_wrong text new (error.BadLine line) short (number, (before, passes, stops, not_twice)) = (
   short,
   (
     length before + 1,
-    stuck_first_bad AreSiteLines text before new passes stops,
+    stops_first_bad AreSiteLines text before new.lines new refl (stands_behind text before new passes) stops,
     never_twice text before new.lines new refl passes (λ ends. twice_not_begun before ends stops.begins) (λ next more e ends. not_twice (next, more, e, ends)),
     number ∙ (stands_behind text before new passes).number,
   ),
@@ -52,18 +54,18 @@ site_wrong text new (error.BadLine line) short (number, (before, passes, stops, 
 site_wrong text new (error.TwiceId line) short (number, (before, passes, stops, (next, more, e, ends))) =
     let P : Lines → Type 0 = EndsInTwiceId in (
       short,
-      (length before + 1, stuck_first_bad AreSiteLines text before new passes stops, subst P (sym (first_lines text before new next more passes e)) ends, number ∙ (stands_behind text before new passes).number),
+      (length before + 1, stops_first_bad AreSiteLines text before new.lines new refl (stands_behind text before new passes) stops, subst P (sym (first_lines text before new next more passes e)) ends, number ∙ (stands_behind text before new passes).number),
     )
 site_wrong text new (error.WrongDigest stated found) short never = absurd never
 site_wrong text new error.TooLong short never = absurd never
 site_wrong text new error.Memory short h = tt
 
 -- something stands behind the lines of a site
-pub site_left : (text : List ℕ) (new : LineState) (site : Site) (digest : List ℕ) (number : ℕ) → IsSite site → IsDigestValue digest → Passes (start_of text) new (lines_with site digest) → ¬ IsOver new → number ≡ new.number → AnswersOtherLine text number
+pub site_left : (text : List ℕ) (new : LineState) (site : Site) (digest : List ℕ) (number : ℕ) → IsSite site → IsDigestValue digest → Passes (before_lines text) new (lines_with site digest) → ¬ IsOver new → number ≡ new.number → AnswersOtherLine text number
 site_left text new site digest number is is_digest passes left same =
     let lines = lines_with site digest in (
       length lines + 1,
-      left_first_bad AreSiteLines text lines new passes (site, digest, is, is_digest, refl) (site_ends site digest is is_digest) left,
+      behind_first_bad AreSiteLines text lines new.lines new refl (stands_behind text lines new passes) (site, digest, is, is_digest, refl) (site_ends site digest is is_digest) left,
       never_twice text lines new.lines new refl passes (λ ends. twice_not_begun lines ends ([], (site, digest, is, is_digest, append-nil lines))) (λ next more e ends. whole_not_twice site digest next is is_digest ends),
       same ∙ (stands_behind text lines new passes).number,
     )
@@ -99,7 +101,7 @@ found_digest text site digest count is_digest is sized =
     ap sha256 front
 
 -- the same, where the cursor began before the first line
-pub site_refused : (text : List ℕ) (start new : LineState) (e : SiteError) → start ≡ start_of text → IsShort text → ReadsStated start new (Err e) → ReadsSite text (Err e)
+pub site_refused : (text : List ℕ) (start new : LineState) (e : SiteError) → start ≡ before_lines text → IsShort text → ReadsStated start new (Err e) → ReadsSite text (Err e)
 site_refused text start new e begins short read = let P : LineState → Type 0 = λ s. ReadsStated s new (Err e) in site_wrong text new e short (subst P begins read)
 
 -- whether two digests are the same

@@ -7,13 +7,15 @@ use Rattle.line_forms.specs.Names.{IsName}
 use Rattle.line_forms.specs.Fields.{field_text}
 use Rattle.line_forms.specs.FieldLists.{line_of}
 use Rattle.hex.proofs.HexLemmas.{decode_sized-encode_lower}
+use Rattle.line_forms.specs.Readers.{AreLinesOf}
+use Rattle.line_forms.specs.Numbers.{IsId}
+use Rattle.line_forms.proofs.Passing.{cons_head, cons_tail}
 use Rattle.fix_site.specs.declared.block.Block.{Block}
 use Rattle.fix_site.specs.declared.block.Block.TheVariants.{Fixlet as fixlet_block, Baseline as baseline_block, Action as action_block}
-use Rattle.fix_site.specs.Ids.{IsId}
 use Rattle.fix_site.specs.Blocks.{CanFollow, id_line, block_rest, block_lines}
 use Rattle.fix_site.specs.Sites.{IsDigestValue, AreSiteLines, site_line, digest_line}
-use Rattle.fix_site.specs.Readings.{AreLinesOf, named_fields}
-use Rattle.fix_site.proofs.Parts.{Lines, IsOneWay, Then, single, one_way-line, cons_head, cons_tail}
+use Rattle.fix_site.specs.Readings.{named_fields}
+use Rattle.fix_site.proofs.Parts.{Lines, IsOneWay, Then, single, one_way-line}
 use Rattle.fix_site.proofs.Lists.{EndsForeign, Many}
 use Rattle.fix_site.proofs.ContentLines.{apart}
 use Rattle.fix_site.proofs.FieldLemmas.{named_one}

@@ -4,15 +4,16 @@ use Rattle.std.specs.Prelude.{flat_map, codes, slice_index}
 use Rattle.line_forms.specs.Names.{IsName}
 use Rattle.line_forms.specs.LineStates.{LineState}
 use Rattle.line_forms.specs.BadLines.{Begins}
+use Rattle.line_forms.specs.Readers.{Passes, AreLinesOf, StopsAt, IsNotAhead}
+use Rattle.line_forms.specs.Numbers.{IsId}
+use Rattle.line_forms.proofs.Passing.{cons_head, cons_tail, passes_none, passes_then}
 use Rattle.fix_site.specs.declared.block.Block.{Block}
 use Rattle.fix_site.specs.declared.site.Site.{Site}
-use Rattle.fix_site.specs.Ids.{IsId}
 use Rattle.fix_site.specs.Blocks.{AreBlocks, CanFollow, IsKindOf, HasId, block_id, id_line, block_rest, block_lines}
 use Rattle.fix_site.specs.Sites.{IsSite, IsDigestValue, AreSiteLines, EndsInTwiceId, site_line, digest_line, body_lines, lines_with}
-use Rattle.fix_site.specs.Readings.{Passes, AreLinesOf, StopsAt, IsNotAhead, IsTwice, IsTwiceAhead}
-use Rattle.fix_site.proofs.Parts.{Lines, HasSome, Then, single, covers, cons_head, cons_tail, stops_line, stops_behind, stops_first, stops_same}
+use Rattle.fix_site.specs.Readings.{IsTwice, IsTwiceAhead}
+use Rattle.fix_site.proofs.Parts.{Lines, HasSome, Then, single, covers, stops_line, stops_behind, stops_first, stops_same}
 use Rattle.fix_site.proofs.Lists.{Compares, each_none, compare, stops_many, stops_inside}
-use Rattle.fix_site.proofs.Stuck.{passes_none, passes_then}
 use Rattle.fix_site.proofs.Actions.{a_named}
 use Rattle.fix_site.proofs.BlockLines.{IsBadBlock, IsTwiceLine, block_one, twice_cannot}
 use Rattle.fix_site.proofs.SiteParts.{Head, IsHead, head_line, head_one, Last, Rest, there, back, digest_not_id, foreign, snoc_front}

@@ -1,36 +1,12 @@
 -- Going over lines, and where reading stops.
-use Rattle.std.proofs.Common.{ℕ, suc, ◌≡◌, ◌<◌, List, [], ◌∷◌, ◌++◌, length, refl, sym, ap, subst, ◌∙◌, arith, map, append_assoc, append-nil, true, false}
-use Rattle.std.specs.Prelude.{flat_map, Bool, IsTrue, ◌↔◌}
-use Rattle.std.proofs.lemmas.List.{append_cancel_left}
+use Rattle.std.proofs.Common.{ℕ, ◌≡◌, List, [], ◌∷◌, ◌++◌, refl, sym, ap, subst, ◌∙◌, map, true, false}
+use Rattle.std.specs.Prelude.{flat_map, Bool}
 use Rattle.line_forms.specs.Fields.{field_text}
 use Rattle.line_forms.specs.LineStates.{LineState}
-use Rattle.line_forms.specs.Lines.{Takes, TakesLine, StandsBehind}
-use Rattle.line_forms.specs.declared.lines.Ahead.{Ahead}
-use Rattle.line_forms.specs.declared.lines.Ahead.TheVariants as ahead
-use Rattle.line_forms.proofs.BadLines.{StandsBehind-next}
-use Rattle.fix_site.specs.Readings.{Passes, AreLinesOf, IsStuck, EachCan, IsNotAhead, TakesAll, TakesExactly}
-use Rattle.fix_site.proofs.Parts.{Lines, IsOneWay, Then, HasSome, single, cons_head, stops_first, stops_behind, stops_same, stops_line}
+use Rattle.line_forms.specs.Readers.{Passes, AreLinesOf, IsStuck, EachCan, IsNotAhead, TakesAll, TakesExactly}
+use Rattle.line_forms.proofs.Passing.{passes_none, passes_then}
+use Rattle.fix_site.proofs.Parts.{Lines, IsOneWay, Then, HasSome, single, stops_first, stops_behind, stops_same, stops_line}
 use Rattle.fix_site.proofs.Lists.{OneWayBehind, EndsForeign, with_first, Many, each_more, stops_many}
-
-pub passes_none : (state : LineState) → Passes state state []
-passes_none state = (
-  refl,
-  λ text before stands. let P : Lines → Type 0 = λ l. StandsBehind text l state in subst P (sym (append-nil before)) stands,
-)
-
-pub passes_then : (a b c : LineState) (xs ys : Lines) → Passes a b xs → Passes b c ys → Passes a c (xs ++ ys)
-passes_then a b c xs ys h k = (
-  h.0 ∙ ap (λ l. xs ++ l) k.0 ∙ sym (append_assoc xs ys c.lines),
-  λ text before stands.
-      let P : Lines → Type 0 = λ l. StandsBehind text l c in
-      subst P (append_assoc before xs ys) (k.1 text (before ++ xs) (h.1 text before stands)),
-)
-
-pub passes_line : (a b : LineState) (line : List ℕ) → TakesLine a b line → Passes a b (line ∷ [])
-passes_line a b line takes = (takes.0, λ text before stands. StandsBehind-next text line before a b stands takes)
-
-pub fewer_lines : (a b : LineState) (line : List ℕ) → Passes a b (line ∷ []) → length b.lines < length a.lines
-fewer_lines a b line passes = let k : length a.lines ≡ suc (length b.lines) = ap (length {A = List ℕ}) passes.0 in omega arith
 
 -- a value whose lines are one
 abbrev pub no_tail : {V : Type 0} → V → Lines
@@ -83,18 +59,6 @@ stuck_only line old new none =
           (stops_line U (λ u. line) tt old tt (λ u more _ e. none.1 more e)),
     )
 
-no_line : (lines : Lines) (line : List ℕ) (more : Lines) → lines ≡ [] → lines ≡ line ∷ more → ⊥
-no_line lines line more h k = cc
-
--- the line ahead was taken
-pub takes_passes : (old new : LineState) (answer : Ahead) → Takes old new answer → (line : List ℕ) (more : Lines) → old.lines ≡ line ∷ more → Passes old new (line ∷ [])
-takes_passes old new (ahead.Line other) takes line more e =
-    let same : other.now ≡ line = cons_head other.now line new.lines more (sym takes.0 ∙ e) in
-    let P : List ℕ → Type 0 = λ l. Passes old new (l ∷ []) in
-    subst P same (passes_line old new other.now takes)
-takes_passes old new ahead.End takes line more e = absurd (no_line old.lines line more takes.0.0 e)
-takes_passes old new ahead.Unended takes line more e = absurd (no_line old.lines line more takes.0.0 e)
-
 map_snoc : {V : Type 0} (first : V → List ℕ) (vs : List V) (v : V) → map first (vs ++ v ∷ []) ≡ map first vs ++ first v ∷ []
 map_snoc first [] v = refl
 map_snoc first (x ∷ vs) v = ap (λ l. first x ∷ l) (map_snoc first vs v)
@@ -122,12 +86,6 @@ pub taken_line : (old new : LineState) (word rest text : List ℕ) (more : Lines
 taken_line old new word rest text more e same takes =
     takes (field_text word ++ text) more (e ∙ ap (λ l. (field_text word ++ l) ∷ more) same)
 
--- the rest is the text of no such value
-pub not_spelled : {V : Type 0} (Is : V → Type 0) (text_of : V → List ℕ) (state : LineState) (word rest : List ℕ) (more : Lines) → state.lines ≡ (field_text word ++ rest) ∷ more → ((v : V) → Is v → rest ≡ text_of v → ⊥) →
-    IsNotAhead Is (λ v. field_text word ++ text_of v) state
-not_spelled Is text_of state word rest more e none v other is h =
-    none v is (append_cancel_left (field_text word) rest (text_of v) (cons_head (field_text word ++ rest) (field_text word ++ text_of v) more other (sym e ∙ h)))
-
 -- the second of two lines was taken
 pub second_taken : (first second : List ℕ) (old mid new : LineState) (a b : Bool) → TakesExactly first old mid a → a ≡ false → TakesExactly second mid new b → b ≡ true → Passes old new (second ∷ [])
 second_taken first second old mid new false true h _ k _ = let P : LineState → Type 0 = λ s. Passes s new (second ∷ []) in subst P h.0 k
@@ -138,6 +96,3 @@ second_taken first second old mid new true b h e k _ = cc
 pub not_taken : (line : List ℕ) (old new : LineState) (a : Bool) → TakesExactly line old new a → a ≡ false → (new ≡ old) × ((more : Lines) → old.lines ≡ line ∷ more → ⊥)
 not_taken line old new false h _ = h
 not_taken line old new true h e = cc
-
-pub not_so : (b : Bool) (P : Type 0) → b ≡ false → (IsTrue b ↔ P) → P → ⊥
-not_so b P fails says h = let yes : IsTrue b = says.1 h in cc

@@ -6,11 +6,13 @@ use Rattle.std.proofs.lemmas.List.Elements.{All-nil, All-cons, All-head, All-tai
 use Rattle.line_forms.specs.Names.{IsName, IsRest}
 use Rattle.line_forms.specs.Fields.{field_text}
 use Rattle.line_forms.specs.LineStates.{LineState}
+use Rattle.line_forms.specs.Readers.{Passes, EachCan, IsNotAhead, TakesAll, TakesExactly}
+use Rattle.line_forms.proofs.Passing.{cons_head}
 use Rattle.fix_site.specs.declared.action.Target.{Target}
 use Rattle.fix_site.specs.declared.action.Target.TheVariants as target
 use Rattle.fix_site.specs.Actions.{IsTarget, computer_line, where_line, target_lines}
-use Rattle.fix_site.specs.Readings.{Passes, EachCan, IsNotAhead, TakesAll, TakesExactly, TakesTarget, IsTargetOver, Anywhere}
-use Rattle.fix_site.proofs.Parts.{Lines, cons_head}
+use Rattle.fix_site.specs.Readings.{TakesTarget, IsTargetOver, Anywhere}
+use Rattle.fix_site.proofs.Parts.{Lines}
 use Rattle.fix_site.proofs.Lists.{OneWayBehind, with_first, each_none, each_more}
 use Rattle.fix_site.proofs.Stuck.{no_tail, not_taken}
 use Rattle.fix_site.proofs.ListLemmas.{all_at, each_all}

@@ -6,10 +6,10 @@ use Rattle.line_forms.specs.Names.{IsName, IsRest}
 use Rattle.line_forms.specs.Fields.{field_text}
 use Rattle.line_forms.specs.FieldLists.{line_of}
 use Rattle.line_forms.specs.Lines.{lines_text}
+use Rattle.line_forms.specs.Numbers.{IsId}
 use Rattle.fix_site.specs.declared.action.Action.{Action}
 use Rattle.fix_site.specs.declared.action.Target.{Target}
 use Rattle.fix_site.specs.declared.action.Target.TheVariants as target
-use Rattle.fix_site.specs.Ids.{IsId}
 use Rattle.fix_site.specs.RuleLines.{IsRules, rules_lines}
 
 -- all computers, one named computer or more, or those of a question

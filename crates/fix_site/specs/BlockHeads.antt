@@ -3,13 +3,13 @@ use Rattle.std.specs.Prelude.{◌≡◌, ℕ, ◌<◌, List, ◌∷◌, ◌++◌
 use Rattle.std.specs.declared.option.Option.{Option}
 use Rattle.line_forms.specs.Fields.{field_text}
 use Rattle.line_forms.specs.LineStates.{LineState}
+use Rattle.line_forms.specs.Numbers.{IsId}
 use Rattle.fix_site.specs.declared.block.Block.{Block}
 use Rattle.fix_site.specs.declared.block.Block.TheVariants.{Fixlet as fixlet_block, Baseline as baseline_block, Action as action_block}
 use Rattle.fix_site.specs.declared.fixlet.Fixlet.{Fixlet}
 use Rattle.fix_site.specs.declared.block_reader.Head.{Head}
 use Rattle.fix_site.specs.declared.block_reader.Kind.{Kind}
 use Rattle.fix_site.specs.declared.block_reader.Kind.TheVariants as kind
-use Rattle.fix_site.specs.Ids.{IsId}
 use Rattle.fix_site.specs.Actions.{action_line}
 use Rattle.fix_site.specs.Contents.{fixlet_line, baseline_line}
 use Rattle.fix_site.specs.Blocks.{block_id}

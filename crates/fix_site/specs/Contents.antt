@@ -4,11 +4,11 @@ use Rattle.line_forms.specs.Names.{IsLineText, IsRest}
 use Rattle.line_forms.specs.Contents as held
 use Rattle.line_forms.specs.Fields.{field_text}
 use Rattle.line_forms.specs.Lines.{lines_text}
+use Rattle.line_forms.specs.Numbers.{IsId}
 use Rattle.fix_site.specs.declared.baseline.Baseline.{Baseline}
 use Rattle.fix_site.specs.declared.fixlet.Fixlet.{Fixlet}
 use Rattle.fix_site.specs.declared.fixlet.Success.{Success}
 use Rattle.fix_site.specs.declared.fixlet.Success.TheVariants as success
-use Rattle.fix_site.specs.Ids.{IsId}
 use Rattle.fix_site.specs.Actions.{end_line}
 
 -- a question where there is one

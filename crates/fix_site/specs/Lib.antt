@@ -1,4 +1,3 @@
-pub mod Ids
 pub mod RuleLines
 pub mod Actions
 pub mod Contents

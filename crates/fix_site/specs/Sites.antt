@@ -6,9 +6,9 @@ use Rattle.line_forms.specs.Names.{IsName}
 use Rattle.line_forms.specs.Fields.{field_text}
 use Rattle.line_forms.specs.FieldLists.{line_of}
 use Rattle.line_forms.specs.Lines.{lines_text}
+use Rattle.line_forms.specs.Numbers.{IsId}
 use Rattle.fix_site.specs.declared.block.Block.{Block}
 use Rattle.fix_site.specs.declared.site.Site.{Site}
-use Rattle.fix_site.specs.Ids.{IsId}
 use Rattle.fix_site.specs.Blocks.{AreBlocks, IsKindOf, HasId, block_id, id_line, block_lines}
 
 -- a site that can be spelled

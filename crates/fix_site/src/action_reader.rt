@@ -1,20 +1,20 @@
 ghost use Rattle.std.specs.Prelude.{◌≡◌, ℕ, List, ◌∷◌, [], IfOk, MatchOption, option_copied};
 ghost use Rattle.line_forms.specs.Names.{IsName};
 ghost use Rattle.desk_base.specs.Moments.{IsMoment};
-ghost use Rattle.fix_site.specs.Ids.{IsId};
+ghost use Rattle.line_forms.specs.Readers.{ReadsPart, TakesOne, TakesAll, Passes, IsAny};
+ghost use Rattle.line_forms.specs.Numbers.{IsId};
 ghost use Rattle.fix_site.specs.Actions.{IsAction, action_lines, action_line, action_rest, issued_line, content_line, computer_line};
 ghost use Rattle.fix_site.specs.Answers.{ReadsAction};
-ghost use Rattle.fix_site.specs.Readings.{ReadsPart, TakesOne, TakesAll, TakesTarget, Anywhere, IsActionOf, ReadsHead, IsEnd, end_lines, Passes, IsAny, choice_line};
+ghost use Rattle.fix_site.specs.Readings.{TakesTarget, Anywhere, IsActionOf, ReadsHead, IsEnd, end_lines, choice_line};
 
 use crate::action::{Action, Target};
-use crate::ahead::{is_over, rest_ahead, skip_line, take_exactly};
 use crate::content_reader::take_rest;
 use crate::error::SiteError;
-use crate::field::{Named, read_id, read_named};
+use crate::field::{Named, read_named};
 use crate::rule_reader::take_rules;
 use crate::texts::Texts;
 use act_rules::Rules;
-use line_forms::{Lines, lines_make_the_text, read_moment, read_name};
+use line_forms::{Lines, read_id, read_moment, read_name};
 use rel_lexer::Text;
 use std::alloc::{AllocError, Global};
 
@@ -31,11 +31,10 @@ pub fn read_action(alloc: Global, text: &[u8]) -> Result<Action, SiteError>
     }
     let mut lines = Lines::new(text);
     let action = take_whole_action(alloc, &mut lines)?;
-    lines_make_the_text();
     let Some(action) = action else {
         return Err(SiteError::BadLine(lines.number()));
     };
-    if !is_over(&lines) {
+    if !lines.is_over() {
         return Err(SiteError::BadLine(lines.number()));
     }
     Ok(action)
@@ -54,8 +53,8 @@ fn take_whole_action(alloc: Global, lines: &mut Lines<'_>) -> Result<Option<Acti
 fn take_action_id(lines: &mut Lines<'_>) -> Option<u64>
     ensures { TakesOne IsId action_line lines.old lines.new result }
 {
-    let id = read_id(rest_ahead(lines, b"action")?)?;
-    skip_line(lines);
+    let id = read_id(lines.rest_ahead(b"action")?)?;
+    lines.skip_line();
     Some(id)
 }
 
@@ -119,8 +118,8 @@ fn take_head<'a>(lines: &mut Lines<'a>) -> Option<ActionHead<'a>>
 fn take_issued(lines: &mut Lines<'_>) -> Option<i64>
     ensures { TakesOne IsMoment issued_line lines.old lines.new result }
 {
-    let issued = read_moment(rest_ahead(lines, b"issued")?)?;
-    skip_line(lines);
+    let issued = read_moment(lines.rest_ahead(b"issued")?)?;
+    lines.skip_line();
     Some(issued)
 }
 
@@ -130,8 +129,8 @@ fn take_content<'a>(lines: &mut Lines<'a>) -> Option<Named<'a>>
         → ¬ (lines.old.lines ≡ content_line site content ∷ more)))
         (λ n. IsName n.name.now × IsId n.id × Passes lines.old lines.new (content_line n.name.now n.id ∷ [])) }
 {
-    let content = read_named(rest_ahead(lines, b"content")?)?;
-    skip_line(lines);
+    let content = read_named(lines.rest_ahead(b"content")?)?;
+    lines.skip_line();
     Some(content)
 }
 
@@ -139,10 +138,10 @@ fn take_content<'a>(lines: &mut Lines<'a>) -> Option<Named<'a>>
 fn take_choice(first: &[u8], second: &[u8], lines: &mut Lines<'_>) -> Option<bool>
     ensures { TakesOne IsAny (choice_line first.now second.now) lines.old lines.new result }
 {
-    if take_exactly(first, lines) {
+    if lines.take_exactly(first) {
         return Some(false);
     }
-    if take_exactly(second, lines) {
+    if lines.take_exactly(second) {
         return Some(true);
     }
     None
@@ -152,7 +151,7 @@ fn take_choice(first: &[u8], second: &[u8], lines: &mut Lines<'_>) -> Option<boo
 fn take_target(alloc: Global, lines: &mut Lines<'_>) -> Result<Option<Target>, AllocError>
     ensures { IfOk result (λ target. TakesTarget lines.old lines.new target) }
 {
-    if take_exactly(b"target all", lines) {
+    if lines.take_exactly(b"target all") {
         return Ok(Some(Target::All));
     }
     if let Some(question) = take_rest(b"target where", lines) {
@@ -179,13 +178,13 @@ fn take_computers(alloc: Global, lines: &mut Lines<'_>) -> Result<Texts, AllocEr
 fn take_computer<'a>(lines: &mut Lines<'a>) -> Option<&'a str>
     ensures { TakesOne IsName computer_line lines.old lines.new (option_copied result) }
 {
-    let Some(field) = rest_ahead(lines, b"target computer") else {
+    let Some(field) = lines.rest_ahead(b"target computer") else {
         return None;
     };
     let Some(name) = read_name(field) else {
         return None;
     };
-    skip_line(lines);
+    lines.skip_line();
     Some(name)
 }
 
@@ -205,7 +204,7 @@ fn take_end(lines: &mut Lines<'_>) -> Option<ActionEnd>
     let Some(stopped) = take_choice(b"state open", b"state stopped", lines) else {
         return None;
     };
-    if !take_exactly(b"end", lines) {
+    if !lines.take_exactly(b"end") {
         return None;
     }
     Some(ActionEnd { rules, stopped })

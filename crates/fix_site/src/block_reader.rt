@@ -1,17 +1,16 @@
 ghost use Rattle.std.specs.Prelude.{ℕ, List, IfOk, IsTrue, ◌↔◌};
-ghost use Rattle.fix_site.specs.Ids.{IsId};
+ghost use Rattle.line_forms.specs.Readers.{ReadsPart};
+ghost use Rattle.line_forms.specs.Numbers.{IsId};
 ghost use Rattle.fix_site.specs.Blocks.{AreBlocks, block_rest};
-ghost use Rattle.fix_site.specs.Readings.{TakesBlock, ReadsPart};
+ghost use Rattle.fix_site.specs.Readings.{TakesBlock};
 ghost use Rattle.fix_site.specs.BlockHeads.{IsActions, IsHeadAhead, CanStand, IsBlockOf, FindsHead};
 
 use crate::action_reader::take_action;
-use crate::ahead::{rest_ahead, skip_line};
 use crate::block::Block;
 use crate::blocks_so_far::BlocksSoFar;
 use crate::content_reader::{take_baseline, take_fixlet};
 use crate::error::SiteError;
-use crate::field::read_id;
-use line_forms::Lines;
+use line_forms::{Lines, read_id};
 use std::alloc::{AllocError, Global};
 
 /// What a block is.
@@ -49,7 +48,7 @@ pub(crate) fn take_block(
     if !can_follow(head, blocks) {
         return Ok(None);
     }
-    skip_line(lines);
+    lines.skip_line();
     match take_block_behind(alloc, head, blocks, lines)? {
         Some(block) => Ok(Some(block)),
         None => Err(SiteError::BadLine(lines.number())),
@@ -79,7 +78,7 @@ fn head_ahead(name: &str, lines: &Lines<'_>) -> Option<Head>
 fn head_of(kind: Kind, word: &[u8], lines: &Lines<'_>) -> Option<Head>
     ensures { IsHeadAhead kind word.now lines.now result }
 {
-    let Some(field) = rest_ahead(lines, word) else {
+    let Some(field) = lines.rest_ahead(word) else {
         return None;
     };
     let Some(id) = read_id(field) else {

@@ -2,18 +2,17 @@ ghost use Rattle.std.specs.Prelude.{◌<◌, ◌+◌, ℕ, ◌++◌, IfOk, optio
 ghost use Rattle.line_forms.specs.Contents as held;
 ghost use Rattle.line_forms.specs.Fields.{field_text};
 ghost use Rattle.line_forms.specs.Names.{IsRest};
-ghost use Rattle.fix_site.specs.Ids.{IsId};
+ghost use Rattle.line_forms.specs.Readers.{ReadsPart, TakesOne, TakesAll};
+ghost use Rattle.line_forms.specs.Numbers.{IsId};
 ghost use Rattle.fix_site.specs.Contents.{IsSuccess, relevance_line, success_line, component_line, fixlet_rest, baseline_rest};
-ghost use Rattle.fix_site.specs.Readings.{ReadsPart, TakesOne, TakesAll, Anywhere, FitsScript, FitsRoom, IsFixletOf, IsBaselineOf, IsComponent};
+ghost use Rattle.fix_site.specs.Readings.{Anywhere, FitsScript, FitsRoom, IsFixletOf, IsBaselineOf, IsComponent};
 
-use crate::ahead::{line_ahead, rest_ahead, skip_line, take_exactly};
 use crate::baseline::Baseline;
 use crate::blocks_so_far::BlocksSoFar;
-use crate::field::read_id;
 use crate::fixlet::{Fixlet, Success};
 use crate::ids::Ids;
 use crate::texts::Texts;
-use line_forms::{Lines, read_content, read_rest};
+use line_forms::{Lines, read_content, read_id, read_rest};
 use rel_lexer::Text;
 use std::alloc::{AllocError, Global};
 
@@ -27,13 +26,13 @@ const LONGEST_SCRIPT: usize = 262_144;
 pub(crate) fn take_rest<'a>(word: &[u8], lines: &mut Lines<'a>) -> Option<&'a str>
     ensures { TakesOne IsRest (λ rest. field_text word.now ++ rest) lines.old lines.new (option_copied result) }
 {
-    let Some(field) = rest_ahead(lines, word) else {
+    let Some(field) = lines.rest_ahead(word) else {
         return None;
     };
     let Some(rest) = read_rest(field) else {
         return None;
     };
-    skip_line(lines);
+    lines.skip_line();
     Some(rest)
 }
 
@@ -54,7 +53,7 @@ pub(crate) fn take_fixlet(
         return Ok(None);
     };
     let script = take_script(alloc, lines)?;
-    if !take_exactly(b"end", lines) {
+    if !lines.take_exactly(b"end") {
         return Ok(None);
     }
     Ok(Some(Fixlet {
@@ -86,7 +85,7 @@ pub(crate) fn take_baseline(
     if components.as_slice().is_empty() {
         return Ok(None);
     }
-    if !take_exactly(b"end", lines) {
+    if !lines.take_exactly(b"end") {
         return Ok(None);
     }
     Ok(Some(Baseline {
@@ -113,10 +112,10 @@ fn take_relevance(alloc: Global, lines: &mut Lines<'_>) -> Result<Texts, AllocEr
 fn take_success(alloc: Global, lines: &mut Lines<'_>) -> Result<Option<Success>, AllocError>
     ensures { IfOk result (λ success. TakesOne IsSuccess success_line lines.old lines.new success) }
 {
-    if take_exactly(b"success lines", lines) {
+    if lines.take_exactly(b"success lines") {
         return Ok(Some(Success::Lines));
     }
-    if take_exactly(b"success relevance", lines) {
+    if lines.take_exactly(b"success relevance") {
         return Ok(Some(Success::Relevance));
     }
     let Some(question) = take_rest(b"success clause", lines) else {
@@ -142,11 +141,11 @@ fn take_script(alloc: Global, lines: &mut Lines<'_>) -> Result<Texts, AllocError
 fn take_script_line<'a>(count: usize, room: usize, lines: &mut Lines<'a>) -> Option<&'a str>
     ensures { TakesOne (FitsRoom count room) held.content_line lines.old lines.new (option_copied result) }
 {
-    let line = read_content(line_ahead(lines)?)?;
+    let line = read_content(lines.line_ahead()?)?;
     if count >= MOST_SCRIPT_LINES || line.len() >= room {
         return None;
     }
-    skip_line(lines);
+    lines.skip_line();
     Some(line)
 }
 
@@ -169,10 +168,10 @@ fn take_components(
 fn take_component(blocks: &BlocksSoFar, lines: &mut Lines<'_>) -> Option<u64>
     ensures { TakesOne (IsComponent blocks.now) component_line lines.old lines.new result }
 {
-    let id = read_id(rest_ahead(lines, b"component")?)?;
+    let id = read_id(lines.rest_ahead(b"component")?)?;
     if !blocks.has_fixlet(id) {
         return None;
     }
-    skip_line(lines);
+    lines.skip_line();
     Some(id)
 }

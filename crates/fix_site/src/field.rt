@@ -2,14 +2,12 @@ ghost use Rattle.std.specs.Prelude.{◌≡◌, ℕ, ℤ, List, ◌∷◌, [], de
 ghost use Rattle.std.specs.Fmt.{signed_decimal};
 ghost use Rattle.line_forms.specs.FieldLists.{fields_of, line_of};
 ghost use Rattle.line_forms.specs.Names.{IsName};
-ghost use Rattle.fix_site.specs.Ids.{IsId};
+ghost use Rattle.line_forms.specs.Readers.{Spells};
+ghost use Rattle.line_forms.specs.Numbers.{IsId};
 ghost use Rattle.fix_site.specs.RuleLines.{IsCount, IsWait};
-ghost use Rattle.fix_site.specs.Readings.{Spells, named_fields, counted_fields};
+ghost use Rattle.fix_site.specs.Readings.{named_fields, counted_fields};
 
-use line_forms::{Fields, read_i64, read_name, read_number};
-
-/// The last id, and the last version of a site.
-const LAST_ID: u64 = 9_007_199_254_740_992;
+use line_forms::{Fields, read_i64, read_id, read_name, read_number};
 
 /// The most retries, and the highest limit of a reapplication.
 const MOST_RETRIES: u64 = 99;
@@ -36,17 +34,6 @@ pub(crate) struct Named<'a> {
 pub(crate) struct Counted {
     pub count: u32,
     pub wait: i64,
-}
-
-/// Reads an id, or the version of a site: from 1 to 2^53.
-pub(crate) fn read_id(text: &[u8]) -> Option<u64>
-    ensures { Spells IsId decimal text.now result }
-{
-    let id = read_number(text, LAST_ID)?;
-    if id == 0 {
-        return None;
-    }
-    Some(id)
 }
 
 /// Reads a number of retries, or a limit of reapplication: from 0 to 99.

@@ -4,7 +4,6 @@
 mod action;
 mod action_reader;
 mod action_writer;
-mod ahead;
 mod baseline;
 mod block;
 mod block_reader;

@@ -1,10 +1,10 @@
-ghost use Rattle.std.specs.Prelude.{◌≡◌, Bool, Some, ℕ, ℤ, List, length, map, IfSome, MatchOption, ◌++◌, ◌∷◌, []};
+ghost use Rattle.std.specs.Prelude.{◌≡◌, IsTrue, ◌↔◌, Bool, Some, ℕ, ℤ, List, length, map, IfSome, MatchOption, ◌++◌, ◌∷◌, []};
 ghost use Rattle.line_forms.specs.Fields.{field_text};
 ghost use Rattle.line_forms.specs.FieldLists.{line_of};
+ghost use Rattle.line_forms.specs.Readers.{Spells, TakesOne, ReadsPart, Passes};
 ghost use Rattle.fix_site.specs.RuleLines.{IsRules, IsHours, IsCount, IsWait, IsReapply, rules_lines, moment_field, hours_fields, hours_line, day_digit, days_line, retries_line, reapply_fields, reapply_line};
-ghost use Rattle.fix_site.specs.Readings.{Spells, IsMaybeMoment, TakesOne, ReadsPart, Passes};
+ghost use Rattle.fix_site.specs.Readings.{IsMaybeMoment};
 
-use crate::ahead::{is_word, rest_ahead, skip_line, take_exactly};
 use crate::field::{Counted, read_counted, read_pair};
 use act_rules::{Hours, Reapply, Rules};
 use line_forms::{Lines, after_word, read_moment, read_number};
@@ -25,7 +25,7 @@ pub(crate) fn take_rules(lines: &mut Lines<'_>) -> Option<Rules>
     let Some(until) = take_moment(b"until", lines) else {
         return None;
     };
-    let client = take_exactly(b"time client", lines);
+    let client = lines.take_exactly(b"time client");
     let Some(hours) = take_hours(lines) else {
         return None;
     };
@@ -54,13 +54,13 @@ pub(crate) fn take_rules(lines: &mut Lines<'_>) -> Option<Rules>
 fn take_moment(word: &[u8], lines: &mut Lines<'_>) -> Option<Option<i64>>
     ensures { TakesOne IsMaybeMoment (λ moment. field_text word.now ++ moment_field moment) lines.old lines.new result }
 {
-    let Some(field) = rest_ahead(lines, word) else {
+    let Some(field) = lines.rest_ahead(word) else {
         return None;
     };
     let Some(moment) = read_moment_field(field) else {
         return None;
     };
-    skip_line(lines);
+    lines.skip_line();
     Some(moment)
 }
 
@@ -77,8 +77,8 @@ fn read_moment_field(text: &[u8]) -> Option<Option<i64>>
 fn take_hours(lines: &mut Lines<'_>) -> Option<Option<Hours>>
     ensures { TakesOne (λ hours. IfSome hours IsHours) hours_line lines.old lines.new result }
 {
-    let hours = read_hours_field(rest_ahead(lines, b"hours")?)?;
-    skip_line(lines);
+    let hours = read_hours_field(lines.rest_ahead(b"hours")?)?;
+    lines.skip_line();
     Some(hours)
 }
 
@@ -117,8 +117,8 @@ fn read_hours(text: &[u8]) -> Option<Hours>
 fn take_days(lines: &mut Lines<'_>) -> Option<[bool; 7]>
     ensures { TakesOne (λ days. length days ≡ 7) days_line lines.old lines.new result }
 {
-    let days = read_days(rest_ahead(lines, b"days")?)?;
-    skip_line(lines);
+    let days = read_days(lines.rest_ahead(b"days")?)?;
+    lines.skip_line();
     Some(days)
 }
 
@@ -157,16 +157,16 @@ fn take_retries(lines: &mut Lines<'_>) -> Option<Counted>
         → ¬ (lines.old.lines ≡ retries_line count wait ∷ more)))
         (λ c. IsCount c.count × IsWait c.wait × Passes lines.old lines.new (retries_line c.count c.wait ∷ [])) }
 {
-    let retries = read_counted(rest_ahead(lines, b"retries")?)?;
-    skip_line(lines);
+    let retries = read_counted(lines.rest_ahead(b"retries")?)?;
+    lines.skip_line();
     Some(retries)
 }
 
 fn take_reapply(lines: &mut Lines<'_>) -> Option<Reapply>
     ensures { TakesOne IsReapply reapply_line lines.old lines.new result }
 {
-    let reapply = read_reapply(rest_ahead(lines, b"reapply")?)?;
-    skip_line(lines);
+    let reapply = read_reapply(lines.rest_ahead(b"reapply")?)?;
+    lines.skip_line();
     Some(reapply)
 }
 
@@ -182,4 +182,11 @@ fn read_reapply(text: &[u8]) -> Option<Reapply>
     }
     let Counted { count, wait } = read_counted(after_word(text, b"while")?)?;
     Some(Reapply::While { limit: count, wait })
+}
+
+/// Whether a text is this word.
+fn is_word(text: &[u8], word: &[u8]) -> bool
+    ensures { IsTrue result ↔ (text.now ≡ word.now) }
+{
+    text == word
 }

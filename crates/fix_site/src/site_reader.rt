@@ -1,19 +1,19 @@
 ghost use Rattle.std.specs.Prelude.{◌≡◌, ◌∷◌, [], ℕ, List, MatchOption};
 ghost use Rattle.line_forms.specs.Names.{IsName};
-ghost use Rattle.fix_site.specs.Ids.{IsId};
+ghost use Rattle.line_forms.specs.Readers.{TakesOne, Passes};
+ghost use Rattle.line_forms.specs.Numbers.{IsId};
 ghost use Rattle.fix_site.specs.Sites.{IsDigestValue, digest_line, site_line};
 ghost use Rattle.fix_site.specs.Answers.{ReadsSite};
-ghost use Rattle.fix_site.specs.Readings.{ReadsStated, TakesBlocks, TakesOne, Passes};
+ghost use Rattle.fix_site.specs.Readings.{ReadsStated, TakesBlocks};
 
 use crate::action_reader::LONGEST_TEXT;
-use crate::ahead::{is_over, rest_ahead, skip_line};
 use crate::block::Blocks;
 use crate::block_reader::take_block;
 use crate::blocks_so_far::BlocksSoFar;
 use crate::error::SiteError;
 use crate::field::{Named, read_named};
 use crate::site::Site;
-use line_forms::{Lines, lines_make_the_text, read_digest};
+use line_forms::{Lines, read_digest};
 use rel_lexer::Text;
 use sha2::{Digest, Sha256};
 use std::alloc::Global;
@@ -38,8 +38,7 @@ pub fn read_site(alloc: Global, text: &[u8]) -> Result<Site, SiteError>
     }
     let mut lines = Lines::new(text);
     let stated = read_stated(alloc, &mut lines)?;
-    lines_make_the_text();
-    if !is_over(&lines) {
+    if !lines.is_over() {
         return Err(SiteError::BadLine(lines.number()));
     }
     let found = Sha256::digest(&text[..text.len() - DIGEST_LINE]);
@@ -80,8 +79,8 @@ fn take_site<'a>(lines: &mut Lines<'a>) -> Option<Named<'a>>
         → ¬ (lines.old.lines ≡ site_line name version ∷ more)))
         (λ n. IsName n.name.now × IsId n.id × Passes lines.old lines.new (site_line n.name.now n.id ∷ [])) }
 {
-    let head = read_named(rest_ahead(lines, b"site")?)?;
-    skip_line(lines);
+    let head = read_named(lines.rest_ahead(b"site")?)?;
+    lines.skip_line();
     Some(head)
 }
 
@@ -100,7 +99,7 @@ fn take_blocks(alloc: Global, name: &str, lines: &mut Lines<'_>) -> Result<Block
 fn take_digest(lines: &mut Lines<'_>) -> Option<[u8; 32]>
     ensures { TakesOne IsDigestValue digest_line lines.old lines.new result }
 {
-    let digest = read_digest(rest_ahead(lines, b"digest")?)?;
-    skip_line(lines);
+    let digest = read_digest(lines.rest_ahead(b"digest")?)?;
+    lines.skip_line();
     Some(digest)
 }

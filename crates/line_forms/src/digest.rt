@@ -35,7 +35,7 @@ pub fn write_digest(digest: &[u8; 32], out: &mut Bytes) -> Result<(), AllocError
     out.extend(&digits_of(digest))
 }
 
-fn digits_of(digest: &[u8; 32]) -> [u8; 64]
+pub(crate) fn digits_of(digest: &[u8; 32]) -> [u8; 64]
     ensures { result ≡ encode_lower digest.now }
 {
     let mut digits = [0; 64];

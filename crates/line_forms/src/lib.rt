@@ -8,6 +8,7 @@ mod cut;
 mod digest;
 mod field_cursor;
 mod fields;
+mod filling;
 mod lines;
 mod name;
 mod number;
@@ -21,6 +22,7 @@ pub use cut::{Cut, a_text_is_its_pieces};
 pub use digest::{one_digest, read_digest, write_digest};
 pub use field_cursor::{Fields, a_line_is_its_fields};
 pub use fields::{after_word, first_field, one_first_field, write_field};
+pub use filling::{fill_content, fill_digest, fill_ended_line, fill_field};
 pub use lines::{
     Ahead, Lines, a_cursor_stands_behind_its_lines, lines_are_read_again, lines_make_the_text,
     write_line,

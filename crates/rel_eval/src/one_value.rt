@@ -46,6 +46,7 @@ pub(crate) fn one_value<M: Machine>(
     ensures later { M.faults machine.old ≤ M.faults machine.new }
     ensures world { M.world machine.new ≡ M.world machine.old }
     ensures acted { M.acted machine.new ≡ M.acted machine.old }
+    ensures polled { M.polled machine.new ≡ M.polled machine.old }
     ensures started { M.started machine.new ≡ M.started machine.old }
 {
     let span = question.span();
@@ -73,6 +74,7 @@ fn only<M: Machine>(value: Value, cursor: &mut Cursor, span: Place, machine: &mu
     ensures later { M.faults machine.old ≤ M.faults machine.new }
     ensures world { M.world machine.new ≡ M.world machine.old }
     ensures acted { M.acted machine.new ≡ M.acted machine.old }
+    ensures polled { M.polled machine.new ≡ M.polled machine.old }
     ensures started { M.started machine.new ≡ M.started machine.old }
 {
     match cursor.pull(machine) {

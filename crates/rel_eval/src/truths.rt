@@ -45,6 +45,7 @@ pub fn truth<M: Machine>(
     ensures later { M.faults machine.old ≤ M.faults machine.new }
     ensures world { M.world machine.new ≡ M.world machine.old }
     ensures acted { M.acted machine.new ≡ M.acted machine.old }
+    ensures polled { M.polled machine.new ≡ M.polled machine.old }
     ensures started { M.started machine.new ≡ M.started machine.old }
 {
     let span = question.span();

@@ -67,6 +67,7 @@ impl Walk {
         ensures falls { Falls (values_ahead self.old) result (values_ahead self.new) }
         ensures world { M.world machine.new ≡ M.world machine.old }
         ensures acted { M.acted machine.new ≡ M.acted machine.old }
+        ensures polled { M.polled machine.new ≡ M.polled machine.old }
         ensures started { M.started machine.new ≡ M.started machine.old }
         ensures walk { IsSoundWalk self.new }
         ensures sound { GivesSound result }
@@ -98,6 +99,7 @@ impl Walk {
         ensures later { M.faults machine.old ≤ M.faults machine.new }
         ensures world { M.world machine.new ≡ M.world machine.old }
         ensures acted { M.acted machine.new ≡ M.acted machine.old }
+        ensures polled { M.polled machine.new ≡ M.polled machine.old }
         ensures started { M.started machine.new ≡ M.started machine.old }
         ensures walk { IsSoundWalk self.new }
         ensures sound { StepGivesSound result }

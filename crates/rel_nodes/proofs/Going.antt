@@ -3,7 +3,7 @@ use Rattle.std.proofs.Common.{inl, inr, ◌≡◌, ◌≤◌, ◌<◌, ◌+◌, 
 use Rattle.std.specs.Prelude.{length}
 use Rattle.std.proofs.lemmas.List.{append-nil, append_assoc, length-append}
 use Rattle.std.proofs.Math.Nat.{eq-or-lt_of_le}
-use Rattle.desk_base.specs.Counts.{Rose}
+use Rattle.desk_base.proofs.Rising.{Rose-from}
 use Rattle.std.specs.declared.option.Option.{Option}
 use Rattle.bf_machine.specs.Told.{Grows}
 use Rattle.bf_world.specs.declared.key.Key.{Key}
@@ -123,9 +123,6 @@ falls_to step.Quiet a b c h k = omega (arith, h, k)
 falls_to (step.Given v) a b c h k = omega (arith, h, k)
 falls_to _ a b c h k = tt
 
-rose_then : (a b c : ℕ) → a ≤ b → Rose b c → Rose a c
-rose_then a b c h r = omega (arith, h, r)
-
 pub cause_then : (r : Step) (a b c : ℕ) → a ≤ b → HasCause b c r → HasCause a c r
-cause_then (step.Failed p) a b c h k = rose_then a b c h k
+cause_then (step.Failed p) a b c h k = Rose-from a b c h k
 cause_then _ a b c h k = tt

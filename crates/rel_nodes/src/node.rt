@@ -116,6 +116,7 @@ impl Node {
         ensures falls { left.new ≡ left.old → Falls result (quiet self.old) (quiet self.new) }
         ensures world { M.world machine.new ≡ M.world machine.old }
         ensures acted { M.acted machine.new ≡ M.acted machine.old }
+        ensures polled { M.polled machine.new ≡ M.polled machine.old }
         ensures started { M.started machine.new ≡ M.started machine.old }
     {
         match self {
@@ -167,6 +168,7 @@ fn step_one<M: Machine>(
     ensures falls { left.new ≡ left.old → Falls result (one_quiet state.old (quiet part.old)) (one_quiet state.new (quiet part.new)) }
     ensures world { M.world machine.new ≡ M.world machine.old }
     ensures acted { M.acted machine.new ≡ M.acted machine.old }
+    ensures polled { M.polled machine.new ≡ M.polled machine.old }
     ensures started { M.started machine.new ≡ M.started machine.old }
 {
     loop {
@@ -202,6 +204,7 @@ fn go_on_one<M: Machine>(
     ensures falls { left.new ≡ left.old → Falls result (one_quiet state.old (quiet part.old)) (one_quiet state.new (quiet part.new)) }
     ensures world { M.world machine.new ≡ M.world machine.old }
     ensures acted { M.acted machine.new ≡ M.acted machine.old }
+    ensures polled { M.polled machine.new ≡ M.polled machine.old }
     ensures started { M.started machine.new ≡ M.started machine.old }
 {
     if state.is_done() {
@@ -240,6 +243,7 @@ fn step_two<M: Machine>(
     ensures falls { left.new ≡ left.old → Falls result (two_quiet state.old (quiet first.old) (quiet second.old) (cap (shape second.old))) (two_quiet state.new (quiet first.new) (quiet second.new) (cap (shape second.new))) }
     ensures world { M.world machine.new ≡ M.world machine.old }
     ensures acted { M.acted machine.new ≡ M.acted machine.old }
+    ensures polled { M.polled machine.new ≡ M.polled machine.old }
     ensures started { M.started machine.new ≡ M.started machine.old }
 {
     loop {
@@ -277,6 +281,7 @@ fn go_on_two<M: Machine>(
     ensures falls { left.new ≡ left.old → Falls result (two_quiet state.old (quiet first.old) (quiet second.old) (cap (shape second.old))) (two_quiet state.new (quiet first.new) (quiet second.new) (cap (shape second.new))) }
     ensures world { M.world machine.new ≡ M.world machine.old }
     ensures acted { M.acted machine.new ≡ M.acted machine.old }
+    ensures polled { M.polled machine.new ≡ M.polled machine.old }
     ensures started { M.started machine.new ≡ M.started machine.old }
 {
     if state.on_second() {
@@ -338,6 +343,7 @@ fn step_choice<M: Machine>(
     ensures falls { left.new ≡ left.old → Falls result (choice_quiet state.old (quiet test.old) (quiet yes.old) (quiet no.old) (cap (shape yes.old)) (cap (shape no.old))) (choice_quiet state.new (quiet test.new) (quiet yes.new) (quiet no.new) (cap (shape yes.new)) (cap (shape no.new))) }
     ensures world { M.world machine.new ≡ M.world machine.old }
     ensures acted { M.acted machine.new ≡ M.acted machine.old }
+    ensures polled { M.polled machine.new ≡ M.polled machine.old }
     ensures started { M.started machine.new ≡ M.started machine.old }
 {
     loop {
@@ -376,6 +382,7 @@ fn go_on_choice<M: Machine>(
     ensures falls { left.new ≡ left.old → Falls result (choice_quiet state.old (quiet test.old) (quiet yes.old) (quiet no.old) (cap (shape yes.old)) (cap (shape no.old))) (choice_quiet state.new (quiet test.new) (quiet yes.new) (quiet no.new) (cap (shape yes.new)) (cap (shape no.new))) }
     ensures world { M.world machine.new ≡ M.world machine.old }
     ensures acted { M.acted machine.new ≡ M.acted machine.old }
+    ensures polled { M.polled machine.new ≡ M.polled machine.old }
     ensures started { M.started machine.new ≡ M.started machine.old }
 {
     match state {

@@ -67,6 +67,7 @@ impl Property {
         ensures falls { left.new ≡ left.old → Falls result (property_quiet self.old.walk) (property_quiet self.new.walk) }
         ensures world { M.world machine.new ≡ M.world machine.old }
         ensures acted { M.acted machine.new ≡ M.acted machine.old }
+        ensures polled { M.polled machine.new ≡ M.polled machine.old }
         ensures started { M.started machine.new ≡ M.started machine.old }
     {
         loop {
@@ -97,6 +98,7 @@ impl Property {
         ensures falls { Falls result (property_quiet self.old.walk) (property_quiet self.new.walk) }
         ensures world { M.world machine.new ≡ M.world machine.old }
         ensures acted { M.acted machine.new ≡ M.acted machine.old }
+        ensures polled { M.polled machine.new ≡ M.polled machine.old }
         ensures started { M.started machine.new ≡ M.started machine.old }
     {
         match &mut self.walk {

@@ -48,6 +48,7 @@ impl Walking {
         ensures falls { Falls result (values_ahead self.old.walk) (values_ahead self.new.walk) }
         ensures world { M.world machine.new ≡ M.world machine.old }
         ensures acted { M.acted machine.new ≡ M.acted machine.old }
+        ensures polled { M.polled machine.new ≡ M.polled machine.old }
         ensures started { M.started machine.new ≡ M.started machine.old }
     {
         let event = self.walk.next_event(machine, scene, room);

@@ -17,12 +17,14 @@ use Rattle.rel_session.specs.declared.line.Line.{Line}
 use Rattle.rel_session.specs.declared.paused.Left.{Left}
 use Rattle.rel_session.specs.declared.paused.Left.TheVariants as left
 use Rattle.rel_session.specs.declared.paused.Paused as code_paused
-use Rattle.rel_session.specs.Devices.{Dates, Did, RoseBy, devices_of}
+use Rattle.bf_machine.specs.Rises.{RoseBy}
+use Rattle.rel_session.specs.Devices.{Dates, Did, devices_of}
 use Rattle.rel_session.specs.Printed.{said_question, said_error, said_nothing_paused, said_undefined}
 use Rattle.rel_session.specs.Sessions.{Asks, Paused, Session, Run, nothing, saying, after, told_run, pausing, last_sixteen, IsGiven, TellsOf, AnswersText, GoesOnWith, Answers, RunsLine, IsFrontOfLine}
 use Rattle.rel_session.specs.Tellings.{Telling, TellsSome, room_of}
 use Rattle.rel_session.specs.Waiting.{IsLeft, State, state_of, paused_of, left_of, some_given, meaning_of, span_of, IsRead, IsStarted, IsOpened, last_fifteen, Says, Stops, SaysRefusal, Unwritten, Obeys, SaysAll, SaysFront, SaysOf, StopsEarly, StopsIn}
-use Rattle.rel_session.proofs.Lasting.{LooksUp-nil, LooksFront-none, LooksFront-all, RoseBy-none}
+use Rattle.bf_machine.proofs.Telling.{LooksUp-nil, RoseBy-none}
+use Rattle.rel_session.proofs.Lasting.{LooksFront-none, LooksFront-all}
 use Rattle.rel_session.proofs.Running.{Dates-nil}
 
 -- some bytes are said at once, and no look is made

@@ -1,5 +1,5 @@
 -- What is told step by step, and written piece by piece.
-use Rattle.std.proofs.Common.{◌≡◌, ℕ, ◌+◌, ◌-◌, ◌^◌, ◌≤◌, max, min, ℤ, List, [], ◌++◌, Result, Ok, Err, None, Some, IfOk, MatchResult, refl, sym, ap, ◌∙◌, append_assoc, append-nil, subst, arith}
+use Rattle.std.proofs.Common.{◌≡◌, ℕ, ◌+◌, ◌-◌, ◌≤◌, ℤ, List, [], ◌++◌, Result, Ok, Err, None, Some, IfOk, MatchResult, refl, sym, ap, ◌∙◌, append_assoc, append-nil, subst, arith}
 use Rattle.std.specs.Prelude.{⊤}
 use Rattle.std.specs.declared.option.Option.{Option}
 use Rattle.std.specs.Io.KnownBytes.{Appends}
@@ -21,30 +21,13 @@ use Rattle.rel_session.specs.declared.paused.Left.{Left}
 use Rattle.rel_session.specs.declared.paused.Left.TheVariants as left
 use Rattle.rel_session.specs.declared.paused.Step.{Step}
 use Rattle.rel_session.specs.declared.paused.Step.TheVariants.{On, Out}
-use Rattle.rel_session.specs.Devices.{LooksUp, RoseBy}
+use Rattle.bf_machine.specs.Rises.{RoseBy}
+use Rattle.bf_machine.proofs.Telling.{LooksUp-nil, LooksUp-trans, RoseBy-none, RoseBy-later, later-RoseBy}
+use Rattle.bf_machine.specs.Looks.{LooksUp}
 use Rattle.rel_session.specs.Sessions.{IsGiven, told_run}
 use Rattle.rel_session.specs.Tellings.{Telling, Tells, TellsSome, onto}
 use Rattle.rel_session.specs.Waiting.{some_given, State, state_of, Comes, Says, Stops, LooksFront, Flushes, IsLeft, TellsStep, TellsValue, Stays}
 use Rattle.rel_session.proofs.Tellings.{can_be_told, told_past}
-
-pub Grows-nil : {T : Type 0} (a : Option (List T)) → Grows a a []
-Grows-nil None = refl
-Grows-nil (Some xs) = sym (append-nil xs)
-
-pub Grows-trans : {T : Type 0} (a b c : Option (List T)) (xs ys : List T) → Grows a b xs → Grows b c ys → Grows a c (xs ++ ys)
-Grows-trans None None c xs ys p q = q
-Grows-trans None (Some b) c xs ys p q = absurd (cc)
-Grows-trans (Some a) None c xs ys p q = absurd p
-Grows-trans (Some a) (Some b) None xs ys p q = absurd q
-Grows-trans (Some a) (Some b) (Some c) xs ys p q = q ∙ ap (λ l. l ++ ys) p ∙ append_assoc a xs ys
-
-pub LooksUp-nil : (world : Option WorldState) (a : Option (List Key)) → LooksUp world a a []
-LooksUp-nil None a = tt
-LooksUp-nil (Some w) a = Grows-nil a
-
-pub LooksUp-trans : (world : Option WorldState) (a b c : Option (List Key)) (xs ys : List Key) → LooksUp world a b xs → LooksUp world b c ys → LooksUp world a c (xs ++ ys)
-LooksUp-trans None a b c xs ys p q = tt
-LooksUp-trans (Some w) a b c xs ys p q = Grows-trans a b c xs ys p q
 
 -- a front of the keys that are looked up later
 pub LooksFront-behind : (world : Option WorldState) (a b c : Option (List Key)) (keys all : List Key) → LooksUp world a b keys → LooksFront world b c all → LooksFront world a c (keys ++ all)
@@ -60,27 +43,6 @@ LooksFront-none world a all = record { keys = []; looked = LooksUp-nil world a; 
 
 pub LooksFront-all : (world : Option WorldState) (a b : Option (List Key)) (all : List Key) → LooksUp world a b all → LooksFront world a b all
 LooksFront-all world a b all p = record { keys = all; looked = p; unlooked = []; whole = sym (append-nil all) }
-
--- ---- counts
-
--- a count that stood still below some last value, and rose again
-two_rises : (last a b x y z : ℕ) → max x (min (x + a) last) ≤ y → max y (min (y + b) last) ≤ z → max x (min (x + (a + b)) last) ≤ z
-two_rises last a b x y z p q = grind arith
-
-pub RoseBy-more : (a b x y z : ℕ) → RoseBy a x y → RoseBy b y z → RoseBy (a + b) x z
-RoseBy-more a b x y z p q = two_rises (2 ^ 64 - 1) a b x y z p q
-
-pub RoseBy-none : (x y : ℕ) → x ≤ y → RoseBy 0 x y
-RoseBy-none x y p = grind arith
-
-pub RoseBy-later : (a x y z : ℕ) → x ≤ y → RoseBy a y z → RoseBy a x z
-RoseBy-later a x y z p q =
-    let Rises : ℕ → Type 0 = λ n. RoseBy n x z in
-    let same : 0 + a ≡ a = omega arith in
-    subst Rises same (RoseBy-more 0 a x y z (RoseBy-none x y p) q)
-
-pub later-RoseBy : (a x y : ℕ) → RoseBy a x y → x ≤ y
-later-RoseBy a x y p = grind arith
 
 -- ---- one step
 

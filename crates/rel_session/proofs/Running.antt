@@ -7,7 +7,7 @@ use Rattle.desk_base.specs.Moments.{AppendsMoments}
 use Rattle.bf_world.specs.Worlds.{WorldState}
 use Rattle.rel_session.specs.Devices.{Devices, Dates, Did, DidAll, DidFront}
 use Rattle.rel_session.specs.Sessions.{Session, Run, nothing, after, RunsLine, Runs, IsFrontOfLine, IsFrontOfRun}
-use Rattle.rel_session.proofs.Lasting.{LooksUp-nil, LooksUp-trans, RoseBy-more, RoseBy-none}
+use Rattle.bf_machine.proofs.Telling.{LooksUp-nil, LooksUp-trans, RoseBy-more, RoseBy-none}
 
 AppendsMoments-nil : (a : Option (List ℤ)) → AppendsMoments a a []
 AppendsMoments-nil None = tt

@@ -1,12 +1,13 @@
 -- What a run does to the sink, the machine and the clock, where they tell it.
-use Rattle.std.specs.Prelude.{◌≡◌, ⊤, ◌≤◌, ◌+◌, ◌-◌, ◌^◌, ℕ, ℤ, List, All, max, min}
+use Rattle.std.specs.Prelude.{◌≡◌, ⊤, ℕ, ℤ, List, All}
 use Rattle.std.specs.declared.option.Option.{Option}
 use Rattle.std.specs.declared.option.Option.TheVariants.{None, Some}
 use Rattle.std.specs.Io.KnownBytes.{Appends}
 use Rattle.desk_base.specs.Moments.{AppendsMoments, IsMoment}
 use Rattle.line_forms.specs.Numbers.{IsOffset}
 use Rattle.rel_session.specs.declared.asking.Asking.{Asking}
-use Rattle.bf_machine.specs.Told.{Grows}
+use Rattle.bf_machine.specs.Looks.{LooksUp}
+use Rattle.bf_machine.specs.Rises.{RoseBy}
 use Rattle.bf_world.specs.declared.key.Key.{Key}
 use Rattle.bf_world.specs.Worlds.{WorldState}
 use Rattle.rel_session.specs.Sessions.{Session, Run, Runs, IsFrontOfRun}
@@ -22,10 +23,6 @@ pub record Devices : Type 0 where
 abbrev pub devices_of : Option (List ℕ) → Option (List Key) → ℕ → Option (List ℤ) → Devices
 devices_of held looked faults given = record { held = held; looked = looked; faults = faults; given = given }
 
--- A count rose by at least so many, or stands still at its last value.
-abbrev pub RoseBy : ℕ → ℕ → ℕ → Type 0
-RoseBy times before now = max before (min (before + times) (2 ^ 64 - 1)) ≤ now
-
 -- a fixed moment is one
 abbrev pub IsDate : Option ℤ → Type 0
 IsDate None = ⊤
@@ -35,11 +32,6 @@ IsDate (Some fixed) = IsMoment fixed
 abbrev pub Dates : Option ℤ → Option (List ℤ) → Option (List ℤ) → List ℤ → Type 0
 Dates None old new moments = AppendsMoments old new moments
 Dates (Some fixed) old new moments = All (λ moment. moment ≡ fixed) moments × (new ≡ old)
-
--- The keys that a machine tells grow by these, where it tells its world.
-abbrev pub LooksUp : Option WorldState → Option (List Key) → Option (List Key) → List Key → Type 0
-LooksUp None old new keys = ⊤
-LooksUp (Some w) old new keys = Grows old new keys
 
 -- The devices did this run, or this front of one, with these moments.
 pub record Did (world : Option WorldState) (fixed : Option ℤ) (old new : Devices) (moments : List ℤ) (run : Run) : Type 0 where

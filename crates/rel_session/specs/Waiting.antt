@@ -19,7 +19,9 @@ use Rattle.rel_session.specs.declared.paused.Step.{Step}
 use Rattle.rel_session.specs.declared.paused.Step.TheVariants.{On, Out}
 use Rattle.rel_session.specs.declared.session.Session as code_session
 use Rattle.rel_session.specs.declared.line.Line.{Line}
-use Rattle.rel_session.specs.Devices.{Dates, LooksUp, RoseBy}
+use Rattle.bf_machine.specs.Rises.{RoseBy}
+use Rattle.bf_machine.specs.Looks.{LooksUp}
+use Rattle.rel_session.specs.Devices.{Dates}
 use Rattle.rel_session.specs.Printed.{said_error, said_undefined}
 use Rattle.rel_session.specs.Sessions.{Answers, Asks, IsGiven, Paused, Session, Run, scene_at}
 use Rattle.rel_lexer.specs.declared.place.Place.{Place}

@@ -31,6 +31,7 @@ pub fn answer_lines<W: Sink, M: Machine, C: Clock>(
         (devices_of (W.held sink.new) (M.looked machine.new) (M.faults machine.new) (C.given clock.new))) }
     ensures world { M.world machine.new ≡ M.world machine.old }
     ensures acted { M.acted machine.new ≡ M.acted machine.old }
+    ensures polled { M.polled machine.new ≡ M.polled machine.old }
     ensures started { M.started machine.new ≡ M.started machine.old }
     ensures machine_later { M.faults machine.old ≤ M.faults machine.new }
     ensures later { W.faults sink.old ≤ W.faults sink.new }

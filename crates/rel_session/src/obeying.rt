@@ -40,6 +40,7 @@ impl Session {
         ensures few { IsFew self.new }
         ensures world { M.world machine.new ≡ M.world machine.old }
         ensures acted { M.acted machine.new ≡ M.acted machine.old }
+        ensures polled { M.polled machine.new ≡ M.polled machine.old }
         ensures started { M.started machine.new ≡ M.started machine.old }
         ensures machine_later { M.faults machine.old ≤ M.faults machine.new }
         ensures later { W.faults sink.old ≤ W.faults sink.new }
@@ -78,6 +79,7 @@ impl Session {
         ensures few { IsFew self.new }
         ensures world { M.world machine.new ≡ M.world machine.old }
         ensures acted { M.acted machine.new ≡ M.acted machine.old }
+        ensures polled { M.polled machine.new ≡ M.polled machine.old }
         ensures started { M.started machine.new ≡ M.started machine.old }
         ensures machine_later { M.faults machine.old ≤ M.faults machine.new }
         ensures later { W.faults sink.old ≤ W.faults sink.new }
@@ -115,6 +117,7 @@ impl Session {
         ensures few { IsFew self.new }
         ensures world { M.world machine.new ≡ M.world machine.old }
         ensures acted { M.acted machine.new ≡ M.acted machine.old }
+        ensures polled { M.polled machine.new ≡ M.polled machine.old }
         ensures started { M.started machine.new ≡ M.started machine.old }
         ensures machine_later { M.faults machine.old ≤ M.faults machine.new }
         ensures later { W.faults sink.old ≤ W.faults sink.new }
@@ -159,6 +162,7 @@ impl Session {
         ensures few { IsFew self.new }
         ensures world { M.world machine.new ≡ M.world machine.old }
         ensures acted { M.acted machine.new ≡ M.acted machine.old }
+        ensures polled { M.polled machine.new ≡ M.polled machine.old }
         ensures started { M.started machine.new ≡ M.started machine.old }
         ensures machine_later { M.faults machine.old ≤ M.faults machine.new }
         ensures later { W.faults sink.old ≤ W.faults sink.new }
@@ -195,6 +199,7 @@ impl Session {
         ensures few { IsFew self.new }
         ensures world { M.world machine.new ≡ M.world machine.old }
         ensures acted { M.acted machine.new ≡ M.acted machine.old }
+        ensures polled { M.polled machine.new ≡ M.polled machine.old }
         ensures started { M.started machine.new ≡ M.started machine.old }
         ensures machine_later { M.faults machine.old ≤ M.faults machine.new }
         ensures later { W.faults sink.old ≤ W.faults sink.new }

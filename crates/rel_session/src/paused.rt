@@ -76,6 +76,7 @@ impl Paused {
         ensures span { self.new.span ≡ self.old.span }
         ensures world { M.world machine.new ≡ M.world machine.old }
         ensures acted { M.acted machine.new ≡ M.acted machine.old }
+        ensures polled { M.polled machine.new ≡ M.polled machine.old }
         ensures started { M.started machine.new ≡ M.started machine.old }
         ensures machine_later { M.faults machine.old ≤ M.faults machine.new }
         ensures later { W.faults sink.old ≤ W.faults sink.new }
@@ -114,6 +115,7 @@ impl Paused {
         ensures span { self.new.span ≡ self.old.span }
         ensures world { M.world machine.new ≡ M.world machine.old }
         ensures acted { M.acted machine.new ≡ M.acted machine.old }
+        ensures polled { M.polled machine.new ≡ M.polled machine.old }
         ensures started { M.started machine.new ≡ M.started machine.old }
         ensures machine_later { M.faults machine.old ≤ M.faults machine.new }
     {

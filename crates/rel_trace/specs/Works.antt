@@ -1,4 +1,4 @@
--- What the calls on values answer.
+-- What the calls on values answer. Only private functions cite this.
 use Rattle.std.specs.Prelude.{◌≡◌}
 use Rattle.rel_value.specs.Operands.{Stance, bytes}
 use Rattle.rel_value.specs.Outcomes.{Outcome, gives, fails, no_row}

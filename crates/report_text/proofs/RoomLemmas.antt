@@ -2,32 +2,15 @@
 use Rattle.std.proofs.Common.{ℕ, zero, suc, ◌≡◌, ◌+◌, ◌<◌, ◌≤◌, List, [], ◌∷◌, ◌++◌, length, refl, sym, ap, ◌∙◌, arith, take, get_or, map, length-append, append_assoc, subst}
 use Rattle.std.proofs.lemmas.List.{take_all}
 use Rattle.desk_base.specs.Rooms.{HasRoom, RoomState}
-use Rattle.std.specs.Prelude.{codes, decimal}
-use Rattle.std.specs.Fmt.{signed_decimal}
+use Rattle.std.specs.Prelude.{codes}
 use Rattle.line_forms.specs.Lines.{ended_line, lines_text}
 use Rattle.report_text.specs.declared.form.Form.{Form}
 use Rattle.report_text.specs.declared.report.Report.{Report}
 use Rattle.report_text.specs.declared.report_row.ReportRow.{ReportRow}
-use Rattle.report_text.specs.RowLines.{row_line, outcome_field, end_field}
+use Rattle.report_text.specs.RowLines.{row_line}
 use Rattle.report_text.specs.Reports.{report_text}
-use Rattle.report_text.specs.Writings.{added_text, head_text, row_text}
-use Rattle.report_text.proofs.TextLemmas.{row_text_is, text_before, text_more, text_whole}
-
--- the parts of a row are its line
-pub row_parts : (form : Form) (row : ReportRow) → row_text form row ≡ ended_line (row_line form row)
-row_parts form row =
-    let a = codes "row" in
-    let b = a ++ 32 ∷ decimal row.action in
-    let d = b ++ 32 ∷ decimal row.number in
-    let e = d ++ 32 ∷ outcome_field row.end in
-    let f = e ++ 32 ∷ signed_decimal row.begun in
-    let g = f ++ 32 ∷ end_field row.end in
-    let h = g ++ added_text form row.note in
-    in_parts a (32 ∷ decimal row.action) (32 ∷ decimal row.number) (32 ∷ outcome_field row.end) (32 ∷ signed_decimal row.begun) (32 ∷ end_field row.end) (added_text form row.note) (10 ∷ [])
-    ∙ row_text_is form row [] a b d e f g h (h ++ 10 ∷ []) refl refl refl refl refl refl refl refl
-  where
-    in_parts : (a b c d e f g h : List ℕ) → (a ++ (b ++ c)) ++ ((d ++ (e ++ f)) ++ (g ++ h)) ≡ ((((((a ++ b) ++ c) ++ d) ++ e) ++ f) ++ g) ++ h
-    in_parts a b c d e f g h = simp append_assoc refl
+use Rattle.report_text.specs.Writings.{head_text}
+use Rattle.report_text.proofs.TextLemmas.{text_before, text_more, text_whole}
 
 front_length : (form : Form) (rows : List ReportRow) (n : ℕ) → length (lines_text (map (row_line form) (take n rows))) ≤ length (lines_text (map (row_line form) rows))
 front_length form [] zero = omega arith
@@ -66,15 +49,14 @@ end_length report = omega (arith, whole_length report)
 
 -- a further row has room, and so has the last line
 room_row_at : (report : Report) (i : ℕ) (d : ReportRow) (start now : RoomState) → i < length report.rows → HasRoom start (length (report_text report)) → now.bytes ≡ start.bytes ++ text_before report (take i report.rows) →
-    start.capacity ≤ now.capacity → HasRoom now (length (row_text report.form (get_or report.rows i d)))
+    start.capacity ≤ now.capacity → HasRoom now (length (ended_line (row_line report.form (get_or report.rows i d))))
 room_row_at report i d start now inside room text cap =
-    let row = get_or report.rows i d in
-    omega (arith, more_length report i d inside, ap (length {A = ℕ}) (row_parts report.form row), ap (length {A = ℕ}) text, length-append start.bytes (text_before report (take i report.rows)), room, cap)
+    omega (arith, more_length report i d inside, ap (length {A = ℕ}) text, length-append start.bytes (text_before report (take i report.rows)), room, cap)
 
 pub room_row : (report : Report) (rows : List ReportRow) (i : ℕ) (d : ReportRow) (start now : RoomState) → rows ≡ report.rows → i < length rows → HasRoom start (length (report_text report)) →
-    now.bytes ≡ start.bytes ++ text_before report (take i rows) → start.capacity ≤ now.capacity → HasRoom now (length (row_text report.form (get_or rows i d)))
+    now.bytes ≡ start.bytes ++ text_before report (take i rows) → start.capacity ≤ now.capacity → HasRoom now (length (ended_line (row_line report.form (get_or rows i d))))
 room_row report rows i d start now items inside room text cap =
-    let R : List ReportRow → Type 0 = λ rs. i < length rs → now.bytes ≡ start.bytes ++ text_before report (take i rs) → HasRoom now (length (row_text report.form (get_or rs i d))) in
+    let R : List ReportRow → Type 0 = λ rs. i < length rs → now.bytes ≡ start.bytes ++ text_before report (take i rs) → HasRoom now (length (ended_line (row_line report.form (get_or rs i d)))) in
     subst R (sym items) (λ h t. room_row_at report i d start now h room t cap) inside text
 
 -- the text as far as all rows
@@ -85,13 +67,12 @@ pub room_end : (report : Report) (start now : RoomState) → HasRoom start (leng
 room_end report start now room text cap = omega (arith, end_length report, ap (length {A = ℕ}) text, length-append start.bytes (text_before report report.rows), room, cap)
 
 -- one row more
-pub more_text : (report : Report) (rows : List ReportRow) (i : ℕ) (d : ReportRow) (start old new : List ℕ) → i < length rows → old ≡ start ++ text_before report (take i rows) → new ≡ old ++ row_text report.form (get_or rows i d) →
+pub more_text : (report : Report) (rows : List ReportRow) (i : ℕ) (d : ReportRow) (start old new : List ℕ) → i < length rows → old ≡ start ++ text_before report (take i rows) → new ≡ old ++ ended_line (row_line report.form (get_or rows i d)) →
     new ≡ start ++ text_before report (take (i + 1) rows)
 more_text report rows i d start old new inside old_is new_is =
-    let row = get_or rows i d in
+    let line = ended_line (row_line report.form (get_or rows i d)) in
     let front = text_before report (take i rows) in
-    new_is ∙ ap (λ l. l ++ row_text report.form row) old_is ∙ append_assoc start front (row_text report.form row)
-    ∙ ap (λ l. start ++ l) (ap (λ l. front ++ l) (row_parts report.form row) ∙ text_more report rows i d front (front ++ ended_line (row_line report.form row)) inside refl refl)
+    new_is ∙ ap (λ l. l ++ line) old_is ∙ append_assoc start front line ∙ ap (λ l. start ++ l) (text_more report rows i d front (front ++ line) inside refl refl)
 
 -- and the last line
 pub whole_text : (report : Report) (start old new : List ℕ) → old ≡ start ++ text_before report report.rows → new ≡ old ++ codes "end\n" → new ≡ start ++ report_text report

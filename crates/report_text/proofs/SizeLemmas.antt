@@ -7,6 +7,7 @@ use Rattle.std.proofs.lemmas.Fmt.{length-decimal-le, length_signed_le}
 use Rattle.std.proofs.lemmas.List.Elements.{All-head, All-tail}
 use Rattle.desk_base.specs.Moments.{IsMoment}
 use Rattle.desk_base.specs.Rooms.{HasRoom, RoomState}
+use Rattle.line_forms.specs.FieldLists.{line_of}
 use Rattle.line_forms.specs.Lines.{ended_line, lines_text}
 use Rattle.act_rules.specs.declared.row.Note.{Note}
 use Rattle.act_rules.specs.declared.row.Outcome.{Outcome}
@@ -16,7 +17,7 @@ use Rattle.report_text.specs.declared.form.Form.TheVariants.{One, Two}
 use Rattle.report_text.specs.declared.report.Report.{Report}
 use Rattle.report_text.specs.declared.report_row.ReportRow.{ReportRow}
 use Rattle.report_text.specs.ReportRows.{IsExit, IsPlace, IsNoteIn, IsReportRow}
-use Rattle.report_text.specs.RowLines.{outcome_field, end_field, exit_field, component_field, line_field, row_line}
+use Rattle.report_text.specs.RowLines.{outcome_field, end_field, exit_field, component_field, line_field, row_fields, row_line}
 use Rattle.report_text.specs.Reports.{IsReport, form_line, computer_line, seq_line, end_line, report_text}
 use Rattle.report_text.specs.FieldTexts.{IsEnd}
 use Rattle.report_text.specs.Writings.{added_text}
@@ -64,8 +65,8 @@ added_length Two end note h =
 joined_length : (field rest : List ℕ) (m n : ℕ) → length field ≤ m → length rest ≤ n → length (field ++ 32 ∷ rest) ≤ m + (n + 1)
 joined_length field rest m n h k = omega (arith, h, k, length-append field (32 ∷ rest))
 
-row_length : (form : Form) (row : ReportRow) → IsReportRow form row → length (ended_line (row_line form row)) ≤ 113
-row_length form row h =
+pub fields_length : (form : Form) (row : ReportRow) → IsReportRow form row → length (line_of (row_fields form row)) ≤ 108
+fields_length form row h =
     let action = length-decimal-le 16 row.action (omega arith) (omega (arith, h.action.1)) (omega (arith, h.action.1)) in
     let number = length-decimal-le 10 row.number (omega arith) (omega (arith, h.number.1)) (omega (arith, h.number.1)) in
     let last = end_field row.end ++ added_text form row.note in
@@ -74,8 +75,12 @@ row_length form row h =
     let outcome = joined_length (outcome_field row.end) (signed_decimal row.begun ++ 32 ∷ last) 11 68 (outcome_length row.end) (omega (arith, begun)) in
     let numbers = joined_length (decimal row.number) (outcome_field row.end ++ 32 ∷ (signed_decimal row.begun ++ 32 ∷ last)) 10 80 number (omega (arith, outcome)) in
     let fields = joined_length (decimal row.action) (decimal row.number ++ 32 ∷ (outcome_field row.end ++ 32 ∷ (signed_decimal row.begun ++ 32 ∷ last))) 16 91 action (omega (arith, numbers)) in
-    let text = decimal row.action ++ 32 ∷ (decimal row.number ++ 32 ∷ (outcome_field row.end ++ 32 ∷ (signed_decimal row.begun ++ 32 ∷ last))) in
-    rw (added_line form (end_field row.end) row.note) (omega (arith, fields, length-append text (10 ∷ [])))
+    rw (added_line form (end_field row.end) row.note) fields
+
+row_length : (form : Form) (row : ReportRow) → IsReportRow form row → length (ended_line (row_line form row)) ≤ 113
+row_length form row h =
+    let fields = line_of (row_fields form row) in
+    omega (arith, fields_length form row h, length-append fields (10 ∷ []))
 
 rows_length : (form : Form) (rows : List ReportRow) → All (IsReportRow form) rows → length (lines_text (map (row_line form) rows ++ end_line ∷ [])) ≤ 113 * length rows + 4
 rows_length form [] h = omega arith

@@ -10,9 +10,9 @@ use Rattle.report_text.specs.declared.form.Form.{Form}
 use Rattle.report_text.specs.declared.form.Form.TheVariants.{One, Two}
 use Rattle.report_text.specs.declared.report.Report.{Report}
 use Rattle.report_text.specs.declared.report_row.ReportRow.{ReportRow}
-use Rattle.report_text.specs.RowLines.{row_line, added_fields, outcome_field, end_field}
+use Rattle.report_text.specs.RowLines.{row_line, row_fields, added_fields, outcome_field, end_field}
 use Rattle.report_text.specs.Reports.{report_text, form_line, computer_line, seq_line, end_line}
-use Rattle.report_text.specs.Writings.{added_text, head_text}
+use Rattle.report_text.specs.Writings.{added_text, fields_text, head_text}
 
 pub not_so : (b : Bool) (P : Type 0) → b ≡ false → (IsTrue b ↔ P) → P → ⊥
 not_so b P fails says h = let yes : IsTrue b = says.1 h in cc
@@ -22,34 +22,14 @@ pub added_line : (form : Form) (field : List ℕ) (note : Note) → line_of (fie
 added_line One field note = sym (append-nil field)
 added_line Two field note = refl
 
--- pieces that were added in turn
-in_turn : (o w a b c d e f : List ℕ) → (((((((o ++ w) ++ 32 ∷ a) ++ 32 ∷ b) ++ 32 ∷ c) ++ 32 ∷ d) ++ 32 ∷ e) ++ f) ++ 10 ∷ []
-    ≡ o ++ (((w ++ 32 ∷ []) ++ (a ++ 32 ∷ (b ++ 32 ∷ (c ++ 32 ∷ (d ++ 32 ∷ (e ++ f)))))) ++ 10 ∷ [])
-in_turn o w a b c d e f =
-    let end = 10 ∷ [] in
-    let one = (o ++ w) ++ 32 ∷ a in
-    let two = one ++ 32 ∷ b in
-    let three = two ++ 32 ∷ c in
-    let four = three ++ 32 ∷ d in
-    append_assoc (four ++ 32 ∷ e) f end ∙ append_assoc four (32 ∷ e) (f ++ end) ∙ append_assoc three (32 ∷ d) (32 ∷ (e ++ (f ++ end)))
-    ∙ append_assoc two (32 ∷ c) (32 ∷ (d ++ 32 ∷ (e ++ (f ++ end)))) ∙ append_assoc one (32 ∷ b) (32 ∷ (c ++ 32 ∷ (d ++ 32 ∷ (e ++ (f ++ end)))))
-    ∙ append_assoc (o ++ w) (32 ∷ a) (32 ∷ (b ++ 32 ∷ (c ++ 32 ∷ (d ++ 32 ∷ (e ++ (f ++ end)))))) ∙ append_assoc o w (32 ∷ (a ++ 32 ∷ (b ++ 32 ∷ (c ++ 32 ∷ (d ++ 32 ∷ (e ++ (f ++ end)))))))
-    ∙ sym (ap (λ l. o ++ l) (append_assoc (w ++ 32 ∷ []) (a ++ 32 ∷ (b ++ 32 ∷ (c ++ 32 ∷ (d ++ 32 ∷ (e ++ f))))) end
-    ∙ append_assoc w (32 ∷ []) ((a ++ 32 ∷ (b ++ 32 ∷ (c ++ 32 ∷ (d ++ 32 ∷ (e ++ f))))) ++ end)
-    ∙ ap (λ l. w ++ 32 ∷ l) (append_assoc a (32 ∷ (b ++ 32 ∷ (c ++ 32 ∷ (d ++ 32 ∷ (e ++ f))))) end
-    ∙ ap (λ l. a ++ 32 ∷ l) (append_assoc b (32 ∷ (c ++ 32 ∷ (d ++ 32 ∷ (e ++ f)))) end
-    ∙ ap (λ l. b ++ 32 ∷ l) (append_assoc c (32 ∷ (d ++ 32 ∷ (e ++ f))) end
-    ∙ ap (λ l. c ++ 32 ∷ l) (append_assoc d (32 ∷ (e ++ f)) end
-    ∙ ap (λ l. d ++ 32 ∷ l) (append_assoc e f end)))))))
-
-pub row_text_is : (form : Form) (row : ReportRow) (a b c d e f g h i : List ℕ) → b ≡ a ++ codes "row" → c ≡ b ++ 32 ∷ decimal row.action → d ≡ c ++ 32 ∷ decimal row.number →
-    e ≡ d ++ 32 ∷ outcome_field row.end → f ≡ e ++ 32 ∷ signed_decimal row.begun → g ≡ f ++ 32 ∷ end_field row.end → h ≡ g ++ added_text form row.note → i ≡ h ++ 10 ∷ [] →
-    i ≡ a ++ ended_line (row_line form row)
-row_text_is form row a b c d e f g h i b_is c_is d_is e_is f_is g_is h_is i_is =
+-- the fields of a row, and its parts
+pub fields_in_parts : (form : Form) (row : ReportRow) → line_of (row_fields form row) ≡ fields_text form row
+fields_in_parts form row =
     rw (added_line form (end_field row.end) row.note)
-    (i_is ∙ ap (λ l. l ++ 10 ∷ []) (h_is ∙ ap (λ l. l ++ added_text form row.note) (g_is ∙ ap (λ l. l ++ 32 ∷ end_field row.end) (f_is ∙ ap (λ l. l ++ 32 ∷ signed_decimal row.begun)
-    (e_is ∙ ap (λ l. l ++ 32 ∷ outcome_field row.end) (d_is ∙ ap (λ l. l ++ 32 ∷ decimal row.number) (c_is ∙ ap (λ l. l ++ 32 ∷ decimal row.action) b_is))))))
-    ∙ in_turn a (codes "row") (decimal row.action) (decimal row.number) (outcome_field row.end) (signed_decimal row.begun) (end_field row.end) (added_text form row.note))
+    (regrouped (decimal row.action) (decimal row.number) (outcome_field row.end) (signed_decimal row.begun) (end_field row.end) (added_text form row.note))
+  where
+    regrouped : (a b c d e f : List ℕ) → a ++ 32 ∷ (b ++ 32 ∷ (c ++ 32 ∷ (d ++ 32 ∷ (e ++ f)))) ≡ (a ++ 32 ∷ b) ++ (((32 ∷ c) ++ ((32 ∷ d) ++ (32 ∷ e))) ++ f)
+    regrouped a b c d e f = simp append_assoc refl
 
 -- one more line
 lines_snoc : (lines : List (List ℕ)) (line : List ℕ) → lines_text (lines ++ line ∷ []) ≡ lines_text lines ++ ended_line line

@@ -1,5 +1,5 @@
 -- What the writers of parts append. Only private functions cite these definitions.
-use Rattle.std.specs.Prelude.{ℕ, List, [], ◌∷◌, ◌++◌, Option, codes, decimal}
+use Rattle.std.specs.Prelude.{ℕ, List, [], ◌∷◌, ◌++◌, Option, decimal}
 use Rattle.std.specs.Fmt.{signed_decimal}
 use Rattle.report_text.specs.declared.report_row.ReportRow.{ReportRow}
 use Rattle.act_rules.specs.declared.row.Note.{Note}
@@ -28,13 +28,13 @@ abbrev pub head_text : Report → List ℕ
 head_text report =
     ended_line (form_line report.form) ++ (ended_line (computer_line report.computer) ++ ended_line (seq_line report.seq))
 
--- the parts of a row: its word and its numbers, its outcome and its moments
+-- the parts of a row: its numbers, and its outcome and its moments
 abbrev pub numbers_text : ReportRow → List ℕ
-numbers_text row = codes "row" ++ ((32 ∷ decimal row.action) ++ (32 ∷ decimal row.number))
+numbers_text row = decimal row.action ++ (32 ∷ decimal row.number)
 
 abbrev pub times_text : ReportRow → List ℕ
 times_text row = (32 ∷ outcome_field row.end) ++ ((32 ∷ signed_decimal row.begun) ++ (32 ∷ end_field row.end))
 
--- the line of a row with its LF, in these parts
-abbrev pub row_text : Form → ReportRow → List ℕ
-row_text form row = numbers_text row ++ (times_text row ++ (added_text form row.note ++ 10 ∷ []))
+-- the fields of a row in these parts
+abbrev pub fields_text : Form → ReportRow → List ℕ
+fields_text form row = numbers_text row ++ (times_text row ++ added_text form row.note)

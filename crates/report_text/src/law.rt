@@ -1,4 +1,9 @@
-ghost use Rattle.std.specs.Prelude.{◌≡◌, ◌≤◌, ◌⊎◌, Result, length};
+ghost use Rattle.std.specs.Prelude.{◌≡◌, ◌≤◌, ◌⊎◌, ◌+◌, ◌*◌, Result, length};
+ghost use Rattle.line_forms.specs.FieldLists.{line_of};
+ghost use Rattle.report_text.specs.declared.form.Form.{Form};
+ghost use Rattle.report_text.specs.declared.report_row.ReportRow.{ReportRow};
+ghost use Rattle.report_text.specs.ReportRows.{IsReportRow};
+ghost use Rattle.report_text.specs.RowLines.{row_fields};
 ghost use Rattle.report_text.specs.declared.error.ReportError.{ReportError};
 ghost use Rattle.report_text.specs.declared.error.ReportError.TheVariants.{Memory};
 ghost use Rattle.report_text.specs.declared.report.Report.{Report};
@@ -22,3 +27,10 @@ pub fn a_report_is_read_again()
 {
     lines_are_read_again();
 }
+
+/// The most bytes of a row's fields, and of a report by the number of its rows: room for them is reckoned by these.
+pub fn reports_are_short()
+    ensures row { (form : Form) (row : ReportRow) → IsReportRow form row → length (line_of (row_fields form row)) ≤ 108 }
+    ensures report { (report : Report) → IsReport report
+        → length (report_text report) ≤ 108 + 113 * length report.rows }
+{}

@@ -1,10 +1,11 @@
 ghost use Rattle.std.specs.Prelude.{◌≡◌, ◌∷◌, length};
 ghost use Rattle.std.specs.Fmt.{signed_decimal};
 ghost use Rattle.desk_base.specs.Rooms.{HasRoom, Fills};
+ghost use Rattle.line_forms.specs.FieldLists.{line_of};
 ghost use Rattle.line_forms.specs.Lines.{ended_line};
 ghost use Rattle.report_text.specs.Reports.{form_line, report_text};
-ghost use Rattle.report_text.specs.RowLines.{outcome_field};
-ghost use Rattle.report_text.specs.Writings.{added_text, head_text, note_text, numbers_text, place_text, row_text, times_text};
+ghost use Rattle.report_text.specs.RowLines.{outcome_field, row_fields, row_line};
+ghost use Rattle.report_text.specs.Writings.{added_text, head_text, note_text, numbers_text, place_text, times_text};
 
 use crate::field_writer::{fill_component, fill_end, fill_exit, fill_line};
 use crate::form::Form;
@@ -49,20 +50,28 @@ fn form_bytes(form: Form) -> &'static [u8]
 
 /// Appends the line of a row, with its LF.
 fn fill_row(form: Form, row: &ReportRow, room: &mut Room)
-    requires { HasRoom room.old (length (row_text form row.now)) }
-    ensures { Fills room.old room.new (row_text form row.now) }
+    requires { HasRoom room.old (length (ended_line (row_line form row.now))) }
+    ensures { Fills room.old room.new (ended_line (row_line form row.now)) }
+{
+    room.extend(b"row ");
+    fill_row_fields(form, row, room);
+    room.push(b'\n')
+}
+
+/// Appends the fields of a row, without the word before them, for which there is room. It takes no memory.
+pub fn fill_row_fields(form: Form, row: &ReportRow, room: &mut Room)
+    requires { HasRoom room.old (length (line_of (row_fields form row.now))) }
+    ensures { Fills room.old room.new (line_of (row_fields form row.now)) }
 {
     fill_numbers(row, room);
     fill_times(row, room);
-    fill_added(form, row.note, room);
-    room.push(b'\n')
+    fill_added(form, row.note, room)
 }
 
 fn fill_numbers(row: &ReportRow, room: &mut Room)
     requires { HasRoom room.old (length (numbers_text row.now)) }
     ensures { Fills room.old room.new (numbers_text row.now) }
 {
-    room.extend(b"row ");
     room.decimal(row.action);
     room.push(b' ');
     room.decimal(u64::from(row.number))

@@ -4,12 +4,12 @@ use Rattle.std.proofs.lemmas.List.{map-append}
 use Rattle.script_text.specs.declared.line.Line.{Line}
 use Rattle.script_text.specs.declared.tree.Statement.{Statement}
 use Rattle.script_text.specs.declared.tree.Statement.TheVariants.{Do, If, rolls-Do, rolls-If}
-use Rattle.script_text.specs.declared.tree.Statement.TheOpen.{StatementList-F, ArmList-F, Arm-F}
+use Rattle.script_text.specs.declared.tree.Statement.TheOpen.{StatementList-F, ArmList-F}
 use Rattle.script_text.specs.declared.tree.Statement.TheOpen as layer
-use Rattle.script_text.specs.declared.tree.Arm.{Arm, roll-Arm}
+use Rattle.script_text.specs.declared.tree.Arm.{Arm}
 use Rattle.script_text.specs.declared.tree.StatementList.{StatementList, roll-StatementList, out-StatementList}
 use Rattle.script_text.specs.declared.tree.ArmList.{ArmList, roll-ArmList, out-ArmList}
-use Rattle.script_text.specs.declared.tree.Statement.TheFolds.{fold-roll-Statement, fold-roll-Arm, fold-roll-StatementList, fold-roll-ArmList, fold_out-StatementList, fold_out-ArmList}
+use Rattle.script_text.specs.declared.tree.Statement.TheFolds.{fold-roll-Statement, fold-roll-StatementList, fold-roll-ArmList, fold_out-StatementList, fold_out-ArmList}
 use Rattle.script_text.specs.Trees.{PlainStatement, act, choice, Statements, no_statements, more_statements, Arms, no_arms, more_arms, PlainArm}
 use Rattle.script_text.specs.Views.{listed, armed, statement_step, arm_step, statements_step, arms_step, shown_statement, shown_arm, shown_statements, shown_arms}
 
@@ -18,9 +18,6 @@ shown-Do n l = ap shown_statement (sym (rolls-Do n l)) ∙ fold-roll-Statement P
 
 pub shown-If : (a : ArmList) (s : StatementList) → shown_statement (If a s) ≡ choice (shown_arms a) (shown_statements s)
 shown-If a s = ap shown_statement (sym (rolls-If a s)) ∙ fold-roll-Statement PlainStatement PlainArm Arms Statements statement_step arm_step arms_step statements_step (layer.If a s)
-
-pub arm-roll : (r : Arm-F Statement Arm ArmList StatementList) → shown_arm (roll-Arm r) ≡ record { line = r.line; test = r.test; body = shown_statements r.body }
-arm-roll r = fold-roll-Arm PlainStatement PlainArm Arms Statements statement_step arm_step arms_step statements_step r
 
 listed-push : (l : Statements) (xs : List PlainStatement) (x : PlainStatement) → listed l (xs ++ (x ∷ [])) ≡ more_statements (listed l xs) x
 listed-push l [] x = refl

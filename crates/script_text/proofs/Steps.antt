@@ -348,11 +348,6 @@ line_refused p n line self e s o h =
     let w = within_create p.inner (o ∙ s.create) in
     subst (λ q. Refuses q n line (numbered n e)) (sym (same_inside p w.0 w.1)) (inside_refused p.around w.0 n line e h)
 
-same_in_file : (p : Part) (k : Created) → p.inner ≡ creating k → p ≡ in_file p.around k
-same_in_file p k f =
-    let make : Inner → Part = λ i. record { around = p.around; inner = i } in
-    ap make f
-
 pub new_file : (n : ℕ) (w : List ℕ) (lines : List Template) → lines ≡ [] → Some (let z : OpenCreate = record { line = n; word = w; lines = lines } in z) ≡ Some (let z : OpenCreate = record { line = n; word = w; lines = [] } in z)
 new_file n w lines e =
     let make : List Template → OpenCreate = λ l. record { line = n; word = w; lines = l } in

@@ -1,4 +1,4 @@
--- What the reader of lines holds of what was read so far.
+-- What the reader of lines holds of what was read so far. Only private functions cite this.
 use Rattle.std.specs.Prelude.{◌≡◌, ℕ, List, [], ◌∷◌, ◌++◌, map, Option, Some, None, Result, Ok, Err, ⊤}
 use Rattle.script_text.specs.declared.command.Command.{Command}
 use Rattle.script_text.specs.declared.command.Command.TheVariants as command

@@ -1,11 +1,11 @@
 use Rattle.std.proofs.Common.{ℕ, Option, Some, None, sym, subst, refl, arith}
 use Rattle.line_forms.specs.LineStates.{LineState}
 use Rattle.line_forms.specs.BadLines.{AnswersBadLine}
+use Rattle.line_forms.specs.Readers.{ReadsPart}
+use Rattle.std.proofs.lemmas.Bool.{iff_false}
+use Rattle.line_forms.proofs.Passing.{stuck_answers, left_answers, text_is}
 use Rattle.fix_site.specs.declared.action.Action.{Action}
 use Rattle.fix_site.specs.Actions.{IsAction, AreActionLines, action_lines}
-use Rattle.fix_site.specs.Readings.{ReadsPart}
-use Rattle.fix_site.proofs.Ends.{stuck_answers, left_answers, text_is}
-use Rattle.fix_site.proofs.Stuck.{not_so}
 use Rattle.fix_site.proofs.Actions.{action_ends}
 use Rattle.fix_site.proofs.action_reader.read_action.Goals as goal
 
@@ -24,7 +24,7 @@ returns-then-not-is_over c =
     let read = subst Q c.new-lines.ensures (subst P c.in-Some.is c.in_ok-action.ensures) in (
       omega arith,
       subst N (sym c.number-then-not-is_over.ensures) (left_answers AreActionLines c.args.text.now (action_lines c.in-Some.action) c.take_whole_action.new.lines read.1
-          (c.in-Some.action, read.0, refl) (action_ends c.in-Some.action read.0) (λ over. not_so _ _ c.if-not-is_over.true c.is_over.ensures over)),
+          (c.in-Some.action, read.0, refl) (action_ends c.in-Some.action read.0) (iff_false c.is_over.ensures c.if-not-is_over.true)),
     )
 
 pub returns : goal.returns
@@ -32,4 +32,4 @@ returns c =
     let P : Option Action → Type 0 = λ o. ReadsPart IsAction action_lines c.new-lines.result c.take_whole_action.new.lines o in
     let Q : LineState → Type 0 = λ s. ReadsPart IsAction action_lines s c.take_whole_action.new.lines (Some c.in-Some.action) in
     let read = subst Q c.new-lines.ensures (subst P c.in-Some.is c.in_ok-action.ensures) in
-    (omega arith, read.0, text_is c.args.text.now (action_lines c.in-Some.action) c.take_whole_action.new.lines (c.lines_make_the_text.ensures.whole c.args.text.now) read.1 (c.is_over.ensures.0 c.if-not-is_over.false))
+    (omega arith, read.0, text_is c.args.text.now (action_lines c.in-Some.action) c.take_whole_action.new.lines read.1 (c.is_over.ensures.0 c.if-not-is_over.false))

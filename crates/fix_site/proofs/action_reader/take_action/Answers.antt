@@ -1,9 +1,10 @@
 use Rattle.std.proofs.Common.{ℕ, List, Option, sym, subst, refl, rules, SFits, w64}
 use Rattle.std.proofs.lemmas.Int.{to_z-of_z}
+use Rattle.line_forms.specs.Readers.{Passes}
 use Rattle.fix_site.specs.declared.action.Target.{Target}
 use Rattle.fix_site.specs.declared.action.Action.{Action}
 use Rattle.fix_site.specs.Actions.{action_rest}
-use Rattle.fix_site.specs.Readings.{TakesTarget, head_value, Passes, IsActionOf}
+use Rattle.fix_site.specs.Readings.{TakesTarget, head_value, IsActionOf}
 use Rattle.fix_site.proofs.Actions.{at_head, at_target, behind_head, behind_target, stuck_action, action_good, action_pass}
 use Rattle.fix_site.proofs.action_reader.take_action.Goals as goal
 

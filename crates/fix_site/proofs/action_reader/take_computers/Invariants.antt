@@ -1,8 +1,9 @@
 use Rattle.std.proofs.Common.{length}
 use Rattle.std.specs.Prelude.{map}
 use Rattle.line_forms.specs.Names.{IsName}
+use Rattle.line_forms.specs.Readers.{EachCan, Passes}
 use Rattle.fix_site.specs.Actions.{computer_line}
-use Rattle.fix_site.specs.Readings.{Anywhere, EachCan, Passes}
+use Rattle.fix_site.specs.Readings.{Anywhere}
 use Rattle.fix_site.proofs.action_reader.take_computers.Given as goal
 
 -- the lines of the names so far were taken

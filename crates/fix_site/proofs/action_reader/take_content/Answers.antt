@@ -6,4 +6,4 @@ use Rattle.fix_site.proofs.action_reader.take_content.Goals as goal
 
 pub returns : goal.returns
 returns c =
-    (c.in_ok-content.ensures.0, c.in_ok-content.ensures.1, taken_line c.args.lines.now c.skip_line.new.lines (codes "content") c.in_ok-rest_ahead.field-0.now (line_of (named_fields c.in_ok-content.content.name.now c.in_ok-content.content.id)) c.in_ok-rest_ahead.ensures.0 c.in_ok-rest_ahead.ensures.1 c.in_ok-content.ensures.2 c.skip_line.ensures)
+    (c.in_ok-content.ensures.0, c.in_ok-content.ensures.1, taken_line c.args.lines.now c.skip_line.new.self (codes "content") c.in_ok-rest_ahead.field-0.now (line_of (named_fields c.in_ok-content.content.name.now c.in_ok-content.content.id)) c.in_ok-rest_ahead.ensures.0 c.in_ok-rest_ahead.ensures.1 c.in_ok-content.ensures.2 c.skip_line.ensures)

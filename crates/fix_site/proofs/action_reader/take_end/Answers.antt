@@ -1,6 +1,6 @@
 use Rattle.std.proofs.Common.{Bool, subst}
+use Rattle.line_forms.specs.Readers.{TakesExactly}
 use Rattle.fix_site.specs.Actions.{end_line}
-use Rattle.fix_site.specs.Readings.{TakesExactly}
 use Rattle.fix_site.proofs.Actions.{at_rules, at_state, behind_rules, behind_state, stuck_end, end_pass}
 use Rattle.fix_site.proofs.action_reader.take_end.Goals as goal
 
@@ -15,16 +15,16 @@ returns-in_default-take_choice c =
 
 pub returns-then-not-take_exactly : goal.returns-then-not-take_exactly
 returns-then-not-take_exactly c =
-    let P : Bool → Type 0 = λ b. TakesExactly end_line c.take_choice.new.lines c.take_exactly.new.lines b in
-    stuck_end c.args.lines.now c.take_exactly.new.lines
-    (behind_rules c.in-Some.rules c.args.lines.now c.take_rules.new.lines c.take_exactly.new.lines c.in-Some.ensures.0 c.in-Some.ensures.1
-    (behind_state c.in-Some-take_choice.stopped c.take_rules.new.lines c.take_choice.new.lines c.take_exactly.new.lines c.in-Some-take_choice.ensures.1
+    let P : Bool → Type 0 = λ b. TakesExactly end_line c.take_choice.new.lines c.take_exactly.new.self b in
+    stuck_end c.args.lines.now c.take_exactly.new.self
+    (behind_rules c.in-Some.rules c.args.lines.now c.take_rules.new.lines c.take_exactly.new.self c.in-Some.ensures.0 c.in-Some.ensures.1
+    (behind_state c.in-Some-take_choice.stopped c.take_rules.new.lines c.take_choice.new.lines c.take_exactly.new.self c.in-Some-take_choice.ensures.1
     (subst P c.if-not-take_exactly.true c.take_exactly.ensures)))
 
 pub returns : goal.returns
 returns c =
-    let P : Bool → Type 0 = λ b. TakesExactly end_line c.take_choice.new.lines c.take_exactly.new.lines b in (
+    let P : Bool → Type 0 = λ b. TakesExactly end_line c.take_choice.new.lines c.take_exactly.new.self b in (
       c.in-Some.ensures.0,
-      end_pass c.in-Some.rules c.in-Some-take_choice.stopped c.args.lines.now c.take_rules.new.lines c.take_choice.new.lines c.take_exactly.new.lines
+      end_pass c.in-Some.rules c.in-Some-take_choice.stopped c.args.lines.now c.take_rules.new.lines c.take_choice.new.lines c.take_exactly.new.self
           c.in-Some.ensures.1 c.in-Some-take_choice.ensures.1 (subst P c.if-not-take_exactly.false c.take_exactly.ensures),
     )

@@ -8,4 +8,4 @@ use Rattle.fix_site.proofs.action_reader.take_issued.Goals as goal
 pub returns : goal.returns
 returns c =
     let fits : SFits w64 c.in_ok-issued.issued = search rules in
-    simp to_z-of_z (c.in_ok-issued.ensures.0.0, taken_line c.args.lines.now c.skip_line.new.lines (codes "issued") c.in_ok-rest_ahead.field-0.now (signed_decimal c.in_ok-issued.issued) c.in_ok-rest_ahead.ensures.0 c.in_ok-rest_ahead.ensures.1 c.in_ok-issued.ensures.0.1 c.skip_line.ensures)
+    simp to_z-of_z (c.in_ok-issued.ensures.0.0, taken_line c.args.lines.now c.skip_line.new.self (codes "issued") c.in_ok-rest_ahead.field-0.now (signed_decimal c.in_ok-issued.issued) c.in_ok-rest_ahead.ensures.0 c.in_ok-rest_ahead.ensures.1 c.in_ok-issued.ensures.0.1 c.skip_line.ensures)

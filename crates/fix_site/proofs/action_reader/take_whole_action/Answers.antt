@@ -1,6 +1,7 @@
 use Rattle.std.proofs.lemmas.Result.{IfOk-weaker}
+use Rattle.line_forms.specs.Readers.{ReadsPart}
 use Rattle.fix_site.specs.Actions.{IsAction, action_lines, action_rest}
-use Rattle.fix_site.specs.Readings.{IsActionOf, ReadsPart}
+use Rattle.fix_site.specs.Readings.{IsActionOf}
 use Rattle.fix_site.proofs.Actions.{at_id, reads_whole}
 use Rattle.fix_site.proofs.action_reader.take_whole_action.Goals as goal
 

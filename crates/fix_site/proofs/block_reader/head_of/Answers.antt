@@ -1,6 +1,6 @@
 use Rattle.std.specs.Prelude.{decimal}
-use Rattle.fix_site.specs.Ids.{IsId}
-use Rattle.fix_site.proofs.Stuck.{not_spelled}
+use Rattle.line_forms.specs.Numbers.{IsId}
+use Rattle.line_forms.proofs.Passing.{not_spelled}
 use Rattle.fix_site.proofs.block_reader.head_of.Goals as goal
 
 pub returns-in_default-read_id : goal.returns-in_default-read_id

@@ -1,11 +1,12 @@
 use Rattle.std.proofs.Common.{Option, subst}
+use Rattle.line_forms.specs.Readers.{ReadsPart}
 use Rattle.fix_site.specs.declared.action.Action.{Action}
 use Rattle.fix_site.specs.declared.baseline.Baseline.{Baseline}
 use Rattle.fix_site.specs.declared.fixlet.Fixlet.{Fixlet}
 use Rattle.fix_site.specs.declared.block_reader.Kind.{Kind}
 use Rattle.fix_site.specs.Actions.{action_rest}
 use Rattle.fix_site.specs.Contents.{fixlet_rest, baseline_rest}
-use Rattle.fix_site.specs.Readings.{ReadsPart, IsFixletOf, IsBaselineOf, IsActionOf}
+use Rattle.fix_site.specs.Readings.{IsFixletOf, IsBaselineOf, IsActionOf}
 use Rattle.fix_site.specs.BlockHeads.{CanBegin}
 use Rattle.fix_site.proofs.BlockLines.{a_component, fixlet_stuck, baseline_stuck, action_stuck}
 use Rattle.fix_site.proofs.block_reader.take_block_behind.Goals as goal

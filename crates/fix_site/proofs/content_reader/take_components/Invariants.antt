@@ -1,7 +1,8 @@
 use Rattle.std.proofs.Common.{length}
 use Rattle.std.specs.Prelude.{map}
+use Rattle.line_forms.specs.Readers.{EachCan, Passes}
 use Rattle.fix_site.specs.Contents.{component_line}
-use Rattle.fix_site.specs.Readings.{Anywhere, EachCan, IsComponent, Passes}
+use Rattle.fix_site.specs.Readings.{Anywhere, IsComponent}
 use Rattle.fix_site.proofs.content_reader.take_components.Given as goal
 
 -- the lines of the components so far were taken

@@ -1,8 +1,9 @@
 use Rattle.std.proofs.Common.{length}
 use Rattle.std.specs.Prelude.{map}
 use Rattle.line_forms.specs.Names.{IsRest}
+use Rattle.line_forms.specs.Readers.{EachCan, Passes}
 use Rattle.fix_site.specs.Contents.{relevance_line}
-use Rattle.fix_site.specs.Readings.{Anywhere, EachCan, Passes}
+use Rattle.fix_site.specs.Readings.{Anywhere}
 use Rattle.fix_site.proofs.content_reader.take_relevance.Given as goal
 
 -- the lines of the questions so far were taken

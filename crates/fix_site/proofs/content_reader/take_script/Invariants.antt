@@ -2,7 +2,8 @@ use Rattle.std.proofs.Common.{◌≡◌, ◌+◌, length}
 use Rattle.std.specs.Prelude.{map}
 use Rattle.line_forms.specs.Contents as held
 use Rattle.line_forms.specs.Lines.{lines_text}
-use Rattle.fix_site.specs.Readings.{EachCan, FitsScript, Passes}
+use Rattle.line_forms.specs.Readers.{EachCan, Passes}
+use Rattle.fix_site.specs.Readings.{FitsScript}
 use Rattle.fix_site.proofs.content_reader.take_script.Given as goal
 
 -- the lines of the script so far were taken, and so many bytes are left for more

@@ -1,7 +1,7 @@
 use Rattle.std.proofs.Common.{◌<◌, ◌++◌, List, length, sym, ap, ◌∙◌, arith}
+use Rattle.std.proofs.lemmas.Bool.{iff_false}
 use Rattle.fix_site.specs.declared.block.Block.{Block}
 use Rattle.fix_site.specs.Pieces.{block_pieces}
-use Rattle.fix_site.proofs.Stuck.{not_so}
 use Rattle.fix_site.proofs.PiecePlaces.{no_pieces, blocks_step}
 use Rattle.fix_site.proofs.PieceSteps.{content_at, block_fits, line_behind}
 use Rattle.fix_site.proofs.piece_list.pieces.Goals as goal
@@ -15,7 +15,7 @@ add_block-requires-clause-some c =
     let items : List Block = c.as_slice-block-items.result.now in
     let inside : c.loop-block.block-index < length items = search (arith, c.loop-block-test.true) in
     content_at c.args.site.now items c.loop-block.block-index c.block-item.result c.requires.good c.loop-block.invariant.items inside
-    (λ named. not_so _ _ c.if-has_actions.false c.has_actions.ensures (c.as_str.ensures ∙ named)) c.block-item.is
+    (λ named. iff_false c.has_actions.ensures c.if-has_actions.false (c.as_str.ensures ∙ named)) c.block-item.is
 
 pub add_block-requires-clause-fits : goal.add_block-requires-clause-fits
 add_block-requires-clause-fits c =

@@ -6,4 +6,4 @@ use Rattle.fix_site.proofs.rule_reader.take_reapply.Goals as goal
 
 pub returns : goal.returns
 returns c =
-    (c.in_ok-reapply.ensures.0, taken_line c.args.lines.now c.skip_line.new.lines (codes "reapply") c.in_ok-rest_ahead.field-0.now (line_of (reapply_fields c.in_ok-reapply.reapply)) c.in_ok-rest_ahead.ensures.0 c.in_ok-rest_ahead.ensures.1 c.in_ok-reapply.ensures.1 c.skip_line.ensures)
+    (c.in_ok-reapply.ensures.0, taken_line c.args.lines.now c.skip_line.new.self (codes "reapply") c.in_ok-rest_ahead.field-0.now (line_of (reapply_fields c.in_ok-reapply.reapply)) c.in_ok-rest_ahead.ensures.0 c.in_ok-rest_ahead.ensures.1 c.in_ok-reapply.ensures.1 c.skip_line.ensures)

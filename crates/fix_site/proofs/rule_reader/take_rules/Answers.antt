@@ -19,16 +19,16 @@ returns-in_default-take_hours c =
     stuck_rules c.args.lines.now c.take_hours.new.lines
     (behind_start c.in-Some.start c.args.lines.now c.take_moment.new.lines c.take_hours.new.lines c.in-Some.ensures.0 c.in-Some.ensures.1
     (behind_until c.in-Some-take_moment.until c.take_moment.new.lines c.take_moment-2.new.lines c.take_hours.new.lines c.in-Some-take_moment.ensures.0 c.in-Some-take_moment.ensures.1
-    (behind_client c.take_exactly-client.result c.take_moment-2.new.lines c.take_exactly-client.new.lines c.take_hours.new.lines c.take_exactly-client.ensures
-    (at_hours c.take_exactly-client.new.lines c.take_hours.new.lines c.in_default-take_hours.ensures))))
+    (behind_client c.take_exactly-client.result c.take_moment-2.new.lines c.take_exactly-client.new.self c.take_hours.new.lines c.take_exactly-client.ensures
+    (at_hours c.take_exactly-client.new.self c.take_hours.new.lines c.in_default-take_hours.ensures))))
 
 pub returns-in_default-take_days : goal.returns-in_default-take_days
 returns-in_default-take_days c =
     stuck_rules c.args.lines.now c.take_days.new.lines
     (behind_start c.in-Some.start c.args.lines.now c.take_moment.new.lines c.take_days.new.lines c.in-Some.ensures.0 c.in-Some.ensures.1
     (behind_until c.in-Some-take_moment.until c.take_moment.new.lines c.take_moment-2.new.lines c.take_days.new.lines c.in-Some-take_moment.ensures.0 c.in-Some-take_moment.ensures.1
-    (behind_client c.take_exactly-client.result c.take_moment-2.new.lines c.take_exactly-client.new.lines c.take_days.new.lines c.take_exactly-client.ensures
-    (behind_hours c.in-Some-take_hours.hours c.take_exactly-client.new.lines c.take_hours.new.lines c.take_days.new.lines c.in-Some-take_hours.ensures.0 c.in-Some-take_hours.ensures.1
+    (behind_client c.take_exactly-client.result c.take_moment-2.new.lines c.take_exactly-client.new.self c.take_days.new.lines c.take_exactly-client.ensures
+    (behind_hours c.in-Some-take_hours.hours c.take_exactly-client.new.self c.take_hours.new.lines c.take_days.new.lines c.in-Some-take_hours.ensures.0 c.in-Some-take_hours.ensures.1
     (at_days c.take_hours.new.lines c.take_days.new.lines c.in_default-take_days.ensures)))))
 
 pub returns-in_default-take_retries : goal.returns-in_default-take_retries
@@ -36,8 +36,8 @@ returns-in_default-take_retries c =
     stuck_rules c.args.lines.now c.take_retries.new.lines
     (behind_start c.in-Some.start c.args.lines.now c.take_moment.new.lines c.take_retries.new.lines c.in-Some.ensures.0 c.in-Some.ensures.1
     (behind_until c.in-Some-take_moment.until c.take_moment.new.lines c.take_moment-2.new.lines c.take_retries.new.lines c.in-Some-take_moment.ensures.0 c.in-Some-take_moment.ensures.1
-    (behind_client c.take_exactly-client.result c.take_moment-2.new.lines c.take_exactly-client.new.lines c.take_retries.new.lines c.take_exactly-client.ensures
-    (behind_hours c.in-Some-take_hours.hours c.take_exactly-client.new.lines c.take_hours.new.lines c.take_retries.new.lines c.in-Some-take_hours.ensures.0 c.in-Some-take_hours.ensures.1
+    (behind_client c.take_exactly-client.result c.take_moment-2.new.lines c.take_exactly-client.new.self c.take_retries.new.lines c.take_exactly-client.ensures
+    (behind_hours c.in-Some-take_hours.hours c.take_exactly-client.new.self c.take_hours.new.lines c.take_retries.new.lines c.in-Some-take_hours.ensures.0 c.in-Some-take_hours.ensures.1
     (behind_days c.in-Some-take_days.days c.take_hours.new.lines c.take_days.new.lines c.take_retries.new.lines c.in-Some-take_days.ensures.0 c.in-Some-take_days.ensures.1
     (at_retries c.take_days.new.lines c.take_retries.new.lines c.in_default-take_retries.ensures))))))
 
@@ -46,8 +46,8 @@ returns-in_default-take_reapply c =
     stuck_rules c.args.lines.now c.take_reapply.new.lines
     (behind_start c.in-Some.start c.args.lines.now c.take_moment.new.lines c.take_reapply.new.lines c.in-Some.ensures.0 c.in-Some.ensures.1
     (behind_until c.in-Some-take_moment.until c.take_moment.new.lines c.take_moment-2.new.lines c.take_reapply.new.lines c.in-Some-take_moment.ensures.0 c.in-Some-take_moment.ensures.1
-    (behind_client c.take_exactly-client.result c.take_moment-2.new.lines c.take_exactly-client.new.lines c.take_reapply.new.lines c.take_exactly-client.ensures
-    (behind_hours c.in-Some-take_hours.hours c.take_exactly-client.new.lines c.take_hours.new.lines c.take_reapply.new.lines c.in-Some-take_hours.ensures.0 c.in-Some-take_hours.ensures.1
+    (behind_client c.take_exactly-client.result c.take_moment-2.new.lines c.take_exactly-client.new.self c.take_reapply.new.lines c.take_exactly-client.ensures
+    (behind_hours c.in-Some-take_hours.hours c.take_exactly-client.new.self c.take_hours.new.lines c.take_reapply.new.lines c.in-Some-take_hours.ensures.0 c.in-Some-take_hours.ensures.1
     (behind_days c.in-Some-take_days.days c.take_hours.new.lines c.take_days.new.lines c.take_reapply.new.lines c.in-Some-take_days.ensures.0 c.in-Some-take_days.ensures.1
     (behind_retries (c.in-Some-take_retries.retries.count, c.in-Some-take_retries.retries.wait) c.take_days.new.lines c.take_retries.new.lines c.take_reapply.new.lines (c.in-Some-take_retries.ensures.0, c.in-Some-take_retries.ensures.1) c.in-Some-take_retries.ensures.2
     (at_reapply c.take_retries.new.lines c.take_reapply.new.lines c.in_default-take_reapply.ensures)))))))
@@ -66,6 +66,6 @@ returns c =
         wait = c.in-Some-take_retries.ensures.1;
         reapply = c.in-Some-take_reapply.ensures.0;
       },
-      rules_pass rules c.args.lines.now c.take_moment.new.lines c.take_moment-2.new.lines c.take_exactly-client.new.lines c.take_hours.new.lines c.take_days.new.lines c.take_retries.new.lines c.take_reapply.new.lines
+      rules_pass rules c.args.lines.now c.take_moment.new.lines c.take_moment-2.new.lines c.take_exactly-client.new.self c.take_hours.new.lines c.take_days.new.lines c.take_retries.new.lines c.take_reapply.new.lines
           c.in-Some.ensures.1 c.in-Some-take_moment.ensures.1 c.take_exactly-client.ensures c.in-Some-take_hours.ensures.1 c.in-Some-take_days.ensures.1 c.in-Some-take_retries.ensures.2 c.in-Some-take_reapply.ensures.1,
     )

@@ -2,10 +2,10 @@ use Rattle.std.proofs.Common.{◌≡◌, ◌+◌, ◌-◌, ℕ, List, length, Ok
 use Rattle.std.proofs.lemmas.Result.{err_from_is_err_and}
 use Rattle.line_forms.specs.LineStates.{LineState}
 use Rattle.line_forms.specs.Lines.{lines_text}
+use Rattle.std.proofs.lemmas.Bool.{iff_false}
+use Rattle.line_forms.proofs.Passing.{text_is}
 use Rattle.fix_site.specs.Sites.{lines_with}
 use Rattle.fix_site.specs.Readings.{ReadsStated}
-use Rattle.fix_site.proofs.Stuck.{not_so}
-use Rattle.fix_site.proofs.Ends.{text_is}
 use Rattle.fix_site.proofs.SiteAnswers.{site_refused, site_left, text_length, found_digest, digests_differ, digests_same}
 use Rattle.fix_site.proofs.site_reader.read_site.Goals as goal
 
@@ -18,20 +18,20 @@ pub returns-then-not-is_over : goal.returns-then-not-is_over
 returns-then-not-is_over c =
     let Q : LineState → Type 0 = λ s. ReadsStated s c.read_stated.new.lines (Ok c.in_ok-stated.stated) in
     let read = subst Q c.new-lines.ensures c.in_ok-stated.ensures in
-    (omega arith, site_left c.args.text.now c.read_stated.new.lines c.in_ok-stated.stated.site c.in_ok-stated.stated.digest c.number.result read.0 read.1 read.2 (λ over. not_so _ _ c.if-not-is_over.true c.is_over.ensures over) c.number.ensures)
+    (omega arith, site_left c.args.text.now c.read_stated.new.lines c.in_ok-stated.stated.site c.in_ok-stated.stated.digest c.number.result read.0 read.1 read.2 (iff_false c.is_over.ensures c.if-not-is_over.true) c.number.ensures)
 
 pub slice_bounds-digest-count : goal.slice_bounds-digest-count
 slice_bounds-digest-count c =
     let Q : LineState → Type 0 = λ s. ReadsStated s c.read_stated.new.lines (Ok c.in_ok-stated.stated) in
     let read = subst Q c.new-lines.ensures c.in_ok-stated.ensures in
-    let is : c.args.text.now ≡ lines_text (lines_with c.in_ok-stated.stated.site c.in_ok-stated.stated.digest) = text_is c.args.text.now (lines_with c.in_ok-stated.stated.site c.in_ok-stated.stated.digest) c.read_stated.new.lines (c.lines_make_the_text.ensures.whole c.args.text.now) read.2 (c.is_over.ensures.0 c.if-not-is_over.false) in
+    let is : c.args.text.now ≡ lines_text (lines_with c.in_ok-stated.stated.site c.in_ok-stated.stated.digest) = text_is c.args.text.now (lines_with c.in_ok-stated.stated.site c.in_ok-stated.stated.digest) c.read_stated.new.lines read.2 (c.is_over.ensures.0 c.if-not-is_over.false) in
     omega (arith, text_length c.args.text.now c.in_ok-stated.stated.site c.in_ok-stated.stated.digest read.1 is)
 
 pub returns-then-ne : goal.returns-then-ne
 returns-then-ne c =
     let Q : LineState → Type 0 = λ s. ReadsStated s c.read_stated.new.lines (Ok c.in_ok-stated.stated) in
     let read = subst Q c.new-lines.ensures c.in_ok-stated.ensures in
-    let is : c.args.text.now ≡ lines_text (lines_with c.in_ok-stated.stated.site c.in_ok-stated.stated.digest) = text_is c.args.text.now (lines_with c.in_ok-stated.stated.site c.in_ok-stated.stated.digest) c.read_stated.new.lines (c.lines_make_the_text.ensures.whole c.args.text.now) read.2 (c.is_over.ensures.0 c.if-not-is_over.false) in
+    let is : c.args.text.now ≡ lines_text (lines_with c.in_ok-stated.stated.site c.in_ok-stated.stated.digest) = text_is c.args.text.now (lines_with c.in_ok-stated.stated.site c.in_ok-stated.stated.digest) c.read_stated.new.lines read.2 (c.is_over.ensures.0 c.if-not-is_over.false) in
     let sized = text_length c.args.text.now c.in_ok-stated.stated.site c.in_ok-stated.stated.digest read.1 is in
     let count : length c.args.text.now - 72 + 72 ≡ length c.args.text.now = omega (arith, sized) in
     let found = c.digest-found.ensures ∙ found_digest c.args.text.now c.in_ok-stated.stated.site c.in_ok-stated.stated.digest (length c.args.text.now - 72) read.1 is count in (
@@ -50,7 +50,7 @@ pub returns : goal.returns
 returns c =
     let Q : LineState → Type 0 = λ s. ReadsStated s c.read_stated.new.lines (Ok c.in_ok-stated.stated) in
     let read = subst Q c.new-lines.ensures c.in_ok-stated.ensures in
-    let is : c.args.text.now ≡ lines_text (lines_with c.in_ok-stated.stated.site c.in_ok-stated.stated.digest) = text_is c.args.text.now (lines_with c.in_ok-stated.stated.site c.in_ok-stated.stated.digest) c.read_stated.new.lines (c.lines_make_the_text.ensures.whole c.args.text.now) read.2 (c.is_over.ensures.0 c.if-not-is_over.false) in
+    let is : c.args.text.now ≡ lines_text (lines_with c.in_ok-stated.stated.site c.in_ok-stated.stated.digest) = text_is c.args.text.now (lines_with c.in_ok-stated.stated.site c.in_ok-stated.stated.digest) c.read_stated.new.lines read.2 (c.is_over.ensures.0 c.if-not-is_over.false) in
     let sized = text_length c.args.text.now c.in_ok-stated.stated.site c.in_ok-stated.stated.digest read.1 is in
     let count : length c.args.text.now - 72 + 72 ≡ length c.args.text.now = omega (arith, sized) in
     let found = c.digest-found.ensures ∙ found_digest c.args.text.now c.in_ok-stated.stated.site c.in_ok-stated.stated.digest (length c.args.text.now - 72) read.1 is count in

@@ -1,8 +1,8 @@
 use Rattle.std.proofs.Common.{ℕ, List, sym, subst}
 use Rattle.std.proofs.lemmas.Result.{err_from_is_err_and}
+use Rattle.line_forms.specs.Readers.{Passes}
 use Rattle.fix_site.specs.declared.site.Site.{Site}
 use Rattle.fix_site.specs.Sites.{IsSite, IsDigestValue, lines_with}
-use Rattle.fix_site.specs.Readings.{Passes}
 use Rattle.fix_site.proofs.SiteStops.{site_first, site_last, site_whole}
 use Rattle.fix_site.proofs.SiteAnswers.{stated_wrong}
 use Rattle.fix_site.proofs.site_reader.read_stated.Goals as goal

@@ -1,7 +1,7 @@
 use Rattle.std.proofs.Common.{length}
 use Rattle.std.specs.Prelude.{flat_map}
+use Rattle.line_forms.specs.Readers.{Passes}
 use Rattle.fix_site.specs.Blocks.{AreBlocks, block_lines}
-use Rattle.fix_site.specs.Readings.{Passes}
 use Rattle.fix_site.proofs.site_reader.take_blocks.Given as goal
 
 -- the lines of the blocks so far were taken

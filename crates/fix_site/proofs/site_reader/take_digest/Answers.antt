@@ -5,4 +5,4 @@ use Rattle.fix_site.proofs.site_reader.take_digest.Goals as goal
 
 pub returns : goal.returns
 returns c =
-    ((c.in_ok-digest.ensures.0.0, c.in_ok-digest.ensures.0.1), taken_line c.args.lines.now c.skip_line.new.lines (codes "digest") c.in_ok-rest_ahead.field-0.now (encode_lower c.in_ok-digest.digest) c.in_ok-rest_ahead.ensures.0 c.in_ok-rest_ahead.ensures.1 c.in_ok-digest.ensures.0.2 c.skip_line.ensures)
+    ((c.in_ok-digest.ensures.0.0, c.in_ok-digest.ensures.0.1), taken_line c.args.lines.now c.skip_line.new.self (codes "digest") c.in_ok-rest_ahead.field-0.now (encode_lower c.in_ok-digest.digest) c.in_ok-rest_ahead.ensures.0 c.in_ok-rest_ahead.ensures.1 c.in_ok-digest.ensures.0.2 c.skip_line.ensures)

@@ -15,7 +15,7 @@ use Rattle.rel_nodes.proofs.node.+step.Goals as goal
 
 pub step_one-loop-alloc-init : goal.step_one-loop-alloc-init
 step_one-loop-alloc-init g t c =
-    (refl, refl, refl, omega arith, λ w h. advance_none _ _ _, omega arith, λ e. omega arith, refl, refl)
+    (refl, refl, refl, omega arith, λ w h. advance_none _ _ _, omega arith, λ e. omega arith, refl, refl, refl)
 
 pub step_one-loop-alloc-smaller : goal.step_one-loop-alloc-smaller
 step_one-loop-alloc-smaller g t c =
@@ -38,6 +38,7 @@ step_one-loop-alloc-preserved g t c =
       λ q. omega (arith, over_falls c.go_on_one-step.result _ _ _ _ _ e.within on e.falls (omega (arith, q, less, e.within, i.5)), i.6 (omega (arith, q, less, e.within, i.5))),
       e.acted ∙ i.7,
       e.started ∙ i.8,
+      e.polled ∙ i.9,
     )
 
 pub step_one-returns-then-not-pass_over : goal.step_one-returns-then-not-pass_over
@@ -58,11 +59,12 @@ step_one-returns-then-not-pass_over g t c =
       world = e.world ∙ i.2;
       acted = e.acted ∙ i.7;
       started = e.started ∙ i.8;
+      polled = e.polled ∙ i.9;
     }
 
 pub step_two-loop-alloc-init : goal.step_two-loop-alloc-init
 step_two-loop-alloc-init g t c =
-    (refl, refl, refl, refl, omega arith, λ w h. advance_none _ _ _, omega arith, λ e. omega arith, refl, refl)
+    (refl, refl, refl, refl, omega arith, λ w h. advance_none _ _ _, omega arith, λ e. omega arith, refl, refl, refl)
 
 pub step_two-loop-alloc-smaller : goal.step_two-loop-alloc-smaller
 step_two-loop-alloc-smaller g t c =
@@ -86,6 +88,7 @@ step_two-loop-alloc-preserved g t c =
       λ q. omega (arith, over_falls c.go_on_two-step.result _ _ _ _ _ e.within on e.falls (omega (arith, q, less, e.within, i.6)), i.7 (omega (arith, q, less, e.within, i.6))),
       e.acted ∙ i.8,
       e.started ∙ i.9,
+      e.polled ∙ i.10,
     )
 
 pub step_two-returns-then-not-pass_over : goal.step_two-returns-then-not-pass_over
@@ -107,11 +110,12 @@ step_two-returns-then-not-pass_over g t c =
       world = e.world ∙ i.3;
       acted = e.acted ∙ i.8;
       started = e.started ∙ i.9;
+      polled = e.polled ∙ i.10;
     }
 
 pub step_choice-loop-alloc-init : goal.step_choice-loop-alloc-init
 step_choice-loop-alloc-init g t c =
-    (refl, refl, refl, refl, omega arith, λ w h. advance_none _ _ _, omega arith, λ e. omega arith, refl, refl)
+    (refl, refl, refl, refl, omega arith, λ w h. advance_none _ _ _, omega arith, λ e. omega arith, refl, refl, refl)
 
 pub step_choice-loop-alloc-smaller : goal.step_choice-loop-alloc-smaller
 step_choice-loop-alloc-smaller g t c =
@@ -135,6 +139,7 @@ step_choice-loop-alloc-preserved g t c =
       λ q. omega (arith, over_falls c.go_on_choice-step.result _ _ _ _ _ e.within on e.falls (omega (arith, q, less, e.within, i.6)), i.7 (omega (arith, q, less, e.within, i.6))),
       e.acted ∙ i.8,
       e.started ∙ i.9,
+      e.polled ∙ i.10,
     )
 
 pub step_choice-returns-then-not-pass_over : goal.step_choice-returns-then-not-pass_over
@@ -156,6 +161,7 @@ step_choice-returns-then-not-pass_over g t c =
       world = e.world ∙ i.3;
       acted = e.acted ∙ i.8;
       started = e.started ∙ i.9;
+      polled = e.polled ∙ i.10;
     }
 
 pub Node::step-returns-in-Nothing-clause-goes : goal.Node::step-returns-in-Nothing-clause-goes

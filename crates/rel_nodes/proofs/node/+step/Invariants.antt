@@ -24,6 +24,7 @@ invariant-step_one-loop-alloc g l =
     × (l.left ≡ l.fn.left → one_quiet l.state (quiet l.part) ≤ one_quiet l.fn.state (quiet l.fn.part))
     × (g.M.Machine.acted l.machine ≡ g.M.Machine.acted l.fn.machine)
     × (g.M.Machine.started l.machine ≡ g.M.Machine.started l.fn.machine)
+    × (g.M.Machine.polled l.machine ≡ g.M.Machine.polled l.fn.machine)
 
 abbrev pub decreases-step_one-loop-alloc : goal.decreases-step_one-loop-alloc
 decreases-step_one-loop-alloc g l = l.left * (cap (shape l.part) + 1 + 1) + one_quiet l.state (quiet l.part)
@@ -40,6 +41,7 @@ invariant-step_two-loop-alloc g l =
     × (l.left ≡ l.fn.left → two_quiet l.state (quiet l.first) (quiet l.second) (cap (shape l.second)) ≤ two_quiet l.fn.state (quiet l.fn.first) (quiet l.fn.second) (cap (shape l.fn.second)))
     × (g.M.Machine.acted l.machine ≡ g.M.Machine.acted l.fn.machine)
     × (g.M.Machine.started l.machine ≡ g.M.Machine.started l.fn.machine)
+    × (g.M.Machine.polled l.machine ≡ g.M.Machine.polled l.fn.machine)
 
 abbrev pub decreases-step_two-loop-alloc : goal.decreases-step_two-loop-alloc
 decreases-step_two-loop-alloc g l = l.left * (two_cap (two_kind l.state) (cap (shape l.first)) (cap (shape l.second)) + 1) + two_quiet l.state (quiet l.first) (quiet l.second) (cap (shape l.second))
@@ -56,6 +58,7 @@ invariant-step_choice-loop-alloc g l =
     × (l.left ≡ l.fn.left → choice_quiet l.state (quiet l.test) (quiet l.yes) (quiet l.no) (cap (shape l.yes)) (cap (shape l.no)) ≤ choice_quiet l.fn.state (quiet l.fn.test) (quiet l.fn.yes) (quiet l.fn.no) (cap (shape l.fn.yes)) (cap (shape l.fn.no)))
     × (g.M.Machine.acted l.machine ≡ g.M.Machine.acted l.fn.machine)
     × (g.M.Machine.started l.machine ≡ g.M.Machine.started l.fn.machine)
+    × (g.M.Machine.polled l.machine ≡ g.M.Machine.polled l.fn.machine)
 
 abbrev pub decreases-step_choice-loop-alloc : goal.decreases-step_choice-loop-alloc
 decreases-step_choice-loop-alloc g l = l.left * (choice_cap (cap (shape l.test)) (cap (shape l.yes)) (cap (shape l.no)) + 1) + choice_quiet l.state (quiet l.test) (quiet l.yes) (quiet l.no) (cap (shape l.yes)) (cap (shape l.no))

@@ -11,6 +11,7 @@ loop-rest-init g c = record {
   few = c.new-session.ensures.few;
   world = refl;
   acted = refl;
+  polled = refl;
   started = refl;
   machine_later = omega arith;
   steady = refl;
@@ -28,6 +29,7 @@ loop-rest-preserved g c =
       few = now.few;
       world = now.world ∙ before.world;
       acted = now.acted ∙ before.acted;
+      polled = now.polled ∙ before.polled;
       started = now.started ∙ before.started;
       machine_later = let a = before.machine_later in let b = now.machine_later in omega arith;
       steady = now.steady (λ e. cc) ∙ before.steady;

@@ -13,7 +13,7 @@ pub returns-in-Err-clause-handed : goal.returns-in-Err-clause-handed
 returns-in-Err-clause-handed g c = inl ([], refl)
 
 pub loop-value-init : goal.loop-value-init
-loop-value-init g c = (refl, omega arith, λ w h. so_none _ _ _ _ _ (c.in-Ok.ensures.rest w), ([], refl), refl, refl)
+loop-value-init g c = (refl, omega arith, λ w h. so_none _ _ _ _ _ (c.in-Ok.ensures.rest w), ([], refl), refl, refl, refl)
 
 pub loop-value-preserved : goal.loop-value-preserved
 loop-value-preserved g c =
@@ -25,6 +25,7 @@ loop-value-preserved g c =
       (i.3.0 ++ shown c.in-Value.value ∷ [], took_more g.T.Taker.takes c.args.taker.now c.loop-value.taker c.take.new.self i.3.0 (shown c.in-Value.value) i.3.1 c.in-More.ensures),
       e.acted ∙ i.4,
       e.started ∙ i.5,
+      e.polled ∙ i.6,
     )
 
 pub returns-in-Enough-clause-answers : goal.returns-in-Enough-clause-answers

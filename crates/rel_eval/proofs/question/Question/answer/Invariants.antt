@@ -18,6 +18,7 @@ invariant-loop-value g l =
     × ((vs : List Plain) × Took g.T.Taker.takes l.fn.taker vs l.taker)
     × (g.M.Machine.acted l.machine ≡ g.M.Machine.acted l.fn.machine)
     × (g.M.Machine.started l.machine ≡ g.M.Machine.started l.fn.machine)
+    × (g.M.Machine.polled l.machine ≡ g.M.Machine.polled l.fn.machine)
 
 abbrev pub decreases-loop-value : goal.decreases-loop-value
 decreases-loop-value g l = weight l.cursor

@@ -27,6 +27,7 @@ returns-in_default g c =
       later = c.next_event.ensures.later;
       world = c.next_event.ensures.world;
       acted = c.next_event.ensures.acted;
+      polled = c.next_event.ensures.polled;
       started = c.next_event.ensures.started;
       walk = c.next_event.ensures.walk;
       sound = sound-as c.next_event.result c.into_step-in_default.result c.next_event.ensures.sound is c.into_step-in_default.ensures;

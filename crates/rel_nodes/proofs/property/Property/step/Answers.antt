@@ -7,7 +7,7 @@ use Rattle.rel_nodes.proofs.property.Property.step.Goals as goal
 
 pub loop-alloc-init : goal.loop-alloc-init
 loop-alloc-init g c =
-    (refl, refl, omega arith, λ w h. advance_none _ _ _, omega arith, λ e. omega arith, refl, refl)
+    (refl, refl, omega arith, λ w h. advance_none _ _ _, omega arith, λ e. omega arith, refl, refl, refl)
 
 pub loop-alloc-smaller : goal.loop-alloc-smaller
 loop-alloc-smaller g c =
@@ -29,6 +29,7 @@ loop-alloc-preserved g c =
       λ q. omega (arith, over_falls c.go_on-step.result c.loop-alloc.left c.loop-alloc.left c.pass_over.new.left _ _ (omega arith) on (λ z. e.falls) (omega (arith, q, less, i.4)), i.5 (omega (arith, q, less, i.4))),
       e.acted ∙ i.6,
       e.started ∙ i.7,
+      e.polled ∙ i.8,
     )
 
 pub returns-then-not-pass_over : goal.returns-then-not-pass_over
@@ -48,4 +49,5 @@ returns-then-not-pass_over g c =
       world = e.world ∙ i.1;
       acted = e.acted ∙ i.6;
       started = e.started ∙ i.7;
+      polled = e.polled ∙ i.8;
     }

@@ -18,6 +18,7 @@ invariant-loop-alloc g l =
     × (l.left ≡ l.fn.left → property_quiet l.self.walk ≤ property_quiet l.fn.self.walk)
     × (g.M.Machine.acted l.machine ≡ g.M.Machine.acted l.fn.machine)
     × (g.M.Machine.started l.machine ≡ g.M.Machine.started l.fn.machine)
+    × (g.M.Machine.polled l.machine ≡ g.M.Machine.polled l.fn.machine)
 
 abbrev pub decreases-loop-alloc : goal.decreases-loop-alloc
 decreases-loop-alloc g l = l.left * (2 + 1) + property_quiet l.self.walk

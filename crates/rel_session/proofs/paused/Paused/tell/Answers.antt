@@ -9,6 +9,7 @@ page-init g c = record {
   span = refl;
   world = refl;
   acted = refl;
+  polled = refl;
   started = refl;
   machine_later = omega arith;
   steady = refl;
@@ -26,6 +27,7 @@ page-preserved g c =
       span = step.span ∙ before.span;
       world = step.world ∙ before.world;
       acted = step.acted ∙ before.acted;
+      polled = step.polled ∙ before.polled;
       started = step.started ∙ before.started;
       machine_later = let a = before.machine_later in let b = step.machine_later in omega arith;
       steady = long.steady (λ e. cc) ∙ before.steady;

@@ -15,6 +15,7 @@ invariant-page g l = record {
   span : l.self.span ≡ l.fn.self.span;
   world : g.M.Machine.world l.machine ≡ g.M.Machine.world l.fn.machine;
   acted : g.M.Machine.acted l.machine ≡ g.M.Machine.acted l.fn.machine;
+  polled : g.M.Machine.polled l.machine ≡ g.M.Machine.polled l.fn.machine;
   started : g.M.Machine.started l.machine ≡ g.M.Machine.started l.fn.machine;
   machine_later : g.M.Machine.faults l.fn.machine ≤ g.M.Machine.faults l.machine;
   steady : g.W.Sink.faults l.sink ≡ g.W.Sink.faults l.fn.sink;

@@ -7,7 +7,8 @@ use Rattle.rel_trace.specs.Trace.{Stop, Error, Look, Trace, Ends, After}
 use Rattle.rel_session.specs.Printed.{said_error}
 use Rattle.rel_session.specs.Tellings.{Tells, ended, faulted}
 use Rattle.rel_session.specs.Waiting.{left_of}
-use Rattle.rel_session.proofs.Lasting.{RoseBy-none, drawn, drawn_somehow, drawn_value, stays_drawn, step_at_value, step_at_end}
+use Rattle.bf_machine.proofs.Telling.{RoseBy-none}
+use Rattle.rel_session.proofs.Lasting.{drawn, drawn_somehow, drawn_value, stays_drawn, step_at_value, step_at_end}
 use Rattle.rel_session.proofs.Tellings.{told_error, told_fault, told_stop}
 use Rattle.rel_session.proofs.paused.Paused.tell_one.Goals as goal
 

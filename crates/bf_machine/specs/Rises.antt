@@ -1,0 +1,6 @@
+-- By how much a count rose.
+use Rattle.std.specs.Prelude.{ℕ, ◌+◌, ◌-◌, ◌^◌, ◌≤◌, max, min}
+
+-- A count rose by at least so many, or stands still at its last value.
+abbrev pub RoseBy : ℕ → ℕ → ℕ → Type 0
+RoseBy times before now = max before (min (before + times) (2 ^ 64 - 1)) ≤ now

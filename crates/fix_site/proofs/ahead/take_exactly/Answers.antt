@@ -1,7 +1,0 @@
-use Rattle.std.proofs.Common.{◌∷◌, ap, ◌∙◌}
-use Rattle.fix_site.proofs.ahead.take_exactly.Goals as goal
-
-pub returns : goal.returns
-returns c =
-    c.skip_line.ensures c.args.line.now c.in-Some.ensures.0
-    (c.in-Some.ensures.1 ∙ ap (λ l. l ∷ c.in-Some.ensures.0) (c.is_word.ensures.0 c.if-not-is_word.false))
