@@ -13,8 +13,8 @@ pub lookup-append : {K X : Type 0} (test : K → Bool) (xs ys : List (K × X)) �
 lookup-append test [] ys = refl
 lookup-append test (e ∷ xs) ys =
     elim (test e.0) as (λ b. cond b (Some e.1) (lookup test (xs ++ ys)) ≡ option_or (cond b (Some e.1) (lookup test xs)) (lookup test ys)) [
-      true ↦ refl
-    | false ↦ lookup-append test xs ys
+      | true ↦ refl
+      | false ↦ lookup-append test xs ys
     ]
 
 -- what holds of each key of some entries
@@ -66,8 +66,8 @@ module _ {K : Type 0} {eq : K → K → Bool} (laws : IsEquivalence eq) where
       → option_or (lookup (eq q) es) (cond (eq k q) (Some v) None) ≡ cond (eq k q) (Some v) (lookup (eq q) es)
   pushed k v q es absent =
       elim (eq k q) as (λ b. eq k q ≡ b → option_or (lookup (eq q) es) (cond b (Some v) None) ≡ cond b (Some v) (lookup (eq q) es)) [
-        true ↦ λ e. ap (λ o. option_or o (Some v)) (lookup-alike k q es e ∙ absent)
-      | false ↦ λ e. option_or-none (lookup (eq q) es)
+        | true ↦ λ e. ap (λ o. option_or o (Some v)) (lookup-alike k q es e ∙ absent)
+        | false ↦ λ e. option_or-none (lookup (eq q) es)
       ] refl
 
   -- one more entry, of a new key
@@ -84,24 +84,24 @@ module _ {K : Type 0} {eq : K → K → Bool} (laws : IsEquivalence eq) where
   apart_from_entries xs k v ys distinct =
       let Apart : List K → Type 0 = AllByRecursion (λ y. eq k y ≡ false) in
       subst Apart (sym (map-append (λ e. e.0) xs ys))
-        (apart_from_rest (keys_of xs) k (keys_of ys) (subst (IsDistinct eq) (map-append (λ e. e.0) xs ((k, v) ∷ ys)) distinct))
+      (apart_from_rest (keys_of xs) k (keys_of ys) (subst (IsDistinct eq) (map-append (λ e. e.0) xs ((k, v) ∷ ys)) distinct))
 
   -- without the entry of a key
   pub lookup-rest : {X : Type 0} (xs : List (K × X)) (k : K) (v : X) (ys : List (K × X)) (q : K) → IsDistinct eq (keys_of (xs ++ (k, v) ∷ ys))
       → lookup (eq q) (xs ++ ys) ≡ cond (eq k q) None (lookup (eq q) (xs ++ (k, v) ∷ ys))
   lookup-rest xs k v ys q distinct =
       elim (eq k q) as (λ b. eq k q ≡ b → lookup (eq q) (xs ++ ys) ≡ cond b None (lookup (eq q) (xs ++ (k, v) ∷ ys))) [
-        true ↦ λ e. lookup-alike k q (xs ++ ys) e ∙ lookup-none (eq k) (xs ++ ys) (none_passes_from_keys (eq k) (xs ++ ys) (apart_from_entries xs k v ys distinct))
-      | false ↦ λ e. lookup-append (eq q) xs ys
-          ∙ ap (λ b. option_or (lookup (eq q) xs) (cond b (Some v) (lookup (eq q) ys))) (sym (laws.symm q k ∙ e))
-          ∙ sym (lookup-append (eq q) xs ((k, v) ∷ ys))
+        | true ↦ λ e. lookup-alike k q (xs ++ ys) e ∙ lookup-none (eq k) (xs ++ ys) (none_passes_from_keys (eq k) (xs ++ ys) (apart_from_entries xs k v ys distinct))
+        | false ↦ λ e. lookup-append (eq q) xs ys
+            ∙ ap (λ b. option_or (lookup (eq q) xs) (cond b (Some v) (lookup (eq q) ys))) (sym (laws.symm q k ∙ e))
+            ∙ sym (lookup-append (eq q) xs ((k, v) ∷ ys))
       ] refl
 
   pub entries_distinct : {X : Type 0} (xs : List (K × X)) (k : K) (v : X) (ys : List (K × X)) → IsDistinct eq (keys_of (xs ++ (k, v) ∷ ys))
       → IsDistinct eq (keys_of (xs ++ ys))
   entries_distinct xs k v ys distinct =
       subst (IsDistinct eq) (sym (map-append (λ e. e.0) xs ys))
-        (rest_distinct eq (keys_of xs) k (keys_of ys) (subst (IsDistinct eq) (map-append (λ e. e.0) xs ((k, v) ∷ ys)) distinct))
+      (rest_distinct eq (keys_of xs) k (keys_of ys) (subst (IsDistinct eq) (map-append (λ e. e.0) xs ((k, v) ∷ ys)) distinct))
 
   -- an entry that moves to the front and gets another value
   pub lookup-moved : {X : Type 0} (xs : List (K × X)) (k : K) (v w : X) (ys : List (K × X)) (q : K) → IsDistinct eq (keys_of (xs ++ (k, v) ∷ ys))
@@ -124,7 +124,7 @@ module _ {K : Type 0} {eq : K → K → Bool} (laws : IsEquivalence eq) where
   lookup-later [] ys q v distinct found = cc
   lookup-later (e ∷ xs) ys q v distinct found =
       elim (eq q e.0) as (λ b. eq q e.0 ≡ b → cond b (Some e.1) (lookup (eq q) xs) ≡ Some v → lookup (eq q) ys ≡ None) [
-        true ↦ λ same _. lookup-alike e.0 q ys (laws.symm e.0 q ∙ same) ∙ lookup-none (eq e.0) ys (none_passes_from_keys (eq e.0) ys
-          (all_later (λ y. eq e.0 y ≡ false) (keys_of xs) (keys_of ys) (subst (λ l. AllByRecursion (λ y. eq e.0 y ≡ false) l) (map-append (λ e. e.0) xs ys) distinct.0)))
-      | false ↦ λ _ later. lookup-later xs ys q v distinct.1 later
+        | true ↦ λ same _. lookup-alike e.0 q ys (laws.symm e.0 q ∙ same) ∙ lookup-none (eq e.0) ys (none_passes_from_keys (eq e.0) ys
+            (all_later (λ y. eq e.0 y ≡ false) (keys_of xs) (keys_of ys) (subst (λ l. AllByRecursion (λ y. eq e.0 y ≡ false) l) (map-append (λ e. e.0) xs ys) distinct.0)))
+        | false ↦ λ _ later. lookup-later xs ys q v distinct.1 later
       ] refl found

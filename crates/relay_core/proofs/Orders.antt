@@ -26,20 +26,20 @@ filter-take p [] zero pass fail fits = refl
 filter-take p [] (suc i) pass fail fits = absurd (omega arith)
 filter-take p (x ∷ xs) zero pass fail fits =
     subst (λ b. cond b (x ∷ filter p xs) (filter p xs) ≡ []) (sym (fail 0 x (omega arith) (omega arith)))
-      (filter-take p xs zero (λ k d low high. absurd (omega arith)) (λ k d low high. fail (suc k) d (omega arith) (omega arith)) (omega arith))
+    (filter-take p xs zero (λ k d low high. absurd (omega arith)) (λ k d low high. fail (suc k) d (omega arith) (omega arith)) (omega arith))
 filter-take p (x ∷ xs) (suc i) pass fail fits =
     subst (λ b. cond b (x ∷ filter p xs) (filter p xs) ≡ x ∷ take i xs) (sym (pass 0 x (omega arith) (omega arith)))
-      (ap (λ l. x ∷ l) (filter-take p xs i (λ k d low high. pass (suc k) d (omega arith) (omega arith)) (λ k d low high. fail (suc k) d (omega arith) (omega arith)) (omega arith)))
+    (ap (λ l. x ∷ l) (filter-take p xs i (λ k d low high. pass (suc k) d (omega arith) (omega arith)) (λ k d low high. fail (suc k) d (omega arith) (omega arith)) (omega arith)))
 
 pub filter-drop : {X : Type 0} (p : X → Bool) (xs : List X) (i : ℕ) → AllWithin (λ x. p x ≡ false) xs 0 i → AllWithin (λ x. p x ≡ true) xs i (length xs) → i ≤ length xs → filter p xs ≡ drop i xs
 filter-drop p [] zero fail pass fits = refl
 filter-drop p [] (suc i) fail pass fits = absurd (omega arith)
 filter-drop p (x ∷ xs) zero fail pass fits =
     subst (λ b. cond b (x ∷ filter p xs) (filter p xs) ≡ x ∷ xs) (sym (pass 0 x (omega arith) (omega arith)))
-      (ap (λ l. x ∷ l) (filter-drop p xs zero (λ k d low high. absurd (omega arith)) (λ k d low high. pass (suc k) d (omega arith) (omega arith)) (omega arith)))
+    (ap (λ l. x ∷ l) (filter-drop p xs zero (λ k d low high. absurd (omega arith)) (λ k d low high. pass (suc k) d (omega arith) (omega arith)) (omega arith)))
 filter-drop p (x ∷ xs) (suc i) fail pass fits =
     subst (λ b. cond b (x ∷ filter p xs) (filter p xs) ≡ drop i xs) (sym (fail 0 x (omega arith) (omega arith)))
-      (filter-drop p xs i (λ k d low high. fail (suc k) d (omega arith) (omega arith)) (λ k d low high. pass (suc k) d (omega arith) (omega arith)) (omega arith))
+    (filter-drop p xs i (λ k d low high. fail (suc k) d (omega arith) (omega arith)) (λ k d low high. pass (suc k) d (omega arith) (omega arith)) (omega arith))
 
 -- ---- around a key
 
@@ -65,8 +65,8 @@ module _ {X K : Type 0} (R : K → K → Ordering) (f : X → K) where
   all_filtered P p [] h = tt
   all_filtered P p (x ∷ xs) h =
       elim (p x) as (λ b. AllByRecursion P (map f (cond b (x ∷ filter p xs) (filter p xs)))) [
-        true ↦ (h.0, all_filtered P p xs h.1)
-      | false ↦ all_filtered P p xs h.1
+        | true ↦ (h.0, all_filtered P p xs h.1)
+        | false ↦ all_filtered P p xs h.1
       ]
 
   pub sorted_filtered : (p : X → Bool) (xs : List X) → IsStrictlySortedBy R (map f xs) → IsStrictlySortedBy R (map f (filter p xs))
@@ -74,26 +74,26 @@ module _ {X K : Type 0} (R : K → K → Ordering) (f : X → K) where
   sorted_filtered p [] h = tt
   sorted_filtered p (x ∷ xs) h =
       elim (p x) as (λ b. IsStrictlySortedBy R (map f (cond b (x ∷ filter p xs) (filter p xs)))) [
-        true ↦ (all_filtered (λ y. R (f x) y ≡ Less) p xs h.0, sorted_filtered p xs h.1)
-      | false ↦ sorted_filtered p xs h.1
+        | true ↦ (all_filtered (λ y. R (f x) y ≡ Less) p xs h.0, sorted_filtered p xs h.1)
+        | false ↦ sorted_filtered p xs h.1
       ]
 
   pub before_below : (key : K) (xs : List X) → AllByRecursion (λ k. R k key ≡ Less) (map f (before_by R f key xs))
   before_below key [] = tt
   before_below key (x ∷ xs) =
       elim (R (f x) key) as (λ r. R (f x) key ≡ r → AllByRecursion (λ k. R k key ≡ Less) (map f (cond (is_lt r) (x ∷ before_by R f key xs) (before_by R f key xs)))) [
-        Less ↦ λ e. (e, before_below key xs)
-      | Equal ↦ λ e. before_below key xs
-      | Greater ↦ λ e. before_below key xs
+        | Less ↦ λ e. (e, before_below key xs)
+        | Equal ↦ λ e. before_below key xs
+        | Greater ↦ λ e. before_below key xs
       ] refl
 
   pub after_above : (key : K) (xs : List X) → AllByRecursion (λ k. R key k ≡ Less) (map f (after_by R f key xs))
   after_above key [] = tt
   after_above key (x ∷ xs) =
       elim (R key (f x)) as (λ r. R key (f x) ≡ r → AllByRecursion (λ k. R key k ≡ Less) (map f (cond (is_lt r) (x ∷ after_by R f key xs) (after_by R f key xs)))) [
-        Less ↦ λ e. (e, after_above key xs)
-      | Equal ↦ λ e. after_above key xs
-      | Greater ↦ λ e. after_above key xs
+        | Less ↦ λ e. (e, after_above key xs)
+        | Equal ↦ λ e. after_above key xs
+        | Greater ↦ λ e. after_above key xs
       ] refl
 
 -- the element at its place keeps the order
@@ -101,9 +101,9 @@ pub sorted_with : {X K : Type 0} {R : K → K → Ordering} (o : IsTotalOrder R)
     → IsStrictlySortedBy R (map f (before_by R f (f x) xs ++ x ∷ after_by R f (f x) xs))
 sorted_with {R} o f x xs sorted =
     subst (IsStrictlySortedBy R) (sym (map-append f (before_by R f (f x) xs) (x ∷ after_by R f (f x) xs)))
-      (sorted_around o (map f (before_by R f (f x) xs)) (f x) (map f (after_by R f (f x) xs))
-        (sorted_filtered R f (λ y. is_lt (R (f y) (f x))) xs sorted) (before_below R f (f x) xs) (after_above R f (f x) xs)
-        (sorted_filtered R f (λ y. is_lt (R (f x) (f y))) xs sorted))
+    (sorted_around o (map f (before_by R f (f x) xs)) (f x) (map f (after_by R f (f x) xs))
+    (sorted_filtered R f (λ y. is_lt (R (f y) (f x))) xs sorted) (before_below R f (f x) xs) (after_above R f (f x) xs)
+    (sorted_filtered R f (λ y. is_lt (R (f x) (f y))) xs sorted))
 
 -- ---- the place that a binary search finds
 
@@ -130,8 +130,8 @@ module _ {X K : Type 0} {R : K → K → Ordering} (o : IsTotalOrder R) (same : 
   rises : IsNonDecreasingBy (λ x. ordering_index (R (f x) key)) xs
   rises i j d le inside =
       elim (cases_eq i j) [
-        inl e ↦ rw e (omega arith)
-      | inr apart ↦ later (R (f (get_or xs j d)) key) refl (ascends i j d (omega arith) inside)
+        | inl e ↦ rw e (omega arith)
+        | inr apart ↦ later (R (f (get_or xs j d)) key) refl (ascends i j d (omega arith) inside)
       ]
     where
       later : (r : Ordering) → R (f (get_or xs j d)) key ≡ r → R (f (get_or xs i d)) (f (get_or xs j d)) ≡ Less
@@ -143,25 +143,27 @@ module _ {X K : Type 0} {R : K → K → Ordering} (o : IsTotalOrder R) (same : 
   pub has_place : (r : Result ℕ ℕ) → IsSearchInRange r (length xs) → IsBinarySearchResult (λ x. R (f x) key) xs r → HasPlaceBy R f key xs r
   has_place (Ok i) inside equal =
       let less : (k : ℕ) (d : X) → k < i → R (f (get_or xs k d)) key ≡ Less = λ k d lt. subst (λ k'. R (f (get_or xs k d)) k' ≡ Less) (same _ _ (equal d)) (ascends k i d lt inside) in
-      let more : (k : ℕ) (d : X) → i < k → k < length xs → R key (f (get_or xs k d)) ≡ Less = λ k d gt lt. subst (λ k'. R k' (f (get_or xs k d)) ≡ Less) (same _ _ (equal d)) (ascends i k d gt lt) in
-      (inside,
-       sym (filter-take (λ x. is_lt (R (f x) key)) xs i (λ k d low high. ap is_lt (less k d high))
-         (λ k d low high. elim (cases_eq i k) [
-            inl e ↦ subst (λ n. is_lt (R (f (get_or xs n d)) key) ≡ false) e (ap is_lt (equal d))
-          | inr apart ↦ ap is_lt (o.antisymm _ key) ∙ ap (λ r. is_lt (ordering_reverse r)) (more k d (omega arith) high)
-          ]) (omega arith)),
-       sym (filter-drop (λ x. is_lt (R key (f x))) xs (i + 1)
-         (λ k d low high. elim (cases_eq i k) [
-            inl e ↦ subst (λ n. is_lt (R key (f (get_or xs n d))) ≡ false) e (ap is_lt (turned _) ∙ ap (λ r. is_lt (ordering_reverse r)) (equal d))
-          | inr apart ↦ ap is_lt (turned _) ∙ ap (λ r. is_lt (ordering_reverse r)) (less k d (omega arith))
-          ])
-         (λ k d low high. ap is_lt (more k d (omega arith) high)) (omega arith)))
-  has_place (Err i) inside parted =
-      (inside,
-       sym (filter-take (λ x. is_lt (R (f x) key)) xs i (λ k d low high. ap is_lt ((parted rises).0 k d low high)) (λ k d low high. ap is_lt ((parted rises).1 k d low high)) inside),
-       sym (filter-drop (λ x. is_lt (R key (f x))) xs i
-         (λ k d low high. ap is_lt (turned _) ∙ ap (λ r. is_lt (ordering_reverse r)) ((parted rises).0 k d low high))
-         (λ k d low high. ap is_lt (turned _) ∙ ap (λ r. is_lt (ordering_reverse r)) ((parted rises).1 k d low high)) inside))
+      let more : (k : ℕ) (d : X) → i < k → k < length xs → R key (f (get_or xs k d)) ≡ Less = λ k d gt lt. subst (λ k'. R k' (f (get_or xs k d)) ≡ Less) (same _ _ (equal d)) (ascends i k d gt lt) in (
+        inside,
+        sym (filter-take (λ x. is_lt (R (f x) key)) xs i (λ k d low high. ap is_lt (less k d high))
+            (λ k d low high. elim (cases_eq i k) [
+              | inl e ↦ subst (λ n. is_lt (R (f (get_or xs n d)) key) ≡ false) e (ap is_lt (equal d))
+              | inr apart ↦ ap is_lt (o.antisymm _ key) ∙ ap (λ r. is_lt (ordering_reverse r)) (more k d (omega arith) high)
+            ]) (omega arith)),
+        sym (filter-drop (λ x. is_lt (R key (f x))) xs (i + 1)
+            (λ k d low high. elim (cases_eq i k) [
+              | inl e ↦ subst (λ n. is_lt (R key (f (get_or xs n d))) ≡ false) e (ap is_lt (turned _) ∙ ap (λ r. is_lt (ordering_reverse r)) (equal d))
+              | inr apart ↦ ap is_lt (turned _) ∙ ap (λ r. is_lt (ordering_reverse r)) (less k d (omega arith))
+            ])
+            (λ k d low high. ap is_lt (more k d (omega arith) high)) (omega arith)),
+      )
+  has_place (Err i) inside parted = (
+    inside,
+    sym (filter-take (λ x. is_lt (R (f x) key)) xs i (λ k d low high. ap is_lt ((parted rises).0 k d low high)) (λ k d low high. ap is_lt ((parted rises).1 k d low high)) inside),
+    sym (filter-drop (λ x. is_lt (R key (f x))) xs i
+        (λ k d low high. ap is_lt (turned _) ∙ ap (λ r. is_lt (ordering_reverse r)) ((parted rises).0 k d low high))
+        (λ k d low high. ap is_lt (turned _) ∙ ap (λ r. is_lt (ordering_reverse r)) ((parted rises).1 k d low high)) inside),
+  )
 
   apart : (i j : ℕ) (x y : X) → i < j → i < length xs → j < length xs → get_or xs i x ≡ x → get_or xs j y ≡ y → f x ≡ f y → ⊥
   apart i j x y lt in_i in_j at_i at_j e =
@@ -173,9 +175,9 @@ module _ {X K : Type 0} {R : K → K → Ordering} (o : IsTotalOrder R) (same : 
   pub one_of_key : (x y : X) → Contains xs x → Contains xs y → f x ≡ f y → x ≡ y
   one_of_key x y (i, in_i, at_i) (j, in_j, at_j) e =
       elim (cases_eq i j) [
-        inl here ↦ sym at_i ∙ get_or_default xs i x y in_i ∙ ap (λ n. get_or xs n y) here ∙ at_j
-      | inr other ↦ elim (cases_lt i j) [
-          inl lt ↦ absurd (apart i j x y lt in_i in_j at_i at_j e)
-        | inr ge ↦ absurd (apart j i y x (omega arith) in_j in_i at_j at_i (sym e))
+        | inl here ↦ sym at_i ∙ get_or_default xs i x y in_i ∙ ap (λ n. get_or xs n y) here ∙ at_j
+        | inr other ↦ elim (cases_lt i j) [
+          | inl lt ↦ absurd (apart i j x y lt in_i in_j at_i at_j e)
+          | inr ge ↦ absurd (apart j i y x (omega arith) in_j in_i at_j at_i (sym e))
         ]
       ]

@@ -1,5 +1,5 @@
 -- What becomes of the states of keys as reports come, become known and are forgotten.
-use Rattle.std.specs.Prelude.{◌≡◌, ℕ, nat_eq, Bool, true, false, cond, ◌&&◌, not, List, [], ◌∷◌, ◌++◌, map, filter, Some, None}
+use Rattle.std.specs.Prelude.{◌≡◌, ℕ, nat_eq, Bool, true, false, cond, ◌&&◌, not, List, [], ◌∷◌, ◌++◌, map, Some, None}
 use Rattle.std.specs.declared.option.Option.{Option}
 use Rattle.std.specs.declared.cmp.Ordering.{Ordering}
 use Rattle.std.specs.declared.cmp.Ordering.TheVariants.{Less, Equal, Greater}
@@ -10,12 +10,13 @@ use Rattle.std.specs.Cmp.Lexicographic.{slice_cmp, pointwise, nat_list_eq_equiv,
 use Rattle.std.specs.Map.{lookup, keys_of}
 use Rattle.std.specs.List.{IsDistinct, All, AllByRecursion, list_any, position_from}
 use Rattle.std.specs.BTreeMap.{BTreeMap, get, is_at}
-use Rattle.std.proofs.Common.{arith, ◌<◌, ◌+◌, suc, length, get_or, take, drop, refl, sym, ap, ◌∙◌, subst, append_assoc}
+use Rattle.std.proofs.Common.{arith, ◌<◌, ◌≤◌, ◌+◌, suc, length, get_or, take, drop, refl, sym, ap, ◌∙◌, subst, append_assoc}
 use Rattle.std.proofs.lemmas.Bool.{eqb-true}
 use Rattle.std.proofs.lemmas.List.{map-append, map_push, take-append-drop}
 use Rattle.std.proofs.Math.Seq.{drop-cons}
 use Rattle.std.proofs.lemmas.List.Elements.{filter-append}
 use Rattle.std.proofs.lemmas.Map.Made.{lookup-map_values, keys_of-map_values, is_some-lookup}
+use Rattle.std.proofs.lemmas.List.Sums.{length-filter, count_by-le-length}
 use Rattle.std.proofs.lemmas.Map.Keys.{IsDistinct-push}
 use Rattle.report_text.specs.declared.report.Report.{Report}
 use Rattle.report_text.specs.Reports.{IsReport}
@@ -84,14 +85,14 @@ decided (Some digest) queued alone = (refl, alone digest refl)
 pub finds_state : (reports : QueueState) (key : ReportKey) → IsDistinct same_key (keys_of (all_keys reports)) → FindsState reports key (state_of reports key)
 finds_state reports key distinct =
     subst (FindsState reports key) (sym (state-parts reports key))
-      (decided (held_digest reports.held key) (queued_digest reports.queue key)
-        (λ digest found. lookup-later same_key_equiv reports.held (map digested reports.queue) key digest distinct found))
+    (decided (held_digest reports.held key) (queued_digest reports.queue key)
+    (λ digest found. lookup-later same_key_equiv reports.held (map digested reports.queue) key digest distinct found))
 
 -- the key of a queued report has a state
 pub queued_state : (reports : QueueState) (key : ReportKey) → IsSome (queued_digest reports.queue key) → IsSome (state_of reports key)
 queued_state reports key queued =
     subst IsSome (sym (state-parts reports key))
-      (some_of_two (option_map Held (held_digest reports.held key)) (queued_digest reports.queue key) queued)
+    (some_of_two (option_map Held (held_digest reports.held key)) (queued_digest reports.queue key) queued)
 
 -- a new key has no state
 new_state : (reports : QueueState) (key : ReportKey) → FindsState reports key None → state_of reports key ≡ None
@@ -126,7 +127,7 @@ finds_pushed m held queue key digest report n finds is of new writes other =
     written m old key (key_of report) (Some (Queued digest)) n finds is writes other
     ∙ ap (λ d. cond (same_key (key_of report) (shown_key other)) (Some (Queued d)) (state_of old (shown_key other))) of
     ∙ sym (lookup-push same_key_equiv (key_of report) (Queued (report_digest report)) (shown_key other) (key_states old)
-        (ap (state_of old) (sym is) ∙ new_state old (shown_key key) new))
+    (ap (state_of old) (sym is) ∙ new_state old (shown_key key) new))
     ∙ ap (lookup (same_key (shown_key other))) (sym (states-push held queue report))
 
 pub distinct_pushed : (held : List (ReportKey × List ℕ)) (queue : List Report) (report : Report) → IsDistinct same_key (keys_of (all_keys (record { queue = queue; held = held })))
@@ -135,12 +136,12 @@ pub distinct_pushed : (held : List (ReportKey × List ℕ)) (queue : List Report
 distinct_pushed held queue report distinct new =
     let old : QueueState = record { queue = queue; held = held } in
     let grown : keys_of (all_keys (record { queue = queue ++ report ∷ []; held = held })) ≡ keys_of (all_keys old) ++ key_of report ∷ [] =
-          ap (λ l. keys_of (held ++ l)) (map_push digested queue report)
-          ∙ ap keys_of (sym (append_assoc held (map digested queue) (digested report ∷ [])))
-          ∙ map_push (λ (e : ReportKey × List ℕ). e.0) (all_keys old) (digested report) in
+    ap (λ l. keys_of (held ++ l)) (map_push digested queue report)
+    ∙ ap keys_of (sym (append_assoc held (map digested queue) (digested report ∷ [])))
+    ∙ map_push (λ (e : ReportKey × List ℕ). e.0) (all_keys old) (digested report) in
     let absent : list_any (same_key (key_of report)) (keys_of (all_keys old)) ≡ false =
-          sym (is_some-lookup (same_key (key_of report)) (all_keys old))
-          ∙ ap is_some (lookup-append (same_key (key_of report)) held (map digested queue) ∙ (λ i. option_or (new.0 i) (new.1 i))) in
+    sym (is_some-lookup (same_key (key_of report)) (all_keys old))
+    ∙ ap is_some (lookup-append (same_key (key_of report)) held (map digested queue) ∙ (λ i. option_or (new.0 i) (new.1 i))) in
     subst (IsDistinct same_key) (sym grown) (IsDistinct-push same_key_equiv (keys_of (all_keys old)) (key_of report) distinct absent)
 
 -- ---- a key that is forgotten
@@ -162,7 +163,7 @@ forget_parts : (held : List (ReportKey × List ℕ)) (key : ReportKey) (digest :
     → IsDistinct same_key (keys_of (states_by Held held ++ (key, Held digest) ∷ states_by Queued (map digested queue)))
 forget_parts held key digest queue distinct =
     subst (λ l. IsDistinct same_key (keys_of l)) (states-forget held key digest queue)
-      (keys_distinct (record { queue = queue; held = held ++ (key, digest) ∷ [] }) distinct)
+    (keys_distinct (record { queue = queue; held = held ++ (key, digest) ∷ [] }) distinct)
 
 pub finds_forgotten : (m : BTreeMap Key KeyState) (held : List (ReportKey × List ℕ)) (key : Key) (digest : List ℕ) (queue : List Report) (n : BTreeMap Key KeyState)
     → Finds m (record { queue = queue; held = held ++ (shown_key key, digest) ∷ [] })
@@ -172,14 +173,14 @@ finds_forgotten m held key digest queue n finds distinct writes other =
     written m (record { queue = queue; held = held ++ (shown_key key, digest) ∷ [] }) key (shown_key key) None n finds refl writes other
     ∙ ap (λ l. cond (same_key (shown_key key) (shown_key other)) None (lookup (same_key (shown_key other)) l)) (states-forget held (shown_key key) digest queue)
     ∙ sym (lookup-rest same_key_equiv (states_by Held held) (shown_key key) (Held digest) (states_by Queued (map digested queue)) (shown_key other)
-        (forget_parts held (shown_key key) digest queue distinct))
+    (forget_parts held (shown_key key) digest queue distinct))
 
 pub distinct_forgotten : (held : List (ReportKey × List ℕ)) (key : ReportKey) (digest : List ℕ) (queue : List Report)
     → IsDistinct same_key (keys_of (all_keys (record { queue = queue; held = held ++ (key, digest) ∷ [] })))
     → IsDistinct same_key (keys_of (all_keys (record { queue = queue; held = held })))
 distinct_forgotten held key digest queue distinct =
     all_distinct (record { queue = queue; held = held })
-      (entries_distinct same_key_equiv (states_by Held held) key (Held digest) (states_by Queued (map digested queue)) (forget_parts held key digest queue distinct))
+    (entries_distinct same_key_equiv (states_by Held held) key (Held digest) (states_by Queued (map digested queue)) (forget_parts held key digest queue distinct))
 
 -- ---- a report that becomes known
 
@@ -188,7 +189,7 @@ before_it held before = states_by Held held ++ states_by Queued (map digested be
 
 states-split : (held : List (ReportKey × List ℕ)) (before : List Report) (report : Report) (after : List Report)
     → key_states (record { queue = before ++ report ∷ after; held = held })
-      ≡ (states_by Held held ++ states_by Queued (map digested before)) ++ (key_of report, Queued (report_digest report)) ∷ states_by Queued (map digested after)
+    ≡ (states_by Held held ++ states_by Queued (map digested before)) ++ (key_of report, Queued (report_digest report)) ∷ states_by Queued (map digested after)
 states-split held before report after =
     ap (λ l. states_by Held held ++ states_by Queued l) (map-append digested before (report ∷ after))
     ∙ ap (λ l. states_by Held held ++ l) (map-append (λ (e : ReportKey × List ℕ). (e.0, Queued e.1)) (map digested before) (digested report ∷ map digested after))
@@ -206,7 +207,7 @@ split_parts : (held : List (ReportKey × List ℕ)) (before : List Report) (repo
     → IsDistinct same_key (keys_of ((states_by Held held ++ states_by Queued (map digested before)) ++ (key_of report, Queued (report_digest report)) ∷ states_by Queued (map digested after)))
 split_parts held before report after distinct =
     subst (λ l. IsDistinct same_key (keys_of l)) (states-split held before report after)
-      (keys_distinct (record { queue = before ++ report ∷ after; held = held }) distinct)
+    (keys_distinct (record { queue = before ++ report ∷ after; held = held }) distinct)
 
 pub finds_held : (m : BTreeMap Key KeyState) (held : List (ReportKey × List ℕ)) (key : Key) (digest : List ℕ) (before : List Report) (report : Report) (after : List Report) (n : BTreeMap Key KeyState)
     → Finds m (record { queue = before ++ report ∷ after; held = held })
@@ -217,7 +218,7 @@ finds_held m held key digest before report after n finds distinct is writes othe
     written m (record { queue = before ++ report ∷ after; held = held }) key (key_of report) (Some (Held digest)) n finds is writes other
     ∙ ap (λ l. cond (same_key (key_of report) (shown_key other)) (Some (Held digest)) (lookup (same_key (shown_key other)) l)) (states-split held before report after)
     ∙ sym (lookup-moved same_key_equiv (states_by Held held ++ states_by Queued (map digested before)) (key_of report) (Queued (report_digest report)) (Held digest)
-        (states_by Queued (map digested after)) (shown_key other) (split_parts held before report after distinct))
+    (states_by Queued (map digested after)) (shown_key other) (split_parts held before report after distinct))
     ∙ ap (λ l. lookup (same_key (shown_key other)) ((key_of report, Held digest) ∷ l)) (states-join held before after)
     ∙ ap (λ k. lookup (same_key (shown_key other)) ((k, Held digest) ∷ (states_by Held held ++ states_by Queued (map digested (before ++ after))))) (sym is)
 
@@ -226,10 +227,10 @@ pub distinct_held : (held : List (ReportKey × List ℕ)) (key : ReportKey) (dig
     → IsDistinct same_key (keys_of (all_keys (record { queue = before ++ after; held = (key, digest) ∷ held })))
 distinct_held held key digest before report after distinct is =
     subst (λ k. IsDistinct same_key (keys_of (all_keys (record { queue = before ++ after; held = (k, digest) ∷ held })))) (sym is)
-      (all_distinct (record { queue = before ++ after; held = (key_of report, digest) ∷ held })
-        (subst (λ l. IsDistinct same_key (keys_of ((key_of report, Held digest) ∷ l))) (states-join held before after)
-          (moved_distinct same_key_equiv (states_by Held held ++ states_by Queued (map digested before)) (key_of report) (Queued (report_digest report)) (Held digest)
-            (states_by Queued (map digested after)) (split_parts held before report after distinct))))
+    (all_distinct (record { queue = before ++ after; held = (key_of report, digest) ∷ held })
+    (subst (λ l. IsDistinct same_key (keys_of ((key_of report, Held digest) ∷ l))) (states-join held before after)
+    (moved_distinct same_key_equiv (states_by Held held ++ states_by Queued (map digested before)) (key_of report) (Queued (report_digest report)) (Held digest)
+    (states_by Queued (map digested after)) (split_parts held before report after distinct))))
 
 -- ---- the place of a report
 
@@ -238,9 +239,9 @@ pub not_placed : (key : ReportKey) (queue : List Report) (i : ℕ) → position_
 not_placed key [] i none = refl
 not_placed key (report ∷ queue) i none =
     elim (same_key key (key_of report)) as (λ b. cond b (Some i) (position_from (λ other. same_key key (key_of other)) (i + 1) queue) ≡ None
-        → cond b (Some (report_digest report)) (queued_digest queue key) ≡ None) [
-      true ↦ λ none. cc
-    | false ↦ λ none. not_placed key queue (i + 1) none
+    → cond b (Some (report_digest report)) (queued_digest queue key) ≡ None) [
+      | true ↦ λ none. cc
+      | false ↦ λ none. not_placed key queue (i + 1) none
     ] none
 
 -- no report has a name of more than 64 bytes
@@ -248,10 +249,10 @@ pub long_name : (key : ReportKey) (queue : List Report) → All IsReport queue �
 long_name key [] good long = refl
 long_name key (report ∷ queue) good long =
     elim (same_key key (key_of report)) as (λ b. same_key key (key_of report) ≡ b → cond b (Some (report_digest report)) (queued_digest queue key) ≡ None) [
-      true ↦ λ same.
-        let is : length key.computer ≡ length report.computer = ap (λ (k : ReportKey). length k.computer) (same_key_is key (key_of report) same) in
-        absurd (omega (arith, (good 0 report (omega arith)).computer.1))
-    | false ↦ λ other. long_name key queue (λ k d inside. good (suc k) d (omega arith)) long
+      | true ↦ λ same.
+          let is : length key.computer ≡ length report.computer = ap (λ (k : ReportKey). length k.computer) (same_key_is key (key_of report) same) in
+          absurd (omega (arith, (good 0 report (omega arith)).computer.1))
+      | false ↦ λ other. long_name key queue (λ k d inside. good (suc k) d (omega arith)) long
     ] refl
 
 -- a list around one of its elements
@@ -271,14 +272,19 @@ pub without-held : (held : List (ReportKey × List ℕ)) (key : ReportKey) (befo
     → without key (before ++ report ∷ after) ≡ before ++ after
 without-held held key before report after distinct is =
     let apart : AllByRecursion (λ other. same_key (key_of report) other ≡ false) (keys_of (states_by Held held ++ states_by Queued (map digested (before ++ after)))) =
-          subst (λ l. AllByRecursion (λ other. same_key (key_of report) other ≡ false) (keys_of l)) (states-join held before after)
-            (apart_from_entries same_key_equiv (states_by Held held ++ states_by Queued (map digested before)) (key_of report) (Queued (report_digest report))
-              (states_by Queued (map digested after)) (split_parts held before report after distinct)) in
+    subst (λ l. AllByRecursion (λ other. same_key (key_of report) other ≡ false) (keys_of l)) (states-join held before after)
+    (apart_from_entries same_key_equiv (states_by Held held ++ states_by Queued (map digested before)) (key_of report) (Queued (report_digest report))
+    (states_by Queued (map digested after)) (split_parts held before report after distinct)) in
     let queued : AllByRecursion (λ other. same_key (key_of report) other ≡ false) (keys_of (states_by Queued (map digested (before ++ after)))) =
-          all_later (λ other. same_key (key_of report) other ≡ false) (keys_of (states_by Held held)) (keys_of (states_by Queued (map digested (before ++ after))))
-            (subst (AllByRecursion (λ other. same_key (key_of report) other ≡ false)) (map-append (λ e. e.0) (states_by Held held) (states_by Queued (map digested (before ++ after)))) apart) in
+    all_later (λ other. same_key (key_of report) other ≡ false) (keys_of (states_by Held held)) (keys_of (states_by Queued (map digested (before ++ after))))
+    (subst (AllByRecursion (λ other. same_key (key_of report) other ≡ false)) (map-append (λ e. e.0) (states_by Held held) (states_by Queued (map digested (before ++ after)))) apart) in
     ap (λ k. without k (before ++ report ∷ after)) is
     ∙ filter-append (λ other. not (same_key (key_of report) (key_of other))) before (report ∷ after)
     ∙ ap (λ b. without (key_of report) before ++ cond (not b) (report ∷ without (key_of report) after) (without (key_of report) after)) (same_key_equiv.refl (key_of report))
     ∙ sym (filter-append (λ other. not (same_key (key_of report) (key_of other))) before after)
     ∙ kept_all (key_of report) (before ++ after) queued
+
+pub length-without : (key : ReportKey) (queue : List Report) → length (without key queue) ≤ length queue
+length-without key queue =
+    let passes : Report → Bool = λ report. not (same_key key (key_of report)) in
+    rw (length-filter passes queue) (count_by-le-length passes queue)

@@ -1,11 +1,9 @@
 -- The kept sites stay in order as one is put at its place.
-use Rattle.std.specs.Prelude.{◌≡◌, ℕ, suc, ◌+◌, ◌<◌, List, ◌∷◌, ◌++◌, map, length, take, drop, All, Contains, Result, Ok, Err}
-use Rattle.std.specs.declared.cmp.Ordering.{Ordering}
-use Rattle.std.specs.declared.cmp.Ordering.TheVariants.{Equal}
-use Rattle.std.specs.Ordering.{nat_cmp, is_lt}
+use Rattle.std.specs.Prelude.{◌≡◌, ℕ, suc, ◌+◌, ◌<◌, List, ◌∷◌, ◌++◌, length, take, drop, Result, Ok, Err}
+use Rattle.std.specs.Ordering.{nat_cmp}
 use Rattle.std.specs.Cmp.Lexicographic.{slice_cmp, nat_list_cmp_total}
 use Rattle.std.specs.List.Sorted.{IsBinarySearchResult, IsSearchInRange}
-use Rattle.std.proofs.Common.{set, get_or, refl, sym, ap, ◌∙◌, subst, arith}
+use Rattle.std.proofs.Common.{set, sym, ap, ◌∙◌, arith}
 use Rattle.std.proofs.lemmas.List.{take-set, drop-set-lt, length-set, get_or-set_same}
 use Rattle.std.proofs.lemmas.List.Elements.{All-append, All-cons, All-filter}
 use Rattle.std.proofs.lemmas.Map.Lookups.{exact_bytes}
@@ -31,7 +29,7 @@ one_kept sites name site kept are first other =
 pub kept_with : (sites : List Site) (site : Site) → AreKept sites → IsSite site → AreKept (with_site site sites)
 kept_with sites site kept good = record {
   good = All-append IsSite (sites_before site.name sites) (site ∷ sites_after site.name sites) (All-filter _ IsSite sites kept.good)
-    (All-cons IsSite site (sites_after site.name sites) good (All-filter _ IsSite sites kept.good));
+      (All-cons IsSite site (sites_after site.name sites) good (All-filter _ IsSite sites kept.good));
   ascending = sorted_with nat_list_cmp_total (λ (s : Site). s.name) site sites kept.ascending;
 }
 

@@ -1,4 +1,4 @@
-ghost use Rattle.std.specs.Prelude.{◌≡◌, All, IfOk, OnOk, OnErr};
+ghost use Rattle.std.specs.Prelude.{◌≡◌, ◌≤◌, length, All, IfOk, OnOk, OnErr};
 ghost use Rattle.report_text.specs.Reports.{IsReport};
 ghost use Rattle.fix_site.specs.Sites.{IsSite};
 ghost use Rattle.relay_core.specs.Relays.{empty_relay};
@@ -43,11 +43,14 @@ pub struct Relay {
 }
 
 impl Model for Relay {
+    ghost use Rattle.std.specs.Prelude.{◌≤◌, length};
     ghost use Rattle.relay_core.specs.Relays.{RelayState};
 
     ghost Value = { RelayState };
 
     ghost view = { λ r. record { limit = r.limit; queue = r.reports.queue; held = r.reports.held; sites = r.sites } };
+
+    ghost invariant = { λ r. length r.reports.queue ≤ r.limit };
 }
 
 impl Relay {
@@ -101,6 +104,7 @@ impl Relay {
     pub fn queue(&self) -> &[Report]
         ensures queue { result.now ≡ self.now.queue }
         ensures good { All IsReport result.now }
+        ensures short { length result.now ≤ self.now.limit }
     {
         self.reports.reports()
     }
@@ -167,5 +171,9 @@ impl Relay {
 fn compared(same: Verdict, there: [u8; 32], digest: [u8; 32]) -> Verdict
     ensures { result ≡ verdict.compared same there digest }
 {
-    if there == digest { same } else { Verdict::Conflict(there) }
+    if there == digest {
+        same
+    } else {
+        Verdict::Conflict(there)
+    }
 }

@@ -96,7 +96,12 @@ impl ReportQueue {
     }
 
     /// Queues a report of which this is the key and the digest, and takes the room for what is remembered of it. An error changes nothing.
-    pub(crate) fn push(&mut self, key: Key, digest: [u8; 32], report: Report) -> Result<(), AllocError>
+    pub(crate) fn push(
+        &mut self,
+        key: Key,
+        digest: [u8; 32],
+        report: Report,
+    ) -> Result<(), AllocError>
         requires good { IsReport report }
         requires key { shown_key key ≡ key_of report }
         requires digest { digest ≡ report_digest report }
@@ -105,7 +110,8 @@ impl ReportQueue {
         ensures err { OnErr result (self.new ≡ self.old) }
     {
         let room = MOST_HELD - self.held.len();
-        self.held.reserve(room.min(self.reports.len().saturating_add(1)))?;
+        self.held
+            .reserve(room.min(self.reports.len().saturating_add(1)))?;
         self.reports.reserve(1)?;
         self.states.insert(key, KeyState::Queued(digest))?;
         self.reports.push_reserved(report);

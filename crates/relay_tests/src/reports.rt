@@ -2,8 +2,8 @@ ghost use Rattle.std.specs.Prelude.{◌≤◌, IfOk};
 ghost use Rattle.line_forms.specs.Numbers.{IsId};
 ghost use Rattle.report_text.specs.Reports.{IsReport};
 
-use relay_core::{Relay, RelayAnswer, Verdict};
 use rel_lexer::Text;
+use relay_core::{Relay, RelayAnswer, Verdict};
 use report_text::{Form, Report, ReportRows, read_report};
 use std::alloc::Global;
 use std::test::Fail;
@@ -55,7 +55,12 @@ fn shown(verdict: Verdict) -> &'static str {
 fn a_report_is_carried_until_the_server_holds_it(rt: HostRuntime) -> Result<(), Fail> {
     let alloc = rt.alloc();
     let mut relay = Relay::new(alloc, 1);
-    let queued = [(ONE, "carried"), (ONE, "carried"), (TWO, "full at 1"), (OTHER, "conflict with one")];
+    let queued = [
+        (ONE, "carried"),
+        (ONE, "carried"),
+        (TWO, "full at 1"),
+        (OTHER, "conflict with one"),
+    ];
     for (text, wanted) in queued {
         assert_eq!(rt; shown(told(alloc, &mut relay, text)?), wanted);
     }
@@ -64,7 +69,11 @@ fn a_report_is_carried_until_the_server_holds_it(rt: HostRuntime) -> Result<(), 
     assert_eq!(rt; relay.sent(&computer, 1, &DIGEST), true);
     assert_eq!(rt; relay.sent(&computer, 1, &DIGEST), false);
     assert_eq!(rt; relay.queue().len(), 0);
-    let known = [(ONE, "stored"), (OTHER, "conflict with one"), (TWO, "carried")];
+    let known = [
+        (ONE, "stored"),
+        (OTHER, "conflict with one"),
+        (TWO, "carried"),
+    ];
     for (text, wanted) in known {
         assert_eq!(rt; shown(told(alloc, &mut relay, text)?), wanted);
     }
@@ -77,8 +86,14 @@ fn a_known_key_has_the_digest_that_was_told(rt: HostRuntime) -> Result<(), Fail>
     let alloc = rt.alloc();
     let mut relay = Relay::new(alloc, 2);
     assert_eq!(rt; shown(told(alloc, &mut relay, ONE)?), "carried");
-    assert_eq!(rt; relay.sent(&Text::from_str(alloc, "pc1")?, 1, &OTHER_DIGEST), true);
-    assert_eq!(rt; shown(told(alloc, &mut relay, ONE)?), "conflict with the other");
+    assert_eq!(rt;
+        relay.sent(&Text::from_str(alloc, "pc1")?, 1, &OTHER_DIGEST),
+        true
+    );
+    assert_eq!(rt;
+        shown(told(alloc, &mut relay, ONE)?),
+        "conflict with the other"
+    );
     assert_eq!(rt; shown(told(alloc, &mut relay, OTHER)?), "stored");
     Ok(())
 }
@@ -129,7 +144,11 @@ fn the_latest_10_000_keys_are_known(rt: HostRuntime) -> Result<(), Fail> {
     // the first key is known, and asking for it doesn't keep it
     assert_eq!(rt; told_number(alloc, &mut relay, 1)?, "conflict with one");
     send(alloc, &mut relay, 10_001, 10_002)?;
-    let rows = [(1, "carried"), (2, "conflict with one"), (10_001, "conflict with one")];
+    let rows = [
+        (1, "carried"),
+        (2, "conflict with one"),
+        (10_001, "conflict with one"),
+    ];
     for (seq, wanted) in rows {
         assert_eq!(rt; told_number(alloc, &mut relay, seq)?, wanted);
     }
@@ -143,7 +162,10 @@ fn a_report_leaves_the_queue_from_any_place(rt: HostRuntime) -> Result<(), Fail>
     for seq in 1..4u64 {
         assert_eq!(rt; told_number(alloc, &mut relay, seq)?, "carried");
     }
-    assert_eq!(rt; relay.sent(&Text::from_str(alloc, "pc1")?, 2, &DIGEST), true);
+    assert_eq!(rt;
+        relay.sent(&Text::from_str(alloc, "pc1")?, 2, &DIGEST),
+        true
+    );
     let left = relay.queue();
     assert_eq!(rt; left.len(), 2);
     assert_eq!(rt; (left[0].seq, left[1].seq), (1, 3));

@@ -12,4 +12,4 @@ returns c =
     let now : QueueState = c.args.self.now in
     let distinct : IsDistinct same_key (keys_of (all_keys now)) = subst (λ (s : QueueState). IsDistinct same_key (keys_of (all_keys s))) c.self.view_is c.self.invariant.distinct in
     subst (FindsState now key) (sym (c.copied.ensures ∙ c.get.ensures.value ∙ c.self.invariant.found c.args.key.now ∙ ap (λ (s : QueueState). state_of s key) c.self.view_is))
-      (finds_state now key distinct)
+    (finds_state now key distinct)

@@ -1,9 +1,8 @@
-use Rattle.std.proofs.Common.{◌∙◌, subst, rules}
+use Rattle.std.proofs.Common.{rules}
 use Rattle.std.specs.Ordering.{nat_cmp}
 use Rattle.std.specs.Cmp.Lexicographic.{slice_cmp}
 use Rattle.std.proofs.lemmas.Fn.{always_returns_same}
 use Rattle.fix_site.specs.declared.site.Site.{Site}
-use Rattle.relay_core.specs.KeptSites.{AreKept, HasPlace}
 use Rattle.relay_core.proofs.SiteLemmas.{searched}
 use Rattle.relay_core.proofs.site_list.SiteList.place.Goals as goal
 
