@@ -184,9 +184,6 @@ distinct_forgotten held key digest queue distinct =
 
 -- ---- a report that becomes known
 
-before_it : List (ReportKey × List ℕ) → List Report → List (ReportKey × KeyState)
-before_it held before = states_by Held held ++ states_by Queued (map digested before)
-
 states-split : (held : List (ReportKey × List ℕ)) (before : List Report) (report : Report) (after : List Report)
     → key_states (record { queue = before ++ report ∷ after; held = held })
     ≡ (states_by Held held ++ states_by Queued (map digested before)) ++ (key_of report, Queued (report_digest report)) ∷ states_by Queued (map digested after)
