@@ -1,0 +1,4 @@
+mod KeyLists
+mod Orders
+mod QueueLemmas
+mod SiteLemmas

@@ -1,0 +1,7 @@
+//! Tests of relays, by public calls alone.
+#![tactic(auto)]
+
+#[cfg(test)]
+mod reports;
+#[cfg(test)]
+mod sites;
