@@ -1,5 +1,3 @@
-ghost use Rattle.std.specs.Prelude.{◌≤◌, IfOk};
-
 use desk_base::Bytes;
 use fix_site::read_site;
 use line_forms::write_digest;
