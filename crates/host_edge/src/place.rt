@@ -13,18 +13,6 @@ pub(crate) fn place_of(alloc: Global, work: &str, path: &str) -> Result<Option<T
     Ok(Some(joined(alloc, work, path)?))
 }
 
-/// Where a path other than `/` lies, which a command may name.
-pub(crate) fn free_place_of(
-    alloc: Global,
-    work: &str,
-    path: &str,
-) -> Result<Option<Text>, AllocError> {
-    if path == "/" {
-        return Ok(None);
-    }
-    place_of(alloc, work, path)
-}
-
 /// The folder in which a place lies.
 pub(crate) fn folder_of(place: &str) -> &str {
     match place.rsplit_once('/') {
