@@ -53,9 +53,9 @@ KeepsSite old site (gathered.Older version) new =
     ((kept : Site) × IsKept old.sites site.name kept × (version ≡ kept.version) × (site.version ≤ version)) × (new ≡ old)
 KeepsSite old site gathered.Memory new = new ≡ old
 
--- the kept site of the name, whose version is above this one, or that there is none
+-- the kept site of the name, which can be spelled and whose version is above this one, or that there is none
 abbrev pub AnswersAsk : List Site → List ℕ → ℕ → Asked → Type 0
-AnswersAsk sites name version (asked.New site) = IsKept sites name site.now × (version < site.now.version)
+AnswersAsk sites name version (asked.New site) = IsKept sites name site.now × IsSite site.now × (version < site.now.version)
 AnswersAsk sites name version asked.Same = IsNewest sites name version
 
 -- the place of the kept site of this name, or the one where it would stand

@@ -11,7 +11,7 @@ pub(crate) const LONGEST_NAME: usize = 64;
 /// The key of a report: the name of its computer and its number. It owns no memory of its own.
 #[derive(Clone, Copy, PartialEq, Eq, PartialOrd, Ord)]
 pub(crate) struct Key {
-    pub(crate) computer: ArrayString<64>,
+    pub(crate) computer: ArrayString<LONGEST_NAME>,
     pub(crate) seq: u64,
 }
 
