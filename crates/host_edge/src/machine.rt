@@ -12,7 +12,7 @@ use crate::faults::Faults;
 use crate::list::entries_at;
 use crate::place::place_of;
 use crate::processes::processes;
-use crate::programs::Programs;
+use crate::programs::{Programs, start};
 use crate::read::content_at;
 use crate::rows::{computer_name_of, packages_of, settings_of, system_of};
 use crate::settings::SETTINGS;
@@ -33,7 +33,7 @@ pub struct HostMachine<H: Host> {
     pub(crate) host: H,
     /// The work folder.
     pub(crate) work: Text,
-    programs: Programs<H>,
+    programs: Programs<H::Started>,
     faults: Faults<H>,
 }
 
@@ -177,7 +177,7 @@ impl<H: Host> HostMachine<H> {
         ensures never_failed { result ≢ Acted.Failed }
         ensures steady { self.new.faults ≡ self.old.faults }
     {
-        match self.programs.start(&self.host, self.work.as_str(), line) {
+        match start(&mut self.programs, &self.host, self.work.as_str(), line) {
             Ok(Some(process)) => Acted::Started(process),
             Ok(None) => Acted::Refused(Reason::NotStarted),
             Err(_) => Acted::Memory,

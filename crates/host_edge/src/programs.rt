@@ -6,7 +6,7 @@ use std::alloc::{AllocError, Global};
 use std::io::{self, Error, ErrorKind};
 use std::marker::Model;
 use std::os::unix::process::ExitStatusExt;
-use std::process::{Child, Command, ExitStatus, Stdio};
+use std::process::{Child, Command, ExitStatus, OpenProcess, Stdio};
 
 /// The most programs that are started.
 const MOST_STARTED: usize = 4_294_967_295;
@@ -16,11 +16,11 @@ const SIGNALLED: i64 = 128;
 
 /// The programs that were started, in their order. Contracts see how many they are.
 #[derive(Drop)]
-pub(crate) struct Programs<H: Host> {
-    started: Vec<Child<H::Started>>,
+pub(crate) struct Programs<P: OpenProcess + Drop> {
+    started: Vec<Child<P>>,
 }
 
-impl<H: Host> Model for Programs<H> {
+impl<P: OpenProcess + Drop> Model for Programs<P> {
     ghost use Rattle.std.specs.Prelude.{ℕ, length};
 
     ghost Value = { ℕ };
@@ -28,39 +28,13 @@ impl<H: Host> Model for Programs<H> {
     ghost view = { λ p. length p.started.items };
 }
 
-impl<H: Host> Programs<H> {
+impl<P: OpenProcess + Drop> Programs<P> {
     /// None so far.
-    pub(crate) fn none(alloc: Global) -> Programs<H>
+    pub(crate) fn none(alloc: Global) -> Programs<P>
         ensures { result ≡ 0 }
     {
         Programs {
             started: Vec::new(alloc),
-        }
-    }
-
-    /// Starts a command line in a folder, and answers its number. None where it can't be started.
-    pub(crate) fn start(
-        &mut self,
-        host: &H,
-        folder: &str,
-        line: &str,
-    ) -> Result<Option<ProcessNo>, AllocError>
-        ensures ok { IfOk result (λ number. MatchOption number (self.new ≡ self.old)
-            (λ n. (n ≡ record { 0 = self.old }) × (self.new ≡ self.old + 1))) }
-        ensures err { OnErr result (self.new ≡ self.old) }
-    {
-        if self.started.len() >= MOST_STARTED {
-            return Ok(None);
-        }
-        let number = self.started.len() as u32;
-        self.started.reserve(1)?;
-        match spawned(host, folder, line) {
-            Ok(child) => {
-                self.started.push(child)?;
-                Ok(Some(ProcessNo(number)))
-            }
-            Err(error) if error.kind() == ErrorKind::OutOfMemory => Err(AllocError),
-            Err(_) => Ok(None),
         }
     }
 
@@ -82,6 +56,32 @@ impl<H: Host> Programs<H> {
             None => Ok(None),
             Some(status) => Ok(Some(exit_of(status)?)),
         }
+    }
+}
+
+/// Starts a command line in a folder, and answers its number. None where it can't be started.
+pub(crate) fn start<H: Host>(
+    programs: &mut Programs<H::Started>,
+    host: &H,
+    folder: &str,
+    line: &str,
+) -> Result<Option<ProcessNo>, AllocError>
+    ensures ok { IfOk result (λ number. MatchOption number (programs.new ≡ programs.old)
+        (λ n. (n ≡ record { 0 = programs.old }) × (programs.new ≡ programs.old + 1))) }
+    ensures err { OnErr result (programs.new ≡ programs.old) }
+{
+    if programs.started.len() >= MOST_STARTED {
+        return Ok(None);
+    }
+    let number = programs.started.len() as u32;
+    programs.started.reserve(1)?;
+    match spawned(host, folder, line) {
+        Ok(child) => {
+            programs.started.push(child)?;
+            Ok(Some(ProcessNo(number)))
+        }
+        Err(error) if error.kind() == ErrorKind::OutOfMemory => Err(AllocError),
+        Err(_) => Ok(None),
     }
 }
 
