@@ -35,7 +35,7 @@ const ROWS: [Row; 8] = [
         reads: &[1],
         writes: &[],
         status: 0,
-        wanted: b"desk qna\ndesk qna --world\ndesk check\ndesk --help\n",
+        wanted: b"desk qna\ndesk qna --world\ndesk check\ndesk make N\ndesk --help\n",
     },
     Row {
         words: &["qna", "qna"],
