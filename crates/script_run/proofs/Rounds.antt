@@ -1,0 +1,224 @@
+-- How steps make an advance, and what its results leave on the machine.
+use Rattle.std.proofs.Common.{◌≡◌, ℕ, ◌+◌, ◌-◌, ◌≤◌, ℤ, false, List, [], ◌∷◌, ◌++◌, refl, sym, ap, subst, ◌∙◌, append_assoc, ◌⊎◌, inl, inr, Option, Some, None, arith}
+use Rattle.desk_base.specs.Moments.{IsMoment}
+use Rattle.line_forms.specs.Numbers.{IsOffset}
+use Rattle.rel_sources.specs.declared.pair.Pair.{Pair}
+use Rattle.rel_sources.specs.declared.scene.Scene.{Scene}
+use Rattle.bf_world.specs.declared.command.Command.{Command}
+use Rattle.bf_world.specs.declared.command.Acted.{Acted}
+use Rattle.bf_world.specs.declared.command.Acted.TheVariants as of_act
+use Rattle.bf_world.specs.declared.command.Polled.{Polled}
+use Rattle.bf_world.specs.declared.command.Polled.TheVariants as of_poll
+use Rattle.bf_machine.specs.Told.{Grows}
+use Rattle.bf_machine.specs.Rises.{RoseBy}
+use Rattle.bf_machine.proofs.Telling.{Grows-nil, Grows-trans, RoseBy-more, RoseBy-none, later-RoseBy}
+use Rattle.rel_eval.specs.declared.told.OneText.{OneText}
+use Rattle.rel_eval.specs.declared.told.OneText.TheVariants as one_text
+use Rattle.rel_eval.specs.declared.told.Truth.{Truth}
+use Rattle.rel_eval.specs.declared.told.Truth.TheVariants as truth
+use Rattle.script_text.specs.Scripts.{PlainScript}
+use Rattle.script_run.specs.declared.ran.Ran.{Ran}
+use Rattle.script_run.specs.declared.ran.Ran.TheVariants as ran
+use Rattle.script_run.specs.declared.place.Place.{Place}
+use Rattle.script_run.specs.declared.run.Run.{Run}
+use Rattle.script_run.specs.Walks.{Known, Settled, said, judged, acted, polled, fault_in, faults_in, Next, is_midway, Says, Tests, Pauses, Does, Polls, Stop, Walk, Rest}
+use Rattle.script_run.specs.Scripts.{standing, after, command_of, commands_in}
+use Rattle.script_run.specs.Machines.{MachineView, ActsOn, PollsOn}
+use Rattle.script_run.specs.Asking.{When, when_of, known_in, SaysOn, JudgesOn}
+use Rattle.script_run.specs.Steps.{Settles, Comes, Any, IsTextOf, StarvesAsking, Starves, Holds, Stops}
+use Rattle.script_run.specs.Places.{MemoryLeaves, WaitsBelow, place_walk, from}
+use Rattle.script_run.specs.Weights.{place_weight}
+use Rattle.script_run.specs.Advances.{GoesOn}
+use Rattle.script_run.specs.Fills.{Reaches, StepsTo, Falls}
+use Rattle.script_run.proofs.Chains.{comes_along, reach_then}
+use Rattle.script_run.proofs.Fresh.{fresh_from}
+
+-- ---- steps
+-- the same step, seen from the place by its name
+pub step_at : (at : When) (old : MachineView) (x y : Place) (rest : Rest) (known : Known) (result : Option Ran) (new : MachineView) (left : Walk) →
+    x ≡ y → StepsTo at old (λ more. place_walk y rest known more) result new left → StepsTo at old (λ more. place_walk x rest known more) result new left
+step_at at old x y rest known result new left e h =
+    let P : Place → Type 0 = λ p. StepsTo at old (λ more. place_walk p rest known more) result new left in
+    subst P (sym e) h
+
+pub falls_at : (x y : Place) (around new : ℕ) (result : Option Ran) → x ≡ y → Falls result (place_weight y + around) new → Falls result (place_weight x + around) new
+falls_at x y around new result e h =
+    let P : Place → Type 0 = λ p. Falls result (place_weight p + around) new in
+    subst P (sym e) h
+
+-- ---- what results leave
+settled_grows : (at : When) (known : Known) (next : Next) (old : MachineView) (result : Settled) (new : MachineView) →
+    Settles at known next old result new → Grows old.acted new.acted (command_of next result)
+settled_grows at known (Says line midway text) old (said answer) new h = let P : Option (List Command) → Type 0 = λ l. Grows old.acted l [] in subst P (sym h.1.acted) (Grows-nil old.acted)
+settled_grows at known (Tests line text) old (judged answer) new h = let P : Option (List Command) → Type 0 = λ l. Grows old.acted l [] in subst P (sym h.1.acted) (Grows-nil old.acted)
+settled_grows at known (Pauses line text) old (judged answer) new h = let P : Option (List Command) → Type 0 = λ l. Grows old.acted l [] in subst P (sym h.2.acted) (Grows-nil old.acted)
+settled_grows at known (Does line midway command) old (acted answer) new h = h.1.acted
+settled_grows at known (Polls line process) old (polled answer) new h = let P : Option (List Command) → Type 0 = λ l. Grows old.acted l [] in subst P (sym h.1.acted) (Grows-nil old.acted)
+settled_grows at known next old result new h = absurd h
+
+come_grows : (P : Next → Settled → Type 0) (at : When) (old : MachineView) (f : Walk) (results : List Settled) (new : MachineView) →
+    Comes P at old f results new → Grows old.acted new.acted (commands_in f results)
+come_grows P at old f [] new e = let Q : MachineView → Type 0 = λ v. Grows old.acted v.acted [] in subst Q (sym e) (Grows-nil old.acted)
+come_grows P at old f (result ∷ results) new (p, (between, s, rest)) =
+    Grows-trans old.acted between.acted new.acted (command_of (f []).next result) (commands_in (λ more. f (result ∷ more)) results)
+    (settled_grows at (f []).known (f []).next old result between s)
+    (come_grows P at between (λ more. f (result ∷ more)) results new rest)
+
+said_rose : (x y : ℕ) (answer : OneText) (scene : Scene) (text : List ℕ) (old new : MachineView) → SaysOn scene text old answer new → RoseBy (fault_in (said answer)) old.faults new.faults
+said_rose x y (one_text.Text t) scene text old new h = RoseBy-none old.faults new.faults h.later
+said_rose x y (one_text.Error kind place) scene text old new h = RoseBy-none old.faults new.faults h.later
+said_rose x y (one_text.Failed place) scene text old new h = h.cause
+said_rose x y one_text.Memory scene text old new h = RoseBy-none old.faults new.faults h.later
+
+judged_rose : (answer : Truth) (scene : Scene) (text : List ℕ) (old new : MachineView) → JudgesOn scene text old answer new → RoseBy (fault_in (judged answer)) old.faults new.faults
+judged_rose truth.True scene text old new h = RoseBy-none old.faults new.faults h.later
+judged_rose truth.False scene text old new h = RoseBy-none old.faults new.faults h.later
+judged_rose (truth.Error kind place) scene text old new h = RoseBy-none old.faults new.faults h.later
+judged_rose (truth.Failed place) scene text old new h = h.cause
+judged_rose truth.Memory scene text old new h = RoseBy-none old.faults new.faults h.later
+
+steady_rose : (old new : ℕ) → new ≡ old → RoseBy 0 old new
+steady_rose old new e = RoseBy-none old new (omega arith)
+
+acted_rose : (answer : Acted) (moment : ℤ) (command : Command) (old new : MachineView) → ActsOn moment command old answer new → RoseBy (fault_in (acted answer)) old.faults new.faults
+acted_rose of_act.Done moment command old new h = steady_rose old.faults new.faults (h.faults.steady (λ e. absurd (cc)))
+acted_rose (of_act.Started process) moment command old new h = steady_rose old.faults new.faults (h.faults.steady (λ e. absurd (cc)))
+acted_rose (of_act.Refused reason) moment command old new h = steady_rose old.faults new.faults (h.faults.steady (λ e. absurd (cc)))
+acted_rose of_act.Failed moment command old new h = h.faults.rose refl
+acted_rose of_act.Memory moment command old new h = steady_rose old.faults new.faults (h.faults.steady (λ e. absurd (cc)))
+
+polled_rose : (answer : Polled) (process : ℕ) (old new : MachineView) → PollsOn process old answer new → RoseBy (fault_in (polled answer)) old.faults new.faults
+polled_rose of_poll.Running process old new h = steady_rose old.faults new.faults (h.faults.steady (λ e. absurd (cc)))
+polled_rose (of_poll.Exited code) process old new h = steady_rose old.faults new.faults (h.faults.steady (λ e. absurd (cc)))
+polled_rose of_poll.Failed process old new h = h.faults.rose refl
+
+settled_rose : (at : When) (known : Known) (next : Next) (old : MachineView) (result : Settled) (new : MachineView) →
+    Settles at known next old result new → RoseBy (fault_in result) old.faults new.faults
+settled_rose at known (Says line midway text) old (said answer) new h = said_rose 0 0 answer _ text old new h.1
+settled_rose at known (Tests line text) old (judged answer) new h = judged_rose answer _ text old new h.1
+settled_rose at known (Pauses line text) old (judged answer) new h = judged_rose answer _ text old new h.2
+settled_rose at known (Does line midway command) old (acted answer) new h = acted_rose answer at.moment command old new h.1
+settled_rose at known (Polls line process) old (polled answer) new h = polled_rose answer process old new h.1
+settled_rose at known next old result new h = absurd h
+
+come_rose : (P : Next → Settled → Type 0) (at : When) (old : MachineView) (f : Walk) (results : List Settled) (new : MachineView) →
+    Comes P at old f results new → RoseBy (faults_in results) old.faults new.faults
+come_rose P at old f [] new e = steady_rose old.faults new.faults (ap (λ (v : MachineView). v.faults) e)
+come_rose P at old f (result ∷ results) new (p, (between, s, rest)) =
+    RoseBy-more (fault_in result) (faults_in results) old.faults between.faults new.faults
+    (settled_rose at (f []).known (f []).next old result between s)
+    (come_rose P at between (λ more. f (result ∷ more)) results new rest)
+
+-- texts alone leave what was done
+text_keeps : (at : When) (line : ℕ) (known : Known) (next : Next) (old : MachineView) (result : Settled) (new : MachineView) →
+    IsTextOf line next result → Settles at known next old result new → (new.acted ≡ old.acted) × RoseBy 0 old.faults new.faults
+text_keeps at line known (Says own midway text) old (said (one_text.Text words)) new p h = (h.1.acted, RoseBy-none old.faults new.faults h.1.later)
+text_keeps at line known next old result new p h = absurd p
+
+texts_keep : (at : When) (line : ℕ) (old : MachineView) (f : Walk) (results : List Settled) (new : MachineView) →
+    Comes (IsTextOf line) at old f results new → (new.acted ≡ old.acted) × RoseBy 0 old.faults new.faults
+texts_keep at line old f [] new e = (ap (λ (v : MachineView). v.acted) e, steady_rose old.faults new.faults (ap (λ (v : MachineView). v.faults) e))
+texts_keep at line old f (result ∷ results) new (p, (between, s, rest)) =
+    let a = text_keeps at line (f []).known (f []).next old result between p s in
+    let b = texts_keep at line between (λ more. f (result ∷ more)) results new rest in
+    (b.0 ∙ a.0, RoseBy-more 0 0 old.faults between.faults new.faults a.1 b.1)
+
+starving_keeps : (at : When) (line : ℕ) (known : Known) (next : Next) (old new : MachineView) → StarvesAsking at line known next old new → (new.acted ≡ old.acted) × RoseBy 0 old.faults new.faults
+starving_keeps at line known (Says own midway text) old new h = (h.1.acted, RoseBy-none old.faults new.faults h.1.later)
+starving_keeps at line known (Tests own text) old new h = (h.1.acted, RoseBy-none old.faults new.faults h.1.later)
+starving_keeps at line known (Pauses own text) old new h = (h.1.acted, RoseBy-none old.faults new.faults h.1.later)
+starving_keeps at line known next old new h = absurd h
+
+breaks_keep : (at : When) (line : ℕ) (known : Known) (next : Next) (old new : MachineView) → (new ≡ old) ⊎ StarvesAsking at line known next old new → (new.acted ≡ old.acted) × RoseBy 0 old.faults new.faults
+breaks_keep at line known next old new (inl e) = (ap (λ (v : MachineView). v.acted) e, steady_rose old.faults new.faults (ap (λ (v : MachineView). v.faults) e))
+breaks_keep at line known next old new (inr h) = starving_keeps at line known next old new h
+
+starve_keeps : (at : When) (line : ℕ) (old : MachineView) (f : Walk) (new : MachineView) → Starves at line old f new → (new.acted ≡ old.acted) × RoseBy 0 old.faults new.faults
+starve_keeps at line old f new h =
+    let a = texts_keep at line old f h.texts h.between h.comes in
+    let b = breaks_keep at line (f h.texts).known (f h.texts).next h.between new h.breaks in
+    (b.0 ∙ a.0, RoseBy-more 0 0 old.faults h.between.faults new.faults a.1 b.1)
+
+held_keeps : (at : When) (known : Known) (next : Next) (line : ℕ) (old new : MachineView) → Holds at known next line old new → (new.acted ≡ old.acted) × RoseBy 0 old.faults new.faults
+held_keeps at known (Pauses own text) line old new h = (h.1.acted, RoseBy-none old.faults new.faults h.1.later)
+held_keeps at known (Polls own process) line old new h = (h.1.acted, steady_rose old.faults new.faults (h.1.faults.steady (λ e. absurd (cc))))
+held_keeps at known next line old new h = absurd h
+
+same_keeps : (old new : MachineView) → new ≡ old → (new.acted ≡ old.acted) × RoseBy 0 old.faults new.faults
+same_keeps old new e = (ap (λ (v : MachineView). v.acted) e, steady_rose old.faults new.faults (ap (λ (v : MachineView). v.faults) e))
+
+stop_keeps : (at : When) (old : MachineView) (f : Walk) (r : Ran) (new : MachineView) → Stops at old f r new → (new.acted ≡ old.acted) × RoseBy 0 old.faults new.faults
+stop_keeps at old f (ran.Held line) new h = held_keeps at (f []).known (f []).next line old new h
+stop_keeps at old f (ran.Wants line digest) new h = same_keeps old new h.1
+stop_keeps at old f ran.Done new h = same_keeps old new h.1
+stop_keeps at old f (ran.Failed line cause) new h = same_keeps old new h.1
+stop_keeps at old f ran.Memory new h = starve_keeps at h.0 old f new h.1
+
+pub waits_at : (started : ℕ) (x y : Place) → x ≡ y → WaitsBelow started x → WaitsBelow started y
+waits_at started x y e h = let P : Place → Type 0 = λ p. WaitsBelow started p in subst P e h
+
+-- ---- rounds
+pub round_goes : (at own : When) (old : MachineView) (f : Walk) (mid : MachineView) (g : Walk) (result : Option Ran) (new : MachineView) (left : Walk) →
+    own ≡ at → result ≡ None → Reaches Any at old f mid g → StepsTo own mid g result new left → Reaches Any at old f new left
+round_goes at own old f mid g result new left e none a h =
+    let P : When → Option Ran → Type 0 = λ w r. StepsTo w mid g r new left in
+    let k : StepsTo at mid g None new left = subst (λ (r : Option Ran). P at r) none (subst (λ (w : When). P w result) e h) in
+    reach_then Any at old f mid g new left a k
+
+pub round_stops : (at own : When) (old : MachineView) (f : Walk) (mid : MachineView) (g : Walk) (result : Option Ran) (r : Ran) (new : MachineView) (left : Walk) →
+    own ≡ at → result ≡ Some r → Reaches Any at old f mid g → StepsTo own mid g result new left → StepsTo at old f (Some r) new left
+round_stops at own old f mid g result r new left e some a h =
+    let P : When → Option Ran → Type 0 = λ w q. StepsTo w mid g q new left in
+    let k : StepsTo at mid g (Some r) new left = subst (λ (q : Option Ran). P at q) some (subst (λ (w : When). P w result) e h) in
+    (k.0, reach_then Any at old f mid g k.0 left a k.1, k.2)
+
+pub moment_along : (a b : When) → a ≡ b → IsMoment b.moment → IsMoment a.moment
+moment_along a b e h = let P : When → Type 0 = λ w. IsMoment w.moment in subst P (sym e) h
+
+pub offset_along : (a b : When) → a ≡ b → IsOffset b.offset → IsOffset a.offset
+offset_along a b e h = let P : When → Type 0 = λ w. IsOffset w.offset in subst P (sym e) h
+
+-- ---- the whole
+-- the count of faults never falls
+pub stop_later : (at : When) (old : MachineView) (f : Walk) (r : Ran) (new : MachineView) (left : Walk) → StepsTo at old f (Some r) new left → old.faults ≤ new.faults
+stop_later at old f r new left h =
+    let a : old.faults ≤ h.0.faults = later-RoseBy (faults_in h.1.results) old.faults h.0.faults (come_rose Any at old f h.1.results h.0 h.1.comes) in
+    let b : h.0.faults ≤ new.faults = later-RoseBy 0 h.0.faults new.faults (stop_keeps at h.0 left r new h.2).1 in
+    omega (arith, a, b)
+
+-- where memory ran out nothing of the line at hand is settled
+memory_before : (r : Ran) (run : Run) → MemoryLeaves r run.place → r ≡ ran.Memory → is_midway (from run []).next ≡ false
+memory_before r run leaves e = let P : Ran → Type 0 = λ q. MemoryLeaves q run.place in fresh_from run (subst P e leaves)
+
+-- a run that stood for results goes on from there
+pub goes_on : (at : When) (script : PlainScript) (given : List Pair) (settled : List Settled) (old : MachineView) (r : Ran) (new : MachineView) (f : Walk) (run : Run) →
+    ((more : List Settled) → after script given settled more ≡ f more) → StepsTo at old f (Some r) new (from run) → MemoryLeaves r run.place → GoesOn at script given settled old r new run
+goes_on at script given settled old r new f run stood h leaves =
+    let reach = h.1 in
+    let all : (more : List Settled) → after script given (settled ++ reach.results) more ≡ from run more =
+    (λ more. ap (standing script given) (append_assoc settled reach.results more) ∙ stood (reach.results ++ more) ∙ reach.same more) in
+    let comes = comes_along Any at old (after script given settled) f reach.results h.0 stood reach.comes in
+    let S : Walk → Type 0 = λ w. Stops at h.0 w r new in
+    let stops : Stops at h.0 (after script given (settled ++ reach.results)) r new = subst S (λ i more. sym (all more) i) h.2 in
+    let kept = stop_keeps at h.0 (from run) r new h.2 in
+    let G : Option (List Command) → Type 0 = λ l. Grows old.acted l (commands_in (after script given settled) reach.results) in
+    let R : ℕ → Type 0 = λ n. RoseBy n old.faults new.faults in
+    let e : faults_in reach.results + 0 ≡ faults_in reach.results = omega arith in
+    record {
+      results = reach.results;
+      between = h.0;
+      comes = comes;
+      stops = stops;
+      stands = all;
+      before = λ m. ap (λ (s : Stop). is_midway s.next) (all []) ∙ memory_before r run leaves m;
+      faults = subst R e (RoseBy-more (faults_in reach.results) 0 old.faults h.0.faults new.faults (come_rose Any at old (after script given settled) reach.results h.0 comes) kept.1);
+      commands = subst G (sym kept.0) (come_grows Any at old (after script given settled) reach.results h.0 comes);
+    }
+
+-- the same where the time was set before
+pub advances : (at : When) (script : PlainScript) (given : List Pair) (settled : List Settled) (old : MachineView) (r : Ran) (new : MachineView) (place : Place) (rest : Rest) (before now : Scene) (run : Run) →
+    known_in now ≡ known_in before → when_of now ≡ at → ((more : List Settled) → after script given settled more ≡ place_walk place rest (known_in before) more) →
+    StepsTo (when_of now) old (λ more. place_walk place rest (known_in now) more) (Some r) new (from run) → MemoryLeaves r run.place → GoesOn at script given settled old r new run
+advances at script given settled old r new place rest before now run known time stood h leaves =
+    let P : When → Type 0 = λ w. StepsTo w old (λ more. place_walk place rest (known_in now) more) (Some r) new (from run) in
+    goes_on at script given settled old r new (λ more. place_walk place rest (known_in now) more) run (λ more. stood more ∙ ap (λ (k : Known). place_walk place rest k more) (sym known)) (subst P time h) leaves

@@ -1,0 +1,18 @@
+use Rattle.std.proofs.Common.{◌≡◌, SFits, w64, ap}
+use Rattle.std.proofs.lemmas.Int.{to_z-of_z}
+use Rattle.script_run.specs.Asking.{When, when_of, known_in}
+use Rattle.script_run.specs.Places.{around, from}
+use Rattle.script_run.proofs.Rounds.{advances, stop_later}
+use Rattle.script_run.proofs.run.Run.advance.Goals as goal
+
+pub returns-clause-goes_on : goal.returns-clause-goes_on
+returns-clause-goes_on g c = λ script given settled stood.
+    let at : When = record { moment = c.args.moment; offset = c.args.offset } in
+    let moment : SFits w64 c.args.moment = c.ranges.moment in
+    let offset : SFits w64 c.args.offset = c.ranges.offset in
+    let time : when_of c.set_time.new.self.scene ≡ at = simp to_z-of_z at (ap when_of c.set_time.ensures) in
+    advances at script given settled _ _ _ c.args.self.now.place (around c.args.self.now) c.args.self.now.kept.scene c.set_time.new.self.scene c.rounds.new.self
+    (ap known_in c.set_time.ensures) time stood c.rounds.ensures.steps c.rounds.ensures.rests.1
+
+pub returns-clause-later : goal.returns-clause-later
+returns-clause-later g c = stop_later _ _ _ _ _ (from c.rounds.new.self) c.rounds.ensures.steps

@@ -1,0 +1,5 @@
+use Rattle.script_run.proofs.Exits.{exits}
+use Rattle.script_run.proofs.run.Run.exit.Goals as goal
+
+pub returns : goal.returns
+returns c = λ script given settled stood. exits script given settled c.args.self.now stood

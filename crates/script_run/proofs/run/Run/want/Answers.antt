@@ -1,0 +1,7 @@
+use Rattle.std.proofs.Common.{refl}
+use Rattle.script_run.specs.Steps.{Any}
+use Rattle.script_run.proofs.Chains.{reach_none}
+use Rattle.script_run.proofs.run.Run.want.Goals as goal
+
+pub returns-clause-steps : goal.returns-clause-steps
+returns-clause-steps c = λ at machine. (machine, reach_none Any at machine _ _ (λ more. refl), (refl, refl))

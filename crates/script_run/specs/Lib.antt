@@ -1,0 +1,14 @@
+pub mod Causes
+pub mod Walks
+pub mod Lines
+pub mod Scripts
+pub mod Machines
+pub mod Asking
+pub mod Steps
+pub mod Places
+pub mod Advances
+pub mod Courses
+pub mod Weights
+pub mod Parameters
+pub mod Fills
+pub mod ArmAnswers
