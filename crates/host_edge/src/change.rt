@@ -5,11 +5,23 @@ use crate::trouble::{Trouble, Undone};
 use crate::{Host, HostMachine};
 use bf_world::{Reason, is_part, is_path, joined};
 use rel_lexer::Text;
+use std::alloc::Global;
 use std::fs::{self, File, OpenFile, OpenOptions};
 use std::io::{ErrorKind, Write};
+use std::mem::drop;
 
 /// The folder in which fetched files are placed.
 const DOWNLOAD: &str = "__Download";
+
+/// What is done at one place.
+#[derive(Clone, Copy)]
+pub(crate) enum Deed<'a> {
+    Write(&'a [u8]),
+    Append(&'a [u8]),
+    Delete,
+    MakeFolder,
+    DropFolder,
+}
 
 /// What is done with a file that is put at another place.
 #[derive(Clone, Copy)]
@@ -19,7 +31,7 @@ pub(crate) enum Transfer {
 }
 
 /// The commands on files and folders. The checks are those of a described machine, in its order. What the system refuses behind them is
-/// trouble.
+/// trouble. What owns a place drops it once, and hands it to what needs it.
 impl<H: Host> HostMachine<H> {
     /// Where a path other than `/` lies.
     fn free_place(&self, path: &Text) -> Result<Text, Undone> {
@@ -45,7 +57,7 @@ impl<H: Host> HostMachine<H> {
     }
 
     /// Checks that nothing stands at a place, or a file.
-    pub(crate) fn check_no_other(&self, place: &Text) -> Result<(), Undone> {
+    fn check_no_other(&self, place: &Text) -> Result<(), Undone> {
         match self.kind(place)? {
             Kind::Nothing | Kind::File => Ok(()),
             Kind::Folder | Kind::Other => Err(Undone::Refused(Reason::AlreadyThere)),
@@ -53,7 +65,7 @@ impl<H: Host> HostMachine<H> {
     }
 
     /// Puts bytes at a place. A file that was there keeps its mode.
-    pub(crate) fn put_content(&self, place: &Text, content: &[u8]) -> Result<(), Trouble> {
+    fn put_content(&self, place: &Text, content: &[u8]) -> Result<(), Trouble> {
         let mode = match metadata_at(&self.host, place.as_str())? {
             Some(old) => Some(old.permissions()),
             None => None,
@@ -62,31 +74,37 @@ impl<H: Host> HostMachine<H> {
         replace(&self.host, place.as_str(), &mut content, mode)
     }
 
-    pub(crate) fn write(&self, path: &Text, content: &[u8]) -> Result<(), Undone> {
+    /// Does something at a path.
+    pub(crate) fn change_at(&self, path: &Text, deed: Deed<'_>) -> Result<(), Undone> {
         let place = self.free_place(path)?;
-        self.check_folder(&place)?;
-        self.check_no_other(&place)?;
-        self.put_content(&place, content)?;
-        Ok(())
+        let done = self.change_place(&place, deed);
+        drop(place);
+        done
     }
 
-    pub(crate) fn append(&self, path: &Text, content: &[u8]) -> Result<(), Undone> {
-        let place = self.free_place(path)?;
-        self.check_folder(&place)?;
-        self.check_no_other(&place)?;
-        let mut options = OpenOptions::new();
-        options.append(true).create(true);
-        let mut file = options.open(&self.host, place.as_str())?;
-        match file.write_all(content) {
-            Ok(()) => Ok(()),
-            // a front of them may have been appended, so this can't be want of memory
-            Err(error) => Err(Undone::Trouble(Trouble::System(error))),
+    fn change_place(&self, place: &Text, deed: Deed<'_>) -> Result<(), Undone> {
+        match deed {
+            Deed::Write(content) => self.write(place, content),
+            Deed::Append(content) => self.append(place, content),
+            Deed::Delete => self.delete(place),
+            Deed::MakeFolder => self.make_folder(place),
+            Deed::DropFolder => self.drop_folder(place),
         }
     }
 
-    pub(crate) fn delete(&self, path: &Text) -> Result<(), Undone> {
-        let place = self.free_place(path)?;
-        match self.kind(&place)? {
+    fn write(&self, place: &Text, content: &[u8]) -> Result<(), Undone> {
+        self.check_folder(place)?;
+        self.put_file(place, content)
+    }
+
+    fn append(&self, place: &Text, content: &[u8]) -> Result<(), Undone> {
+        self.check_folder(place)?;
+        self.check_no_other(place)?;
+        append_to(&self.host, place.as_str(), content)
+    }
+
+    fn delete(&self, place: &Text) -> Result<(), Undone> {
+        match self.kind(place)? {
             // a link that leads nowhere goes too
             Kind::Nothing | Kind::File => {}
             Kind::Folder | Kind::Other => return Err(Undone::Refused(Reason::NotAFile)),
@@ -95,21 +113,34 @@ impl<H: Host> HostMachine<H> {
         Ok(())
     }
 
+    /// Puts the file at one path at another.
     pub(crate) fn transfer(&self, how: Transfer, from: &Text, to: &Text) -> Result<(), Undone> {
         let from = self.free_place(from)?;
+        let done = self.transfer_from(how, &from, to);
+        drop(from);
+        done
+    }
+
+    fn transfer_from(&self, how: Transfer, from: &Text, to: &Text) -> Result<(), Undone> {
         let to = self.free_place(to)?;
-        match self.kind(&from)? {
+        let done = self.transfer_places(how, from, &to);
+        drop(to);
+        done
+    }
+
+    fn transfer_places(&self, how: Transfer, from: &Text, to: &Text) -> Result<(), Undone> {
+        match self.kind(from)? {
             Kind::File => {}
             _ => return Err(Undone::Refused(Reason::NoSuchFile)),
         }
-        match self.kind(&to)? {
+        match self.kind(to)? {
             Kind::Nothing => {}
             _ => return Err(Undone::Refused(Reason::AlreadyThere)),
         }
-        self.check_folder(&to)?;
+        self.check_folder(to)?;
         match how {
-            Transfer::Copy => self.copy_file(&from, &to),
-            Transfer::Move => self.move_file(&from, &to),
+            Transfer::Copy => self.copy_file(from, to),
+            Transfer::Move => self.move_file(from, to),
         }
     }
 
@@ -134,21 +165,19 @@ impl<H: Host> HostMachine<H> {
         }
     }
 
-    pub(crate) fn make_folder(&self, path: &Text) -> Result<(), Undone> {
-        let place = self.free_place(path)?;
-        match self.kind(&place)? {
+    fn make_folder(&self, place: &Text) -> Result<(), Undone> {
+        match self.kind(place)? {
             Kind::Nothing => {}
             Kind::Folder => return Ok(()),
             Kind::File | Kind::Other => return Err(Undone::Refused(Reason::AlreadyThere)),
         }
-        self.check_folder(&place)?;
+        self.check_folder(place)?;
         fs::create_dir(&self.host, place.as_str())?;
         Ok(())
     }
 
-    pub(crate) fn drop_folder(&self, path: &Text) -> Result<(), Undone> {
-        let place = self.free_place(path)?;
-        match self.kind(&place)? {
+    fn drop_folder(&self, place: &Text) -> Result<(), Undone> {
+        match self.kind(place)? {
             Kind::Folder => {}
             _ => return Err(Undone::Refused(Reason::NoSuchFolder)),
         }
@@ -161,32 +190,65 @@ impl<H: Host> HostMachine<H> {
         }
     }
 
-    /// Puts bytes under a name into the folder of fetched files, which is made where it is missing, and taken away again where they can't
-    /// be put there.
+    /// Puts bytes under a name into the folder of fetched files.
     pub(crate) fn place_file(&self, name: &str, content: &[u8]) -> Result<(), Undone> {
-        let alloc = self.host.alloc();
-        let path = joined(alloc, DOWNLOAD, name)?;
-        if !is_part(name) || !is_path(path.as_str()) {
-            return Err(Undone::Refused(Reason::BadPath));
-        }
-        let folder = joined(alloc, self.work.as_str(), DOWNLOAD)?;
-        let place = joined(alloc, folder.as_str(), name)?;
-        match self.kind(&folder)? {
+        check_name(self.host.alloc(), name)?;
+        let folder = joined(self.host.alloc(), self.work.as_str(), DOWNLOAD)?;
+        let done = self.place_in(&folder, name, content);
+        drop(folder);
+        done
+    }
+
+    fn place_in(&self, folder: &Text, name: &str, content: &[u8]) -> Result<(), Undone> {
+        let place = joined(self.host.alloc(), folder.as_str(), name)?;
+        let done = self.place_at(folder, &place, content);
+        drop(place);
+        done
+    }
+
+    /// The folder is made where it is missing, and taken away again where the bytes can't be put there.
+    fn place_at(&self, folder: &Text, place: &Text, content: &[u8]) -> Result<(), Undone> {
+        match self.kind(folder)? {
             Kind::Nothing => {}
-            Kind::Folder => {
-                self.check_no_other(&place)?;
-                self.put_content(&place, content)?;
-                return Ok(());
-            }
+            Kind::Folder => return self.put_file(place, content),
             Kind::File | Kind::Other => return Err(Undone::Refused(Reason::AlreadyThere)),
         }
         fs::create_dir(&self.host, folder.as_str())?;
-        match self.put_content(&place, content) {
+        match self.put_content(place, content) {
             Ok(()) => Ok(()),
             Err(trouble) => {
                 let _ = fs::remove_dir(&self.host, folder.as_str());
                 Err(Undone::Trouble(trouble))
             }
         }
+    }
+
+    /// Puts bytes at a place whose folder is there.
+    pub(crate) fn put_file(&self, place: &Text, content: &[u8]) -> Result<(), Undone> {
+        self.check_no_other(place)?;
+        self.put_content(place, content)?;
+        Ok(())
+    }
+}
+
+/// Appends bytes to the file at a place, which is made where it is missing.
+fn append_to<H: Host>(host: &H, place: &str, content: &[u8]) -> Result<(), Undone> {
+    let mut options = OpenOptions::new();
+    options.append(true).create(true);
+    let mut file = options.open(host, place)?;
+    match file.write_all(content) {
+        Ok(()) => Ok(()),
+        // a front of them may have been appended, so this can't be want of memory
+        Err(error) => Err(Undone::Trouble(Trouble::System(error))),
+    }
+}
+
+/// Checks that a fetched file of this name has a path.
+fn check_name(alloc: Global, name: &str) -> Result<(), Undone> {
+    let path = joined(alloc, DOWNLOAD, name)?;
+    if is_part(name) && is_path(path.as_str()) {
+        Ok(())
+    } else {
+        Err(Undone::Refused(Reason::BadPath))
     }
 }

@@ -7,14 +7,14 @@ ghost use Rattle.host_edge.specs.Commands.{IsChange};
 ghost use Rattle.std.proofs.Common.{rules};
 
 use crate::Host;
-use crate::change::Transfer;
+use crate::change::{Deed, Transfer};
 use crate::faults::Faults;
 use crate::list::entries_at;
 use crate::place::place_of;
 use crate::processes::processes;
 use crate::programs::{Programs, start};
 use crate::read::content_at;
-use crate::rows::{computer_name_of, packages_of, settings_of, system_of};
+use crate::rows::spelled;
 use crate::settings::SETTINGS;
 use crate::stat::stat;
 use crate::trouble::{Trouble, Undone};
@@ -23,6 +23,7 @@ use bf_world::{Acted, Answer, Command, Key, Polled, ProcessNo, Reason, joined};
 use desk_base::Bytes;
 use rel_lexer::Text;
 use std::alloc::{AllocError, Global};
+use std::mem::drop;
 
 /// The most bytes of a path.
 const LONGEST_PATH: usize = 1024;
@@ -61,20 +62,20 @@ impl<H: Host> HostMachine<H> {
             Key::Stat(path) => self.stat(path),
             Key::List(path) => self.list(path),
             Key::Read(path) => self.read(path),
-            Key::System => Ok(system_of(self.host.alloc(), self.text_of("system")?.as_slice())?),
-            Key::ComputerName => {
-                Ok(computer_name_of(self.host.alloc(), self.text_of("name")?.as_slice())?)
-            }
             Key::Processes => processes(&self.host),
-            Key::Packages => Ok(packages_of(
-                self.host.alloc(),
-                self.text_of("packages")?.as_slice(),
-            )?),
-            Key::Settings => Ok(settings_of(
-                self.host.alloc(),
-                self.text_of(SETTINGS)?.as_slice(),
-            )?),
+            _ => self.spelled(key),
         }
+    }
+
+    /// What a file of the work folder spells.
+    fn spelled(&self, key: &Key) -> Result<Answer, Trouble>
+        ensures good { IfOk result IsGoodAnswer }
+        ensures ascending { IfOk result HasAscendingNames }
+    {
+        let text = self.text_of(subject_of_key(key))?;
+        let answer = spelled(self.host.alloc(), key, text.as_slice());
+        drop(text);
+        Ok(answer?)
     }
 
     /// Where a path lies. None where the text is no path.
@@ -99,8 +100,9 @@ impl<H: Host> HostMachine<H> {
         let Some(place) = self.place(path)? else {
             return Ok(Answer::Nothing);
         };
-        let longest = longest_name(path.as_str());
-        match entries_at(&self.host, place.as_str(), longest)? {
+        let entries = entries_at(&self.host, place.as_str(), longest_name(path.as_str()));
+        drop(place);
+        match entries? {
             Some(entries) => Ok(Answer::Entries(entries)),
             None => Ok(Answer::Nothing),
         }
@@ -113,7 +115,9 @@ impl<H: Host> HostMachine<H> {
         let Some(place) = self.place(path)? else {
             return Ok(Answer::Nothing);
         };
-        match content_at(&self.host, place.as_str())? {
+        let content = content_at(&self.host, place.as_str());
+        drop(place);
+        match content? {
             Some(content) => Ok(Answer::Content(content)),
             None => Ok(Answer::Nothing),
         }
@@ -122,7 +126,9 @@ impl<H: Host> HostMachine<H> {
     /// The bytes of a file of the work folder, none where it isn't there.
     pub(crate) fn text_of(&self, name: &str) -> Result<Bytes, Trouble> {
         let place = joined(self.host.alloc(), self.work.as_str(), name)?;
-        match content_at(&self.host, place.as_str())? {
+        let content = content_at(&self.host, place.as_str());
+        drop(place);
+        match content? {
             Some(text) => Ok(text),
             None => Ok(Bytes::new(self.host.alloc())),
         }
@@ -135,13 +141,17 @@ impl<H: Host> HostMachine<H> {
         requires { IsChange command.now }
     {
         match command {
-            Command::Write(path, content) => self.write(path, content.as_slice()),
-            Command::Append(path, content) => self.append(path, content.as_slice()),
-            Command::Delete(path) => self.delete(path),
+            Command::Write(path, content) => {
+                self.change_at(path, Deed::Write(content.as_slice()))
+            }
+            Command::Append(path, content) => {
+                self.change_at(path, Deed::Append(content.as_slice()))
+            }
+            Command::Delete(path) => self.change_at(path, Deed::Delete),
             Command::Copy(from, to) => self.transfer(Transfer::Copy, from, to),
             Command::Move(from, to) => self.transfer(Transfer::Move, from, to),
-            Command::MakeFolder(path) => self.make_folder(path),
-            Command::DropFolder(path) => self.drop_folder(path),
+            Command::MakeFolder(path) => self.change_at(path, Deed::MakeFolder),
+            Command::DropFolder(path) => self.change_at(path, Deed::DropFolder),
             Command::Start { .. } => unreachable!(),
             Command::Put { name, value, date } => {
                 self.put_setting(name.as_str(), value.as_str(), *date)
@@ -240,7 +250,7 @@ impl<H: Host> Machine for HostMachine<H> {
     ghost counted = { Prim.search rules };
 }
 
-/// What a look that failed is told by.
+/// What a look that failed is told by: a path, or the name of the file that it reads.
 fn subject_of_key(key: &Key) -> &str {
     match key {
         Key::Stat(path) | Key::List(path) | Key::Read(path) => path.as_str(),

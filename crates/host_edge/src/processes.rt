@@ -7,10 +7,12 @@ use crate::read::content_at;
 use crate::rows::bare_world;
 use crate::trouble::Trouble;
 use bf_world::{Answer, Key, joined};
+use desk_base::Bytes;
 use line_forms::read_rest;
 use rel_lexer::Text;
-use std::alloc::AllocError;
+use std::alloc::{AllocError, Global};
 use std::io::{Error, ErrorKind};
+use std::mem::drop;
 
 /// Where the system shows its processes, each in a folder with its number as the name.
 const PROCESSES: &str = "/proc";
@@ -43,19 +45,38 @@ fn is_number(name: &str) -> bool {
 
 /// The name of the process with this number: the last part of its first argument, or else what the system calls it.
 fn process_name<H: Host>(host: &H, number: &str) -> Result<Option<Text>, Trouble> {
-    let alloc = host.alloc();
-    let folder = joined(alloc, PROCESSES, number)?;
-    let line = joined(alloc, folder.as_str(), "cmdline")?;
-    if let Some(content) = content_at(host, line.as_str())? {
-        if let Some(name) = read_rest(program_of(content.as_slice())) {
-            return Ok(Some(Text::from_str(alloc, name)?));
-        }
+    let folder = joined(host.alloc(), PROCESSES, number)?;
+    let name = name_in(host, folder.as_str());
+    drop(folder);
+    name
+}
+
+fn name_in<H: Host>(host: &H, folder: &str) -> Result<Option<Text>, Trouble> {
+    match argument_in(host, folder)? {
+        Some(name) => Ok(Some(name)),
+        None => called_in(host, folder),
     }
-    let comm = joined(alloc, folder.as_str(), "comm")?;
-    let Some(content) = content_at(host, comm.as_str())? else {
-        return Ok(None);
-    };
-    Ok(called(alloc, content.as_slice())?)
+}
+
+fn argument_in<H: Host>(host: &H, folder: &str) -> Result<Option<Text>, Trouble> {
+    match content_in(host, folder, "cmdline")? {
+        Some(content) => Ok(name_of(host.alloc(), program_of(content.as_slice()))?),
+        None => Ok(None),
+    }
+}
+
+fn called_in<H: Host>(host: &H, folder: &str) -> Result<Option<Text>, Trouble> {
+    match content_in(host, folder, "comm")? {
+        Some(content) => Ok(name_of(host.alloc(), called(content.as_slice()))?),
+        None => Ok(None),
+    }
+}
+
+fn content_in<H: Host>(host: &H, folder: &str, name: &str) -> Result<Option<Bytes>, Trouble> {
+    let place = joined(host.alloc(), folder, name)?;
+    let content = content_at(host, place.as_str());
+    drop(place);
+    content
 }
 
 /// The last part of the first argument of a command line, in which each argument ends with a NUL.
@@ -65,8 +86,13 @@ fn program_of(line: &[u8]) -> &[u8] {
 }
 
 /// What the system calls a process, as it stands before an LF.
-fn called(alloc: std::alloc::Global, content: &[u8]) -> Result<Option<Text>, AllocError> {
-    match read_rest(content.strip_suffix(b"\n").unwrap_or(content)) {
+fn called(line: &[u8]) -> &[u8] {
+    line.strip_suffix(b"\n").unwrap_or(line)
+}
+
+/// The name that these bytes are, where they are one.
+fn name_of(alloc: Global, bytes: &[u8]) -> Result<Option<Text>, AllocError> {
+    match read_rest(bytes) {
         Some(name) => Ok(Some(Text::from_str(alloc, name)?)),
         None => Ok(None),
     }

@@ -31,8 +31,22 @@ pub(crate) fn bare_world(alloc: Global) -> Result<World, AllocError> {
     Ok(World::new(alloc, name, system, version, 0, 0))
 }
 
+/// What the text of a file of the work folder spells to a look: the operating system, the computer's name, the packages, or else the
+/// settings.
+pub(crate) fn spelled(alloc: Global, key: &Key, text: &[u8]) -> Result<Answer, AllocError>
+    ensures good { IfOk result IsGoodAnswer }
+    ensures ascending { IfOk result HasAscendingNames }
+{
+    match key {
+        Key::System => system_of(alloc, text),
+        Key::ComputerName => computer_name_of(alloc, text),
+        Key::Packages => packages_of(alloc, text),
+        _ => settings_of(alloc, text),
+    }
+}
+
 /// The operating system, of the text of the file `system`.
-pub(crate) fn system_of(alloc: Global, text: &[u8]) -> Result<Answer, AllocError>
+fn system_of(alloc: Global, text: &[u8]) -> Result<Answer, AllocError>
     ensures good { IfOk result IsGoodAnswer }
     ensures ascending { IfOk result HasAscendingNames }
 {
@@ -46,7 +60,7 @@ pub(crate) fn system_of(alloc: Global, text: &[u8]) -> Result<Answer, AllocError
 }
 
 /// The computer's name, of the text of the file `name`.
-pub(crate) fn computer_name_of(alloc: Global, text: &[u8]) -> Result<Answer, AllocError>
+fn computer_name_of(alloc: Global, text: &[u8]) -> Result<Answer, AllocError>
     ensures good { IfOk result IsGoodAnswer }
     ensures ascending { IfOk result HasAscendingNames }
 {
@@ -58,7 +72,7 @@ pub(crate) fn computer_name_of(alloc: Global, text: &[u8]) -> Result<Answer, All
 
 /// The packages, of the text of the file `packages`. Of a name that stands twice the later line stands; lines of another form are passed
 /// over.
-pub(crate) fn packages_of(alloc: Global, text: &[u8]) -> Result<Answer, AllocError>
+fn packages_of(alloc: Global, text: &[u8]) -> Result<Answer, AllocError>
     ensures good { IfOk result IsGoodAnswer }
     ensures ascending { IfOk result HasAscendingNames }
 {
@@ -74,7 +88,7 @@ pub(crate) fn packages_of(alloc: Global, text: &[u8]) -> Result<Answer, AllocErr
 }
 
 /// The settings, of the text of the file `settings`, likewise.
-pub(crate) fn settings_of(alloc: Global, text: &[u8]) -> Result<Answer, AllocError>
+fn settings_of(alloc: Global, text: &[u8]) -> Result<Answer, AllocError>
     ensures good { IfOk result IsGoodAnswer }
     ensures ascending { IfOk result HasAscendingNames }
 {

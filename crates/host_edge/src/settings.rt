@@ -8,6 +8,7 @@ use line_forms::{
 };
 use std::alloc::{AllocError, Global};
 use std::io::{Error, ErrorKind};
+use std::mem::drop;
 
 /// The file of the work folder in which the settings stand.
 pub(crate) const SETTINGS: &str = "settings";
@@ -17,37 +18,57 @@ impl<H: Host> HostMachine<H> {
     /// Sets a setting, where it has no value or one from before the date.
     pub(crate) fn put_setting(&self, name: &str, value: &str, date: i64) -> Result<(), Undone> {
         let text = self.text_of(SETTINGS)?;
-        match date_in(text.as_slice(), name) {
+        let done = self.put_into(text.as_slice(), name, value, date);
+        drop(text);
+        done
+    }
+
+    /// Sets a setting in the text of the file `settings`, likewise.
+    fn put_into(&self, text: &[u8], name: &str, value: &str, date: i64) -> Result<(), Undone> {
+        match date_in(text, name) {
             Some(kept) if kept >= date => return Ok(()),
             _ => {}
         }
         if !has_line(name, value) {
-            let words = "the name or the value can't stand in a line";
-            let error = Error::new(ErrorKind::InvalidInput, words);
-            return Err(Undone::Trouble(Trouble::System(error)));
+            return Err(no_line());
         }
-        let lines = with(self.host.alloc(), text.as_slice(), name, value, date)?;
-        self.put_settings(lines.as_slice())
+        let lines = with(self.host.alloc(), text, name, value, date)?;
+        let done = self.put_settings(lines.as_slice());
+        drop(lines);
+        done
     }
 
     /// Drops a setting, where it has a value from before the date.
     pub(crate) fn drop_setting(&self, name: &str, date: i64) -> Result<(), Undone> {
         let text = self.text_of(SETTINGS)?;
-        match date_in(text.as_slice(), name) {
-            Some(kept) if kept < date => {
-                let lines = without(self.host.alloc(), text.as_slice(), name)?;
-                self.put_settings(lines.as_slice())
-            }
-            _ => Ok(()),
+        let done = self.drop_from(text.as_slice(), name, date);
+        drop(text);
+        done
+    }
+
+    /// Drops a setting from the text of the file `settings`, likewise.
+    fn drop_from(&self, text: &[u8], name: &str, date: i64) -> Result<(), Undone> {
+        match date_in(text, name) {
+            Some(kept) if kept < date => {}
+            _ => return Ok(()),
         }
+        let lines = without(self.host.alloc(), text, name)?;
+        let done = self.put_settings(lines.as_slice());
+        drop(lines);
+        done
     }
 
     fn put_settings(&self, text: &[u8]) -> Result<(), Undone> {
         let place = joined(self.host.alloc(), self.work.as_str(), SETTINGS)?;
-        self.check_no_other(&place)?;
-        self.put_content(&place, text)?;
-        Ok(())
+        let done = self.put_file(&place, text);
+        drop(place);
+        done
     }
+}
+
+fn no_line() -> Undone {
+    let words = "the name or the value can't stand in a line";
+    Undone::Trouble(Trouble::System(Error::new(ErrorKind::InvalidInput, words)))
 }
 
 /// Whether a line spells the setting of this name.

@@ -2,4 +2,14 @@
 #![tactic(auto)]
 
 #[cfg(test)]
+mod commands;
+#[cfg(test)]
 mod devices;
+#[cfg(test)]
+mod looks;
+#[cfg(test)]
+mod machine;
+#[cfg(test)]
+mod programs;
+#[cfg(test)]
+mod shown;
