@@ -68,7 +68,10 @@ fn opened(alloc: Global, script: &Script) -> Option<Run>
 {
     let script = script.copy().ok()?;
     let parameters = issued(alloc)?;
-    Run::open(alloc, script, parameters).ok()
+    match Run::open(alloc, script, parameters) {
+        Ok(run) => Some(run),
+        Err(_) => None,
+    }
 }
 
 /// The machine over that world. The looks, acts and polls with these numbers fail.
