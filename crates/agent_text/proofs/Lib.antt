@@ -1,0 +1,24 @@
+pub mod Parts
+pub mod Lasts
+pub mod Sequences
+pub mod AttemptFields
+pub mod AttemptRows
+pub mod AttemptReading
+pub mod AttemptLists
+pub mod IdLines
+pub mod PendingIds
+pub mod PendingSteps
+pub mod PendingPlaces
+pub mod HistoryLists
+pub mod ReportRowLines
+pub mod ReportLists
+pub mod SavedParts
+pub mod FrameLines
+pub mod SavedLines
+pub mod SavedStops
+pub mod SavedBytes
+pub mod SavedAnswers
+mod FillLemmas
+mod HistoryLemmas
+mod PlaceLemmas
+mod ItemLemmas

@@ -1,0 +1,278 @@
+-- The bytes of a saved text: no LF stands in a line, and there are not too many.
+use Rattle.std.proofs.Common.{ℕ, ◌≡◌, ◌≢◌, ◌+◌, ◌*◌, ◌≤◌, ◌==◌, ℤ, pos, negsuc, List, [], ◌∷◌, ◌++◌, length, true, refl, ap, sym, ◌∙◌, arith, All, Option, Some, None, inl, inr, map, append_assoc, length-append, subst}
+use Rattle.std.specs.List.{list_all}
+use Rattle.std.specs.Prelude.{codes, decimal, not, flat_map, sum_by, IfSome}
+use Rattle.std.specs.Fmt.{signed_decimal}
+use Rattle.std.proofs.lemmas.Int.{ints}
+use Rattle.std.proofs.lemmas.Fmt.{length-decimal-le, length_signed_le}
+use Rattle.std.proofs.lemmas.Bool.{cases_eq}
+use Rattle.std.proofs.lemmas.Bool.Decides.{nat_tests}
+use Rattle.std.proofs.lemmas.List.Sums.{sum_by-cons}
+use Rattle.std.proofs.lemmas.List.Elements.{All-nil, All-cons, All-append, All-head, All-tail, All-weaker, All-map}
+use Rattle.desk_base.specs.Moments.{IsMoment}
+use Rattle.line_forms.specs.Cuts.{Lacks}
+use Rattle.line_forms.specs.Names.{IsName, is_name_byte}
+use Rattle.line_forms.specs.Numbers.{IsId}
+use Rattle.line_forms.specs.Fields.{field_text}
+use Rattle.line_forms.specs.FieldLists.{line_of}
+use Rattle.line_forms.specs.Lines.{IsLine, ended_line, lines_text}
+use Rattle.act_rules.specs.declared.row.Outcome.{Outcome}
+use Rattle.act_rules.specs.declared.row.Outcome.TheVariants.{Fixed, Failed, Interrupted}
+use Rattle.act_rules.specs.declared.row.Row.{Row}
+use Rattle.report_text.specs.declared.form.Form.{Form}
+use Rattle.report_text.specs.declared.form.Form.TheVariants.{One, Two}
+use Rattle.report_text.specs.declared.report.Report.{Report}
+use Rattle.report_text.specs.FieldTexts.{IsEnd}
+use Rattle.report_text.specs.ReportRows.{IsExit, IsPlace, IsReportRow}
+use Rattle.report_text.specs.RowLines.{component_field, end_field, exit_field, line_field, outcome_field, row_fields, row_line}
+use Rattle.report_text.specs.Reports.{IsReport, computer_line, end_line, form_line, report_lines, report_text, seq_line}
+use Rattle.agent_text.specs.declared.saved.Saved.{Saved}
+use Rattle.agent_text.specs.AttemptLines.{attempt_fields, attempt_line, cleared_field}
+use Rattle.agent_text.specs.Histories.{IsHistory, PlainHistory, pending_ids}
+use Rattle.agent_text.specs.SavedTexts.{FitsForm, IsSaved, action_line, agent_line, history_bytes, history_lines, most_bytes, next_line, pending_line, report_bytes, saved_lines, saved_text}
+use Rattle.agent_text.specs.Readings.{CanBeNext, IsNoted, IsRowIn}
+use Rattle.agent_text.proofs.AttemptFields.{IsPlain, exit_mag, lacks_plain, plain_decimal}
+use Rattle.agent_text.proofs.AttemptLists.{each_attempt, next_attempt}
+use Rattle.agent_text.proofs.AttemptRows.{noted, plain_attempt}
+use Rattle.agent_text.proofs.Lasts.{each_all}
+use Rattle.agent_text.proofs.Parts.{Lines}
+use Rattle.agent_text.proofs.PendingIds.{ids_more, ids_same, two}
+use Rattle.agent_text.proofs.ReportRowLines.{plain_row}
+use Rattle.agent_text.proofs.SavedLines.{in_form}
+
+-- ---- lines
+lacks_by : (xs : List ℕ) → list_all (λ x. not (x == 10)) xs ≡ true → Lacks 10 xs
+lacks_by [] h = All-nil (λ x. x ≢ 10)
+lacks_by (x ∷ xs) h = elim (cases_eq x 10) [
+  | inl same ↦ absurd (grind (arith, nat_tests))
+  | inr other ↦ All-cons (λ x. x ≢ 10) x xs other (lacks_by xs (grind (arith, nat_tests)))
+]
+
+-- no LF stands in fields
+lacks_fields : (fields : Lines) → All IsPlain fields → Lacks 10 (line_of fields)
+lacks_fields [] h = All-nil (λ x. x ≢ 10)
+lacks_fields (x ∷ []) h = lacks_plain 10 x (omega arith) (All-head IsPlain x [] h)
+lacks_fields (x ∷ y ∷ fields) h =
+    All-append (λ x. x ≢ 10) x (32 ∷ line_of (y ∷ fields)) (lacks_plain 10 x (omega arith) (All-head IsPlain x (y ∷ fields) h))
+    (All-cons (λ x. x ≢ 10) 32 (line_of (y ∷ fields)) (omega arith) (lacks_fields (y ∷ fields) (All-tail IsPlain x (y ∷ fields) h)))
+
+-- a word and what follows it
+line_after : (word rest : List ℕ) → list_all (λ x. not (x == 10)) (field_text word) ≡ true → Lacks 10 rest → IsLine (field_text word ++ rest)
+line_after word rest h lacks = All-append (λ x. x ≢ 10) (field_text word) rest (lacks_by (field_text word) h) lacks
+
+-- nor in a number or a name
+lacks_id : (n : ℕ) → IsId n → Lacks 10 (decimal n)
+lacks_id n id = lacks_plain 10 (decimal n) (omega arith) (plain_decimal n (omega (arith, id.1)))
+
+name_byte : (byte : ℕ) → is_name_byte byte ≡ true → 45 ≤ byte
+name_byte byte h = grind (arith, nat_tests)
+
+lacks_name : (name : List ℕ) → IsName name → Lacks 10 name
+lacks_name name is = All-weaker (λ x. is_name_byte x ≡ true) (λ x. x ≢ 10) (λ x h e. let k = name_byte x h in omega arith) name is.2
+
+line_agent : (form : Form) → IsLine (agent_line form)
+line_agent One = lacks_by (agent_line One) refl
+line_agent Two = lacks_by (agent_line Two) refl
+
+line_form : (form : Form) → IsLine (form_line form)
+line_form One = lacks_by (form_line One) refl
+line_form Two = lacks_by (form_line Two) refl
+
+-- lists of lines
+all_mapped : {V : Type 0} (line : V → List ℕ) (P : V → Type 0) → ((v : V) → P v → IsLine (line v)) → (vs : List V) → All P vs → All IsLine (map line vs)
+all_mapped line P says vs all = All-map IsLine line vs (All-weaker P (λ v. IsLine (line v)) says vs all)
+
+all_flat : {V : Type 0} (lines_of : V → Lines) (P : V → Type 0) → ((v : V) → P v → All IsLine (lines_of v)) → (vs : List V) → All P vs → All IsLine (flat_map lines_of vs)
+all_flat lines_of P says [] all = All-nil IsLine
+all_flat lines_of P says (v ∷ vs) all = All-append IsLine (lines_of v) (flat_map lines_of vs) (says v (All-head P v vs all)) (all_flat lines_of P says vs (All-tail P v vs all))
+
+-- the attempts of a history are those of their form
+noted_rows : (form : Form) (h : PlainHistory) → IsHistory h → All (IsRowIn form) h.rows → All (IsNoted form) h.rows
+noted_rows form h good rows = each_all (IsNoted form) (CanBeNext form) (λ before row can. noted form row (next_attempt form before row can)) h.rows (each_attempt form h.rows good.rows.numbered rows)
+
+-- the lines of a history, of a report, and of what is saved
+history_are : (form : Form) (h : PlainHistory) → IsHistory h × All (IsRowIn form) h.rows → All IsLine (history_lines form h)
+history_are form h (good, rows) =
+    All-cons IsLine (action_line h.action) (map (attempt_line form) h.rows) (line_after (codes "action") (decimal h.action) refl (lacks_id h.action good.action))
+    (all_mapped (attempt_line form) (IsNoted form) (λ row fine. line_after (codes "attempt") (line_of (attempt_fields form row)) refl (lacks_fields (attempt_fields form row) (plain_attempt form row fine))) h.rows (noted_rows form h good rows))
+
+report_are : (report : Report) → IsReport report → All IsLine (report_lines report)
+report_are report good =
+    let rows = map (row_line report.form) report.rows in
+    All-cons IsLine (form_line report.form) (computer_line report.computer ∷ seq_line report.seq ∷ (rows ++ end_line ∷ [])) (line_form report.form)
+    (All-cons IsLine (computer_line report.computer) (seq_line report.seq ∷ (rows ++ end_line ∷ [])) (line_after (codes "computer") report.computer refl (lacks_name report.computer good.computer))
+    (All-cons IsLine (seq_line report.seq) (rows ++ end_line ∷ []) (line_after (codes "seq") (decimal report.seq) refl (lacks_id report.seq good.seq))
+    (All-append IsLine rows (end_line ∷ [])
+    (all_mapped (row_line report.form) (IsReportRow report.form) (λ row fine. line_after (codes "row") (line_of (row_fields report.form row)) refl (lacks_fields (row_fields report.form row) (plain_row report.form row fine))) report.rows good.rows.good)
+    (All-cons IsLine end_line [] (lacks_by end_line refl) (All-nil IsLine)))))
+
+-- pending ids are ids
+ids_good : (hs : List PlainHistory) → All IsHistory hs → All IsId (pending_ids hs)
+ids_good [] h = All-nil IsId
+ids_good (x ∷ hs) h =
+    let A : List ℕ → Type 0 = All IsId in
+    let good = All-head IsHistory x hs h in
+    let behind = ids_good hs (All-tail IsHistory x hs h) in
+    elim (two x.pending) [
+      | inl e ↦ subst A (sym (ids_more x hs e)) (All-cons IsId x.action (pending_ids hs) good.action behind)
+      | inr e ↦ subst A (sym (ids_same x hs e)) behind
+    ]
+
+-- no LF stands in a line of what is saved
+pub saved_are : (form : Form) (saved : Saved) → IsSaved saved → FitsForm form saved → All IsLine (saved_lines form saved)
+saved_are form saved is fits =
+    let hs = flat_map (history_lines form) saved.histories in
+    let ids = map pending_line (pending_ids saved.histories) in
+    let reports = flat_map report_lines saved.reports in
+    let rows = in_form form saved is fits in
+    All-cons IsLine (agent_line form) (computer_line saved.computer ∷ next_line saved.next ∷ (hs ++ (ids ++ (reports ++ end_line ∷ [])))) (line_agent form)
+    (All-cons IsLine (computer_line saved.computer) (next_line saved.next ∷ (hs ++ (ids ++ (reports ++ end_line ∷ [])))) (line_after (codes "computer") saved.computer refl (lacks_name saved.computer is.computer))
+    (All-cons IsLine (next_line saved.next) (hs ++ (ids ++ (reports ++ end_line ∷ []))) (line_after (codes "next") (decimal saved.next) refl (lacks_id saved.next is.next))
+    (All-append IsLine hs (ids ++ (reports ++ end_line ∷ []))
+    (all_flat (history_lines form) (λ h. IsHistory h × All (IsRowIn form) h.rows) (λ h fine. history_are form h fine) saved.histories (λ k d within. (is.histories.good k d within, rows k d within)))
+    (All-append IsLine ids (reports ++ end_line ∷ [])
+    (all_mapped pending_line IsId (λ n id. line_after (codes "pending") (decimal n) refl (lacks_id n id)) (pending_ids saved.histories) (ids_good saved.histories is.histories.good))
+    (All-append IsLine reports (end_line ∷ [])
+    (all_flat report_lines IsReport (λ r good. report_are r good) saved.reports is.reports.good)
+    (All-cons IsLine end_line [] (lacks_by end_line refl) (All-nil IsLine)))))))
+
+-- ---- lengths
+abbrev size : Lines → ℕ
+size lines = length (lines_text lines)
+
+text_append : (a b : Lines) → lines_text (a ++ b) ≡ lines_text a ++ lines_text b
+text_append [] b = refl
+text_append (x ∷ a) b = ap (λ l. ended_line x ++ l) (text_append a b) ∙ sym (append_assoc (ended_line x) (lines_text a) (lines_text b))
+
+-- the bytes of lines
+size_append : (a b : Lines) → size (a ++ b) ≡ size a + size b
+size_append a b = ap (length {A = ℕ}) (text_append a b) ∙ length-append (lines_text a) (lines_text b)
+
+size_cons : (x : List ℕ) (lines : Lines) → size (x ∷ lines) ≡ length x + 1 + size lines
+size_cons x lines = omega (arith, length-append (ended_line x) (lines_text lines), length-append x (10 ∷ []))
+
+-- the most bytes of each field
+moment_length : (t : ℤ) → IsMoment t → length (signed_decimal t) ≤ 12
+moment_length (pos n) h = length-decimal-le 12 n (omega arith) (omega (arith, ints, h.1)) (omega (arith, ints, h.1))
+moment_length (negsuc n) h = absurd (omega (arith, ints, h.0))
+
+outcome_length : (e : Option (ℤ × Outcome)) → length (outcome_field e) ≤ 11
+outcome_length None = omega arith
+outcome_length (Some (t, Fixed)) = omega arith
+outcome_length (Some (t, Failed)) = omega arith
+outcome_length (Some (t, Interrupted)) = omega arith
+
+end_length : (e : Option (ℤ × Outcome)) → IsEnd e → length (end_field e) ≤ 12
+end_length None h = omega arith
+end_length (Some e) h = moment_length e.0 h
+
+cleared_length : (c : Option ℤ) → IfSome c IsMoment → length (cleared_field c) ≤ 12
+cleared_length None h = omega arith
+cleared_length (Some t) h = moment_length t h
+
+exit_length : (e : Option ℤ) → IfSome e IsExit → length (exit_field e) ≤ 20
+exit_length None h = omega arith
+exit_length (Some x) h = let m = exit_mag x h in let l = length_signed_le 19 x (omega (arith, m)) m in omega (arith, l)
+
+component_length : (p : Option (ℕ × ℕ)) → IfSome p IsPlace → length (component_field p) ≤ 10
+component_length None h = omega arith
+component_length (Some p) h = length-decimal-le 10 p.0 (omega arith) (omega (arith, h.0)) (omega (arith, h.0))
+
+line_length : (p : Option (ℕ × ℕ)) → IfSome p IsPlace → length (line_field p) ≤ 10
+line_length None h = omega arith
+line_length (Some p) h = length-decimal-le 10 p.1 (omega arith) (omega (arith, h.1)) (omega (arith, h.1))
+
+id_length : (n : ℕ) → IsId n → length (decimal n) ≤ 16
+id_length n id = length-decimal-le 16 n (omega arith) (omega (arith, id.1)) (omega (arith, id.1))
+
+-- a field, a space and what follows
+joined : (field rest : List ℕ) (m n : ℕ) → length field ≤ m → length rest ≤ n → length (field ++ 32 ∷ rest) ≤ m + (n + 1)
+joined field rest m n h k = omega (arith, h, k, length-append field (32 ∷ rest))
+
+-- the most bytes of an attempt
+attempt_length : (row : Row) → IsNoted Two row → length (attempt_line Two row) ≤ 112
+attempt_length row ((least, most, (begun, ended, cleared)), (exit, place)) =
+    let a = line_field row.note.place in
+    let b = component_field row.note.place ++ 32 ∷ a in
+    let d = exit_field row.note.exit ++ 32 ∷ b in
+    let e = cleared_field row.cleared ++ 32 ∷ d in
+    let f = end_field row.end ++ 32 ∷ e in
+    let g = outcome_field row.end ++ 32 ∷ f in
+    let i = signed_decimal row.begun ++ 32 ∷ g in
+    let number = length-decimal-le 10 row.number (omega arith) (omega (arith, most)) (omega (arith, most)) in
+    let all : length (decimal row.number ++ 32 ∷ i) ≤ 104 =
+    omega (
+      arith,
+      joined (decimal row.number) i 10 93 number
+          (let z = joined (signed_decimal row.begun) g 12 80 (moment_length row.begun begun)
+          (let y = joined (outcome_field row.end) f 11 68 (outcome_length row.end)
+          (let x = joined (end_field row.end) e 12 55 (end_length row.end ended)
+          (let w = joined (cleared_field row.cleared) d 12 42 (cleared_length row.cleared cleared)
+          (let v = joined (exit_field row.note.exit) b 20 21 (exit_length row.note.exit exit) (let u = joined (component_field row.note.place) a 10 10 (component_length row.note.place place) (line_length row.note.place place) in omega (arith, u)) in omega (arith, v))
+          in omega (arith, w))
+          in omega (arith, x))
+          in omega (arith, y))
+          in omega (arith, z)),
+    ) in
+    omega (arith, all, length-append (field_text (codes "attempt")) (decimal row.number ++ 32 ∷ i))
+
+attempts_size : (rows : List Row) → All (IsNoted Two) rows → size (map (attempt_line Two) rows) ≤ 113 * length rows
+attempts_size [] h = omega arith
+attempts_size (row ∷ rows) h =
+    omega (arith, attempt_length row (All-head (IsNoted Two) row rows h), attempts_size rows (All-tail (IsNoted Two) row rows h), size_cons (attempt_line Two row) (map (attempt_line Two) rows))
+
+-- the lines of histories, with those of the pending ones
+histories_size : (hs : List PlainHistory) → All IsHistory hs → size (flat_map (history_lines Two) hs) + size (map pending_line (pending_ids hs)) ≤ sum_by history_bytes hs
+histories_size [] h = omega arith
+histories_size (x ∷ hs) h =
+    let good = All-head IsHistory x hs h in
+    let behind = histories_size hs (All-tail IsHistory x hs h) in
+    let digits = id_length x.action good.action in
+    let rows = attempts_size x.rows (noted_rows Two x good good.rows.good) in
+    let first : size (history_lines Two x) ≤ 24 + 113 * length x.rows =
+    omega (arith, digits, rows, size_cons (action_line x.action) (map (attempt_line Two) x.rows), length-append (field_text (codes "action")) (decimal x.action)) in
+    let all = size_append (history_lines Two x) (flat_map (history_lines Two) hs) in
+    let ids : size (map pending_line (pending_ids (x ∷ hs))) ≤ 25 + size (map pending_line (pending_ids hs)) = elim (two x.pending) [
+      | inl e ↦ more (ap (λ l. size (map pending_line l)) (ids_more x hs e)) digits
+      | inr e ↦ (let same = ap (λ l. size (map pending_line l)) (ids_same x hs e) in omega arith)
+    ] in
+    omega (arith, behind, first, all, ids, sum_by-cons history_bytes x hs)
+  where
+    more : size (map pending_line (pending_ids (x ∷ hs))) ≡ size (map pending_line (x.action ∷ pending_ids hs)) → length (decimal x.action) ≤ 16 → size (map pending_line (pending_ids (x ∷ hs))) ≤ 25 + size (map pending_line (pending_ids hs))
+    more same digits = omega (arith, same, digits, size_cons (pending_line x.action) (map pending_line (pending_ids hs)), length-append (field_text (codes "pending")) (decimal x.action))
+
+-- no report is too long
+abbrev pub ShortReports : Type 0
+ShortReports = (report : Report) → IsReport report → length (report_text report) ≤ 108 + 113 * length report.rows
+
+-- the lines of reports
+reports_size : ShortReports → (rs : List Report) → All IsReport rs → size (flat_map report_lines rs) ≤ sum_by report_bytes rs
+reports_size short [] h = omega arith
+reports_size short (r ∷ rs) h =
+    omega (arith, short r (All-head IsReport r rs h), reports_size short rs (All-tail IsReport r rs h), size_append (report_lines r) (flat_map report_lines rs), sum_by-cons report_bytes r rs)
+
+computer_length : (name : List ℕ) → IsName name → length (computer_line name) ≤ 73
+computer_length name is = omega (arith, is.1, length-append (field_text (codes "computer")) name)
+
+-- the text is no longer than what is reckoned
+pub saved_short : ShortReports → (saved : Saved) → IsSaved saved → length (saved_text saved) ≤ most_bytes saved.histories saved.reports
+saved_short short saved is =
+    let hs = flat_map (history_lines Two) saved.histories in
+    let ids = map pending_line (pending_ids saved.histories) in
+    let reports = flat_map report_lines saved.reports in
+    let last = reports ++ end_line ∷ [] in
+    omega (
+      arith,
+      size_cons (agent_line Two) (computer_line saved.computer ∷ next_line saved.next ∷ (hs ++ (ids ++ last))),
+      size_cons (computer_line saved.computer) (next_line saved.next ∷ (hs ++ (ids ++ last))),
+      size_cons (next_line saved.next) (hs ++ (ids ++ last)),
+      computer_length saved.computer is.computer,
+      length-append (field_text (codes "next")) (decimal saved.next),
+      id_length saved.next is.next,
+      size_append hs (ids ++ last),
+      size_append ids last,
+      size_append reports (end_line ∷ []),
+      size_cons end_line [],
+      histories_size saved.histories is.histories.good,
+      reports_size short saved.reports is.reports.good,
+    )

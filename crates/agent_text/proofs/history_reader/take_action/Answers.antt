@@ -1,0 +1,20 @@
+use Rattle.std.proofs.Common.{map, refl}
+use Rattle.std.specs.Prelude.{codes}
+use Rattle.agent_text.specs.Histories.{shown_history}
+use Rattle.agent_text.specs.Readings.{IsAbove}
+use Rattle.agent_text.proofs.AttemptReading.{not_so}
+use Rattle.agent_text.proofs.IdLines.{id_taken, other_id}
+use Rattle.agent_text.proofs.history_reader.take_action.Goals as goal
+
+pub returns-then-not-is_above : goal.returns-then-not-is_above
+returns-then-not-is_above c = (
+  refl,
+  other_id (IsAbove (map shown_history c.args.before.now)) (codes "action") c.in_ok-rest_ahead.field-0.now c.args.lines.now c.in_ok-rest_ahead.ensures.0 c.in_ok-action.action
+      c.in_ok-rest_ahead.ensures.1 c.in_ok-action.ensures.0 c.in_ok-action.ensures.1 (λ h. not_so _ _ c.if-not-is_above.true c.is_above.ensures h),
+)
+
+pub returns : goal.returns
+returns c = (
+  (c.in_ok-action.ensures.0, c.is_above.ensures.0 c.if-not-is_above.false),
+  id_taken (codes "action") c.in_ok-rest_ahead.field-0.now c.args.lines.now c.skip_line.new.self c.in_ok-rest_ahead.ensures.0 c.in_ok-action.action c.in_ok-rest_ahead.ensures.1 c.in_ok-action.ensures.1 c.skip_line.ensures,
+)

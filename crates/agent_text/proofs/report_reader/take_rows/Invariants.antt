@@ -1,0 +1,16 @@
+use Rattle.std.proofs.Common.{length}
+use Rattle.std.specs.Prelude.{map}
+use Rattle.line_forms.specs.Readers.{EachCan, Passes}
+use Rattle.report_text.specs.RowLines.{row_line}
+use Rattle.agent_text.specs.Readings.{CanBeAdded}
+use Rattle.agent_text.proofs.report_reader.take_rows.Given as goal
+
+-- the lines of the rows so far were taken
+abbrev pub invariant-loop-row : goal.invariant-loop-row
+invariant-loop-row l = record {
+  each : EachCan (CanBeAdded l.form) l.rows.items;
+  passes : Passes l.initial.lines l.lines (map (row_line l.form) l.rows.items);
+}
+
+abbrev pub decreases-loop-row : goal.decreases-loop-row
+decreases-loop-row l = length l.lines.lines

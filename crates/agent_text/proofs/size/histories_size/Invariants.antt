@@ -1,0 +1,8 @@
+use Rattle.std.proofs.Common.{◌≡◌, take}
+use Rattle.std.specs.Prelude.{sum_by}
+use Rattle.agent_text.specs.Histories.{shown_history}
+use Rattle.agent_text.specs.SavedTexts.{history_bytes}
+use Rattle.agent_text.proofs.size.histories_size.Given as goal
+
+abbrev pub invariant-loop-history : goal.invariant-loop-history
+invariant-loop-history l = l.most ≡ sum_by (λ h. history_bytes (shown_history h)) (take l.history-index l.histories)

@@ -1,0 +1,8 @@
+pub mod Pockets
+pub mod PocketStates
+pub mod SavedRows
+pub mod Histories
+pub mod AttemptLines
+pub mod SavedTexts
+pub mod Readings
+pub mod Writings

@@ -1,0 +1,158 @@
+ghost use Rattle.std.specs.Prelude.{◌≡◌, ◌<◌, ◌+◌, ◌^◌, [], length, map, IfOk, OnOk, OnErr, IfSome, IsSomeAnd, MatchOption, None};
+ghost use Rattle.desk_base.specs.Moments.{IsMoment};
+ghost use Rattle.line_forms.specs.Numbers.{IsId};
+ghost use Rattle.act_rules.specs.Rows.{HasEnded, HasMoments, last_row};
+ghost use Rattle.agent_text.specs.SavedRows.{IsSavedNote, IsSavedRow};
+ghost use Rattle.agent_text.specs.Histories.{AreHistories, shown_history, rows_at, with_begun, with_cleared, with_ended, with_reported};
+ghost use Rattle.agent_text.specs.Readings.{HasPlace};
+
+use crate::history::History;
+use act_rules::{Note, Outcome, Row, Rows};
+use std::alloc::{AllocError, Global};
+use std::marker::Model;
+
+/// The attempts of actions, in strictly ascending order of their ids. Contracts see the list of the histories.
+#[derive(Drop)]
+pub struct Histories {
+    list: Vec<History>,
+}
+
+impl Model for Histories {
+    ghost use Rattle.std.specs.Prelude.{List, map};
+    ghost use Rattle.agent_text.specs.Histories.{PlainHistory, AreHistories, shown_history};
+
+    ghost Value = { List PlainHistory };
+
+    ghost view = { λ h. map shown_history h.list.items };
+
+    ghost invariant = { λ h. AreHistories (map shown_history h.list.items) };
+}
+
+impl Histories {
+    /// No attempts.
+    pub fn new(alloc: Global) -> Histories
+        ensures { result ≡ [] }
+    {
+        Histories {
+            list: Vec::new(alloc),
+        }
+    }
+
+    /// The list of these histories.
+    pub(crate) fn from_vec(list: Vec<History>) -> Histories
+        requires { AreHistories (map shown_history list.items) }
+        ensures { result ≡ map shown_history list.items }
+    {
+        Histories { list }
+    }
+
+    /// The histories.
+    pub fn as_slice(&self) -> &[History]
+        ensures value { map shown_history result.now ≡ self.now }
+        ensures good { AreHistories self.now }
+    {
+        self.list.as_slice()
+    }
+
+    /// The same histories once more. The error is want of memory, here and below.
+    pub fn copy(&self) -> Result<Histories, AllocError>
+        ensures { IfOk result (λ copy. copy ≡ self.now) }
+    {
+        let mut list = Vec::new(*self.list.allocator());
+        for history in self.list.as_slice() {
+            list.push(history.copy()?)?;
+        }
+        Ok(Histories { list })
+    }
+
+    /// The rows of an action, if it has any.
+    pub fn rows(&self, action: u64) -> Option<&Rows>
+        ensures value { MatchOption result (rows_at action self.now ≡ []) (λ rows. rows.now.rows ≡ rows_at action self.now) }
+        ensures some { IfSome result (λ rows. 0 < length rows.now.rows) }
+    {
+        match self.place(action) {
+            Ok(place) => Some(&self.list[place].rows),
+            Err(_) => None,
+        }
+    }
+
+    /// The place of the history of this action, or the one where it would stand.
+    fn place(&self, action: u64) -> Result<usize, usize>
+        ensures { HasPlace self.now action result }
+    {
+        self.list
+            .as_slice()
+            .binary_search_by(|history| history.action.cmp(&action))
+    }
+
+    /// An attempt of this action begins: a row that runs, with the next number. The action is pending then. At an error nothing
+    /// has changed.
+    pub fn begin(&mut self, alloc: Global, action: u64, row: Row) -> Result<(), AllocError>
+        requires action { IsId action }
+        requires ended { IfSome (last_row (rows_at action self.old)) HasEnded }
+        requires few { length (rows_at action self.old) + 1 < 2 ^ 32 }
+        requires number { row.number ≡ length (rows_at action self.old) + 1 }
+        requires moments { HasMoments row }
+        requires good { IsSavedRow row }
+        ensures ok { OnOk result (self.new ≡ with_begun action row self.old) }
+        ensures err { OnErr result (self.new ≡ self.old) }
+    {
+        match self.place(action) {
+            Ok(place) => {
+                let history = &mut self.list[place];
+                history.rows.push(row)?;
+                history.pending = true;
+                Ok(())
+            }
+            Err(place) => {
+                let mut rows = Rows::new(alloc);
+                rows.push(row)?;
+                let history = History {
+                    action,
+                    rows,
+                    pending: true,
+                };
+                Ok(self.list.insert(place, history)?)
+            }
+        }
+    }
+
+    /// The attempt of this action that runs ends. The action is pending then. It takes no memory.
+    pub fn end(&mut self, action: u64, moment: i64, outcome: Outcome, note: Note)
+        requires moment { IsMoment moment }
+        requires running { IsSomeAnd (last_row (rows_at action self.old)) (λ row. row.end ≡ None) }
+        requires note { IsSavedNote outcome note }
+        ensures { self.new ≡ with_ended action moment outcome note self.old }
+    {
+        if let Ok(place) = self.place(action) {
+            let history = &mut self.list[place];
+            history.rows.end(moment, outcome, note);
+            history.pending = true;
+        }
+    }
+
+    /// The last attempt of this action, which has ended, is cleared. It takes no memory.
+    pub fn clear(&mut self, action: u64, moment: i64)
+        requires moment { IsMoment moment }
+        requires ended { IsSomeAnd (last_row (rows_at action self.old)) HasEnded }
+        requires unmarked { IsSomeAnd (last_row (rows_at action self.old)) (λ row. row.cleared ≡ None) }
+        ensures { self.new ≡ with_cleared action moment self.old }
+    {
+        if let Ok(place) = self.place(action) {
+            self.list[place].rows.clear(moment);
+        }
+    }
+
+    /// The first so many actions that are pending are reported. It takes no memory.
+    pub fn report(&mut self, most: usize)
+        ensures { self.new ≡ with_reported most self.old }
+    {
+        let mut left = most;
+        for history in self.list.iter_mut() {
+            if left > 0 && history.pending {
+                history.pending = false;
+                left -= 1;
+            }
+        }
+    }
+}

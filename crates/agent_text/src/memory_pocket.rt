@@ -1,0 +1,103 @@
+ghost use Rattle.std.specs.Prelude.{◌≡◌, ◌≢◌, ◌≤◌, Some, option_copied};
+ghost use Rattle.desk_base.specs.Counts.{Rose};
+ghost use Rattle.agent_text.specs.Pockets.{Loads, Saves};
+ghost use Rattle.agent_text.specs.PocketStates.{LoadsMemory, SavesMemory, empty_pocket, faults_of};
+
+use crate::pocket::{Loaded, Pocket, SaveResult};
+use desk_base::{Bytes, Calls};
+use rel_lexer::Text;
+use std::alloc::{AllocError, Global};
+use std::marker::Model;
+
+/// A pocket in memory. A load or a save that fails leaves its text.
+#[derive(Drop)]
+pub struct MemoryPocket {
+    alloc: Global,
+    text: Option<Bytes>,
+    loads: Calls,
+    saves: Calls,
+}
+
+impl Model for MemoryPocket {
+    ghost use Rattle.agent_text.specs.PocketStates.{PocketState};
+
+    ghost Value = { PocketState };
+
+    ghost view = { λ p. record { text = p.text; loads = p.loads; saves = p.saves } };
+}
+
+impl MemoryPocket {
+    /// A pocket without a text. The loads and the saves with these numbers fail, each counted from 1.
+    pub fn new(alloc: Global, loads: Vec<u32>, saves: Vec<u32>) -> MemoryPocket
+        ensures { result ≡ empty_pocket loads.items saves.items }
+    {
+        MemoryPocket {
+            alloc,
+            text: None,
+            loads: Calls::new(alloc, loads),
+            saves: Calls::new(alloc, saves),
+        }
+    }
+
+    /// The saved text, if there is one.
+    pub fn text(&self) -> Option<&Bytes>
+        ensures { option_copied result ≡ self.now.text }
+    {
+        self.text.as_ref()
+    }
+}
+
+impl Pocket for MemoryPocket {
+    ghost saved = { λ p. Some p.text };
+
+    ghost faults = { faults_of };
+
+    fn open(&mut self, _place: &Text) -> Result<(), AllocError>
+        ensures saved { Some self.new.text ≡ Some self.old.text }
+        ensures steady { faults_of self.new ≡ faults_of self.old }
+        ensures memory { self.new ≡ self.old }
+    {
+        Ok(())
+    }
+
+    fn load(&mut self) -> Loaded
+        ensures loads { Loads (Some self.old.text) result }
+        ensures saved { Some self.new.text ≡ Some self.old.text }
+        ensures later { faults_of self.old ≤ faults_of self.new }
+        ensures failed { result ≡ Loaded.Failed → Rose (faults_of self.old) (faults_of self.new) }
+        ensures steady { result ≢ Loaded.Failed → faults_of self.new ≡ faults_of self.old }
+        ensures memory { LoadsMemory self.old self.new result }
+    {
+        if self.loads.begin() {
+            self.loads.fault();
+            return Loaded::Failed;
+        }
+        let Some(text) = &self.text else {
+            return Loaded::Nothing;
+        };
+        match text.copy() {
+            Ok(copy) => Loaded::Saved(copy),
+            Err(_) => Loaded::Memory,
+        }
+    }
+
+    fn save(&mut self, text: &[u8]) -> SaveResult
+        ensures saves { Saves text.now result (Some self.old.text) (Some self.new.text) }
+        ensures later { faults_of self.old ≤ faults_of self.new }
+        ensures failed { result ≡ SaveResult.Failed → Rose (faults_of self.old) (faults_of self.new) }
+        ensures steady { result ≢ SaveResult.Failed → faults_of self.new ≡ faults_of self.old }
+        ensures memory { SavesMemory self.old self.new result }
+    {
+        if self.saves.begin() {
+            self.saves.fault();
+            return SaveResult::Failed;
+        }
+        match Bytes::from_slice(self.alloc, text) {
+            Ok(copy) => {
+                self.text = Some(copy);
+                SaveResult::Done
+            }
+            Err(_) => SaveResult::Memory,
+        }
+    }
+}

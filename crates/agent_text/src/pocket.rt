@@ -1,0 +1,74 @@
+ghost use Rattle.std.specs.Prelude.{◌≡◌, ◌≢◌, ◌≤◌, List, ℕ, Option, IfOk};
+ghost use Rattle.desk_base.specs.Counts.{Rose};
+ghost use Rattle.agent_text.specs.Pockets.{Loads, Saves};
+
+use desk_base::Bytes;
+use rel_lexer::Text;
+use std::alloc::AllocError;
+
+/// What a pocket answers that is asked for its text.
+#[derive(Drop)]
+pub enum Loaded {
+    /// No text is saved.
+    Nothing,
+    /// The saved text.
+    Saved(Bytes),
+    /// The count of faults went up.
+    Failed,
+    /// Want of memory.
+    Memory,
+}
+
+impl Loaded {
+    /// The same answer once more. The error is want of memory.
+    pub fn copy(&self) -> Result<Loaded, AllocError>
+        ensures { IfOk result (λ loaded. loaded ≡ self.now) }
+    {
+        Ok(match self {
+            Loaded::Nothing => Loaded::Nothing,
+            Loaded::Saved(text) => Loaded::Saved(text.copy()?),
+            Loaded::Failed => Loaded::Failed,
+            Loaded::Memory => Loaded::Memory,
+        })
+    }
+}
+
+/// What a pocket answers that was given a text to save.
+#[derive(Clone, Copy)]
+pub enum SaveResult {
+    /// The text is the saved one.
+    Done,
+    /// The old text or the new one is saved, and the count of faults went up.
+    Failed,
+    /// Want of memory. The old text is saved.
+    Memory,
+}
+
+/// What outlives a stop: one text.
+pub trait Pocket {
+    /// The saved text, or that there is none, where it tells that.
+    ghost saved: { Self → Option (Option (List ℕ)) };
+
+    /// How often a load or a save has failed.
+    ghost faults: { Self → ℕ };
+
+    /// Names the place at which the text is kept. The error is want of memory.
+    fn open(&mut self, place: &Text) -> Result<(), AllocError>
+        ensures saved { saved self.new ≡ saved self.old }
+        ensures steady { faults self.new ≡ faults self.old };
+
+    /// The saved text.
+    fn load(&mut self) -> Loaded
+        ensures loads { Loads (saved self.old) result }
+        ensures saved { saved self.new ≡ saved self.old }
+        ensures later { faults self.old ≤ faults self.new }
+        ensures failed { result ≡ Loaded.Failed → Rose (faults self.old) (faults self.new) }
+        ensures steady { result ≢ Loaded.Failed → faults self.new ≡ faults self.old };
+
+    /// Saves this text in place of the one before.
+    fn save(&mut self, text: &[u8]) -> SaveResult
+        ensures saves { Saves text.now result (saved self.old) (saved self.new) }
+        ensures later { faults self.old ≤ faults self.new }
+        ensures failed { result ≡ SaveResult.Failed → Rose (faults self.old) (faults self.new) }
+        ensures steady { result ≢ SaveResult.Failed → faults self.new ≡ faults self.old };
+}
