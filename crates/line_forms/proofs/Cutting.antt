@@ -1,6 +1,10 @@
--- Texts that are cut at a byte.
-use Rattle.std.proofs.Common.{◌≡◌, ◌≢◌, ℕ, List, [], ◌∷◌, ◌++◌, MatchOption, None, Some, sym, refl, ap, ◌∙◌, append_assoc}
-use Rattle.std.proofs.lemmas.List.Elements.{All-head, All-tail}
+-- Texts that are cut at a byte. Other crates may cite these lemmas.
+use Rattle.std.proofs.Common.{◌≡◌, ◌≢◌, ◌==◌, true, ℕ, inl, inr, arith, List, [], ◌∷◌, ◌++◌, MatchOption, None, Some, sym, refl, ap, ◌∙◌, append_assoc}
+use Rattle.std.specs.Prelude.{not}
+use Rattle.std.specs.List.{list_all}
+use Rattle.std.proofs.lemmas.Bool.{cases_eq}
+use Rattle.std.proofs.lemmas.Bool.Decides.{nat_tests}
+use Rattle.std.proofs.lemmas.List.Elements.{All-nil, All-cons, All-head, All-tail}
 use Rattle.std.proofs.lemmas.List.{append_cancel_left}
 use Rattle.std.proofs.lemmas.Option.{MatchOption-at_none}
 use Rattle.std.specs.declared.option.Option.{Option}
@@ -19,6 +23,14 @@ one_cut byte (x ∷ xs) rest (y ∷ ys) left a b e =
 
 pub IsCut-one : (byte : ℕ) (text first rest other left : List ℕ) → IsCut byte text first rest → IsCut byte text other left → (other ≡ first) × (left ≡ rest)
 IsCut-one byte text first rest other left a b = one_cut byte first rest other left a.0 b.0 (sym a.1 ∙ b.1)
+
+-- a text lacks a byte where a test says so
+pub lacks_by : (byte : ℕ) (xs : List ℕ) → list_all (λ x. not (x == byte)) xs ≡ true → Lacks byte xs
+lacks_by byte [] h = All-nil (λ x. x ≢ byte)
+lacks_by byte (x ∷ xs) h = elim (cases_eq x byte) [
+  | inl same ↦ absurd (grind (arith, nat_tests))
+  | inr other ↦ All-cons (λ x. x ≢ byte) x xs other (lacks_by byte xs (grind (arith, nat_tests)))
+]
 
 -- what follows a word and a space
 pub Follows-none : (word line : List ℕ) (r : Option (Bor (List ℕ))) → MatchOption r ((rest : List ℕ) → line ≢ word ++ rest) (λ x. line ≡ word ++ x.now) → r ≡ None → (rest : List ℕ) → line ≡ field_text word ++ rest → ⊥

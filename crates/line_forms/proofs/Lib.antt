@@ -1,9 +1,10 @@
 pub mod Texts
-mod Cutting
+pub mod Cutting
 pub mod Pieces
-mod LineLemmas
+pub mod LineLemmas
 pub mod PathLemmas
 mod DigestLemmas
 pub mod VersionLemmas
 pub mod BadLines
 pub mod Passing
+pub mod PlainLemmas

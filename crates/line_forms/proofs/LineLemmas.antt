@@ -1,5 +1,5 @@
--- Texts and their lines.
-use Rattle.std.proofs.Common.{◌≡◌, ℕ, ◌<◌, List, [], ◌∷◌, ◌++◌, length, All, sym, refl, ap, subst, ◌∙◌, arith, append_assoc}
+-- Texts and their lines. Other crates may cite these lemmas.
+use Rattle.std.proofs.Common.{◌≡◌, ℕ, ◌<◌, List, [], ◌∷◌, ◌++◌, length, All, sym, refl, ap, subst, ◌∙◌, arith, append_assoc, append-nil}
 use Rattle.std.specs.List.{join_with_byte}
 use Rattle.std.proofs.lemmas.List.Elements.{All-head, All-tail, All-nil, All-cons}
 use Rattle.line_forms.specs.Cuts.{Lacks, IsCut, pieces}
@@ -9,7 +9,7 @@ use Rattle.line_forms.specs.declared.lines.Ahead.{Ahead}
 use Rattle.line_forms.specs.declared.lines.Ahead.TheVariants as ahead
 use Rattle.line_forms.proofs.Pieces.{pieces-none, pieces-cut, pieces-some, pieces-lack, join-pieces}
 
-front_of-cons : (x : List ℕ) (xs : List (List ℕ)) → 0 < length xs → front_of (x ∷ xs) ≡ x ∷ front_of xs
+pub front_of-cons : (x : List ℕ) (xs : List (List ℕ)) → 0 < length xs → front_of (x ∷ xs) ≡ x ∷ front_of xs
 front_of-cons x [] some = absurd (omega arith)
 front_of-cons x (y ∷ ys) some = refl
 
@@ -30,6 +30,11 @@ lines_of-none text lacks = ap front_of (pieces-none 10 text lacks)
 
 pub unended_of-none : (text : List ℕ) → Lacks 10 text → unended_of text ≡ text
 unended_of-none text lacks = ap last_of (pieces-none 10 text lacks)
+
+-- the text of lines, and of one more
+pub lines_text-snoc : (lines : List (List ℕ)) (line : List ℕ) → lines_text (lines ++ line ∷ []) ≡ lines_text lines ++ ended_line line
+lines_text-snoc [] line = append-nil (ended_line line)
+lines_text-snoc (x ∷ lines) line = ap (λ l. ended_line x ++ l) (lines_text-snoc lines line) ∙ sym (append_assoc (ended_line x) (lines_text lines) (ended_line line))
 
 -- the text of lines, with the first one taken off
 cons_cut : (line : List ℕ) (lines : List (List ℕ)) (unended : List ℕ) → IsLine line → IsCut 10 (lines_text (line ∷ lines) ++ unended) line (lines_text lines ++ unended)

@@ -1,5 +1,5 @@
 -- Going over lines, and where reading stops. Other crates may cite these lemmas.
-use Rattle.std.proofs.Common.{ℕ, suc, ◌≡◌, ◌+◌, ◌<◌, List, [], ◌∷◌, ◌++◌, length, refl, sym, ap, subst, ◌∙◌, arith, append_assoc, append-nil}
+use Rattle.std.proofs.Common.{ℕ, suc, ◌≡◌, ◌+◌, ◌<◌, List, [], ◌∷◌, ◌++◌, length, map, refl, sym, ap, subst, ◌∙◌, arith, append_assoc, append-nil}
 use Rattle.std.proofs.lemmas.List.{append_cancel_left}
 use Rattle.line_forms.specs.BadLines.{Begins, IsTextOf, IsFirstBadLine, AnswersBadLine}
 use Rattle.line_forms.specs.Fields.{field_text}
@@ -50,6 +50,22 @@ takes_passes old new (ahead.Line other) takes line more e =
 takes_passes old new ahead.End takes line more e = absurd (no_line old.lines line more takes.0.0 e)
 takes_passes old new ahead.Unended takes line more e = absurd (no_line old.lines line more takes.0.0 e)
 
+-- the line ahead was taken, and is that of this value
+pub takes_it : {V : Type 0} (line_of : V → List ℕ) (old new : LineState) (line : List ℕ) (more : List (List ℕ)) (value : V) → old.lines ≡ line ∷ more → line ≡ line_of value →
+    ((line : List ℕ) (more : List (List ℕ)) → old.lines ≡ line ∷ more → Passes old new (line ∷ [])) → Passes old new (line_of value ∷ [])
+takes_it line_of old new line more value ahead is takes = takes (line_of value) more (ahead ∙ ap (λ l. l ∷ more) is)
+
+-- the same of a word and a rest
+pub takes_rest : (old new : LineState) (word rest text : List ℕ) (more : List (List ℕ)) → old.lines ≡ (field_text word ++ rest) ∷ more → rest ≡ text →
+    ((line : List ℕ) (more : List (List ℕ)) → old.lines ≡ line ∷ more → Passes old new (line ∷ [])) → Passes old new ((field_text word ++ text) ∷ [])
+takes_rest old new word rest text more ahead is takes =
+    takes_it (λ (l : List ℕ). field_text word ++ l) old new (field_text word ++ rest) more text ahead (ap (λ l. field_text word ++ l) is) takes
+
+-- lines of values, and one more
+pub map_snoc : {V W : Type 0} (first : V → W) (vs : List V) (v : V) → map first (vs ++ v ∷ []) ≡ map first vs ++ first v ∷ []
+map_snoc first [] v = refl
+map_snoc first (x ∷ vs) v = ap (λ l. first x ∷ l) (map_snoc first vs v)
+
 -- the rest of the line is the text of no such value
 pub not_spelled : {V : Type 0} (Is : V → Type 0) (text_of : V → List ℕ) (state : LineState) (word rest : List ℕ) (more : List (List ℕ)) → state.lines ≡ (field_text word ++ rest) ∷ more → ((v : V) → Is v → rest ≡ text_of v → ⊥) →
     IsNotAhead Is (λ v. field_text word ++ text_of v) state
@@ -74,6 +90,12 @@ stops_first_bad AreGood text before [] new is stands stops =
     ended_first_bad AreGood text before all stops.begins (λ good. stops.unfinished (subst AreGood all good.1))
 stops_first_bad AreGood text before (line ∷ more) new is stands stops =
     first_bad_line-wrong AreGood text line before more (stands.lines ∙ ap (λ l. before ++ l) is) stops.begins (stops.ahead line more is)
+
+-- the cursor stayed where it was, and is stuck there
+pub stays : (AreGood : List (List ℕ) → Type 0) (old mid new : LineState) (before : List (List ℕ)) → new ≡ mid → Passes old mid before → StopsAt AreGood before mid → IsStuck AreGood old new
+stays AreGood old mid new before same passes stops =
+    let P : LineState → Type 0 = λ s. IsStuck AreGood old s in
+    subst P (sym same) (before, passes, stops)
 
 -- where the cursor went as far as lines of the set go, the line ahead is the first bad one
 pub stuck_answers : (AreGood : List (List ℕ) → Type 0) (text : List ℕ) (new : LineState) → IsStuck AreGood (before_lines text) new → AnswersBadLine AreGood text new.number
