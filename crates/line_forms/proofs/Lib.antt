@@ -8,3 +8,4 @@ pub mod VersionLemmas
 pub mod BadLines
 pub mod Passing
 pub mod PlainLemmas
+pub mod Sorted

@@ -1,4 +1,3 @@
 mod KeyLists
-mod Orders
 mod QueueLemmas
 mod SiteLemmas

@@ -7,10 +7,10 @@ use Rattle.std.proofs.Common.{set, sym, ap, ◌∙◌, arith}
 use Rattle.std.proofs.lemmas.List.{take-set, drop-set-lt, length-set, get_or-set_same}
 use Rattle.std.proofs.lemmas.List.Elements.{All-append, All-cons, All-filter}
 use Rattle.std.proofs.lemmas.Map.Lookups.{exact_bytes}
+use Rattle.line_forms.proofs.Sorted.{sorted_with, has_place, one_of_key}
 use Rattle.fix_site.specs.declared.site.Site.{Site}
 use Rattle.fix_site.specs.Sites.{IsSite}
 use Rattle.relay_core.specs.KeptSites.{AreKept, IsKept, HasPlace, sites_before, sites_after, with_site}
-use Rattle.relay_core.proofs.Orders.{sorted_with, has_place, one_of_key}
 use Rattle.relay_core.proofs.QueueLemmas.{split_at}
 
 -- a search by names ends at the place

@@ -1,4 +1,4 @@
--- Lists in strictly ascending order of a key, and the place of a key among theirs.
+-- Lists in strictly ascending order of a key, and the place of a key among theirs. Other crates may cite these lemmas.
 use Rattle.std.specs.Prelude.{◌≡◌, ℕ, zero, suc, ◌<◌, ◌≤◌, ◌+◌, Bool, true, false, cond, List, [], ◌∷◌, ◌++◌, map, filter, length, take, drop, Result, Ok, Err}
 use Rattle.std.specs.declared.cmp.Ordering.{Ordering}
 use Rattle.std.specs.declared.cmp.Ordering.TheVariants.{Less, Equal, Greater}
