@@ -1,20 +1,18 @@
 -- Fields stand in one place, and each text is that of one value.
-use Rattle.std.proofs.Common.{◌≡◌, ◌≢◌, ◌++◌, ℕ, ℤ, pos, negsuc, ◌<◌, ◌^◌, List, [], ◌∷◌, ◌==◌, true, ◌+◌, get_or, if◌then◌else◌, ◌⊎◌, refl, sym, ap, subst, ◌∙◌, arith, inl, inr}
-use Rattle.std.specs.Prelude.{not, codes}
-use Rattle.std.specs.List.{list_all}
-use Rattle.std.proofs.lemmas.Bool.{cases_eq}
-use Rattle.std.proofs.lemmas.Bool.Decides.{nat_tests}
+use Rattle.std.proofs.Common.{◌≡◌, ◌≢◌, ◌++◌, ℕ, ℤ, pos, negsuc, ◌<◌, ◌^◌, List, [], ◌∷◌, ◌==◌, ◌+◌, get_or, if◌then◌else◌, ◌⊎◌, refl, sym, ap, subst, ◌∙◌, arith, inl, inr}
+use Rattle.std.specs.Prelude.{codes}
 use Rattle.std.proofs.lemmas.Int.{ints}
 use Rattle.std.proofs.lemmas.Fmt.{decimal_injective, signed_decimal_injective}
-use Rattle.std.proofs.lemmas.List.Elements.{All-nil, All-cons, All-head, All-tail}
+use Rattle.std.proofs.lemmas.List.Elements.{All-head, All-tail}
 use Rattle.std.proofs.lemmas.List.{append_cancel_left}
-use Rattle.desk_base.specs.Moments.{IsMoment}
 use Rattle.line_forms.specs.Contents.{content_line, IsContentLine}
 use Rattle.line_forms.specs.Cuts.{Lacks}
 use Rattle.line_forms.specs.Fields.{IsFirstField, field_text}
 use Rattle.line_forms.specs.Names.{IsRest}
 use Rattle.line_forms.specs.Versions.{IsVersion}
 use Rattle.line_forms.specs.Numbers.{IsNumber, IsMomentText, IsOffset, IsOffsetText}
+use Rattle.line_forms.proofs.Cutting.{IsCut-one, lacks_by}
+use Rattle.line_forms.proofs.PlainLemmas.{moment_mag}
 use Rattle.world_text.specs.declared.kind.Kind.{Kind}
 use Rattle.world_text.specs.declared.kind.Kind.TheVariants as kind
 use Rattle.world_text.specs.Rows.{keyword}
@@ -22,38 +20,12 @@ use Rattle.world_text.specs.Texts.{IsSystemLine}
 use Rattle.world_text.specs.Readings.{AreThree, IsVersioned}
 use lib.Signed.{mag}
 
-pub cons_head : {A : Type 0} (x y : A) (xs ys : List A) → x ∷ xs ≡ y ∷ ys → x ≡ y
-cons_head x y xs ys e = cc
-
-pub cons_tail : {A : Type 0} (x y : A) (xs ys : List A) → x ∷ xs ≡ y ∷ ys → xs ≡ ys
-cons_tail x y xs ys e = cc
-
 -- a fact about two texts, or three, holds of the same texts
 pub move2 : (P : List ℕ → List ℕ → Type 0) (a b x y : List ℕ) → a ≡ x → b ≡ y → P a b → P x y
 move2 P a b x y e f h = subst (λ t. P x t) f (subst (λ t. P t b) e h)
 
 pub move3 : (P : List ℕ → List ℕ → List ℕ → Type 0) (a b c x y z : List ℕ) → a ≡ x → b ≡ y → c ≡ z → P a b c → P x y z
 move3 P a b c x y z e f g h = subst (λ t. P x y t) g (subst (λ t. P x t c) f (subst (λ t. P t b c) e h))
-
--- a text is cut at its first space in one way
-one_cut : (first rest other left : List ℕ) → Lacks 32 first → Lacks 32 other → first ++ 32 ∷ rest ≡ other ++ 32 ∷ left → (other ≡ first) × (left ≡ rest)
-one_cut [] rest [] left a b e = (refl, cc)
-one_cut [] rest (y ∷ ys) left a b e = absurd (All-head (λ x. x ≢ 32) y ys b (cc))
-one_cut (x ∷ xs) rest [] left a b e = absurd (All-head (λ x. x ≢ 32) x xs a (cc))
-one_cut (x ∷ xs) rest (y ∷ ys) left a b e =
-    let more = one_cut xs rest ys left (All-tail (λ x. x ≢ 32) x xs a) (All-tail (λ x. x ≢ 32) y ys b) (cc) in
-    (cc, more.1)
-
-pub one_field : (text first rest other left : List ℕ) → IsFirstField text first rest → IsFirstField text other left → (other ≡ first) × (left ≡ rest)
-one_field text first rest other left a b = one_cut first rest other left a.0 b.0 (sym a.1 ∙ b.1)
-
--- a text lacks spaces
-pub lacks_by : (xs : List ℕ) → list_all (λ x. not (x == 32)) xs ≡ true → Lacks 32 xs
-lacks_by [] h = All-nil (λ x. x ≢ 32)
-lacks_by (x ∷ xs) h = elim (cases_eq x 32) [
-  | inl same ↦ absurd (grind (arith, nat_tests))
-  | inr other ↦ All-cons (λ x. x ≢ 32) x xs other (lacks_by xs (grind (arith, nat_tests)))
-]
 
 -- a text without spaces has no first field
 no_space : (first rest : List ℕ) → Lacks 32 (first ++ 32 ∷ rest) → ⊥
@@ -66,17 +38,14 @@ no_field text first rest lacks cut = no_space first rest (subst (Lacks 32) cut.1
 -- a version and a name, by the text's first field
 pub no_version : (text first rest version name : List ℕ) → IsFirstField text first rest → (IsVersion first → ⊥) → IsVersioned text version name → ⊥
 no_version text first rest version name cut none h =
-    let same = one_field text first rest version name cut h.0 in
+    let same = IsCut-one 32 text first rest version name cut h.0 in
     none (subst IsVersion same.0 h.1)
 
 pub no_name : (text first rest version name : List ℕ) → IsFirstField text first rest → (IsRest rest → ⊥) → IsVersioned text version name → ⊥
 no_name text first rest version name cut none h =
-    let same = one_field text first rest version name cut h.0 in
+    let same = IsCut-one 32 text first rest version name cut h.0 in
     let P : List ℕ → Type 0 = IsRest in
     none (subst P same.1 h.2)
-
-pub versioned_is : (text first rest version name : List ℕ) → IsFirstField text first rest → IsVersion first → version ≡ first → IsRest rest → name ≡ rest → IsVersioned text version name
-versioned_is text first rest version name cut is same good equal = move2 (λ v n. IsVersioned text v n) first rest version name (sym same) (sym equal) (cut, is, good)
 
 -- what follows the word of the operating system's line
 pub system_rest : (line rest version system : List ℕ) → line ≡ field_text (codes "system") ++ rest → IsSystemLine line version system → IsVersioned rest version system
@@ -86,25 +55,21 @@ system_rest line rest version system is h =
     subst P same (h.2, h.3, h.4)
 
 pub system_is : (line rest version system : List ℕ) → line ≡ field_text (codes "system") ++ rest → IsVersioned rest version system → IsSystemLine line version system
-system_is line rest version system is h = (rest, (lacks_by (codes "system") refl, is), h.0, h.1, h.2)
+system_is line rest version system is h = (rest, (lacks_by 32 (codes "system") refl, is), h.0, h.1, h.2)
 
 -- a text has two fields and a rest in one way
 pub three_one : (text a b c x y z : List ℕ) → AreThree text a b c → AreThree text x y z → (x ≡ a) × (y ≡ b) × (z ≡ c)
 three_one text a b c x y z h k =
-    let one = one_field text a h.0 x k.0 h.1 k.1 in
+    let one = IsCut-one 32 text a h.0 x k.0 h.1 k.1 in
     let P : List ℕ → Type 0 = λ m. IsFirstField m y z in
-    let two = one_field h.0 b c y z h.2 (subst P one.1 k.2) in
+    let two = IsCut-one 32 h.0 b c y z h.2 (subst P one.1 k.2) in
     (one.0, two.0, two.1)
 
 pub no_second : (text first rest a b c : List ℕ) → IsFirstField text first rest → Lacks 32 rest → AreThree text a b c → ⊥
 no_second text first rest a b c cut lacks h =
-    let same = one_field text first rest a h.0 cut h.1 in
+    let same = IsCut-one 32 text first rest a h.0 cut h.1 in
     let P : List ℕ → Type 0 = λ r. IsFirstField r b c in
     no_field rest b c lacks (subst P same.1 h.2)
-
-pub moment_mag : (z : ℤ) → IsMoment z → mag z < 2 ^ 63
-moment_mag (pos n) h = omega (arith, ints, h.1)
-moment_mag (negsuc n) h = omega (arith, ints, h.0)
 
 pub moment_one : (text : List ℕ) (m n : ℤ) → IsMomentText text m → IsMomentText text n → n ≡ m
 moment_one text m n h k = signed_decimal_injective n m (moment_mag n k.0) (moment_mag m h.0) (sym k.1 ∙ h.1)

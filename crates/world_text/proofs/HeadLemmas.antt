@@ -13,20 +13,21 @@ use Rattle.line_forms.specs.Fields.{IsFirstField}
 use Rattle.line_forms.specs.Names.{IsName, IsRest, is_name_byte}
 use Rattle.line_forms.specs.Numbers.{IsOffset}
 use Rattle.line_forms.specs.Versions.{IsVersion, IsVersionNumber}
+use Rattle.line_forms.proofs.Cutting.{IsCut-one, lacks_by}
 use Rattle.bf_world.specs.Worlds.{WorldState}
 use Rattle.world_text.specs.Drafts.{just}
 use Rattle.world_text.specs.Texts.{Head, IsHead, bare, IsNameLine, IsSystemLine, IsOffsetLine, IsMomentLine, Describes}
 use Rattle.world_text.specs.Readings.{world_line, name_line, offset_line, moment_line, end_line}
-use Rattle.world_text.proofs.FieldLemmas.{one_field, lacks_by, moment_one, offset_one}
+use Rattle.world_text.proofs.FieldLemmas.{moment_one, offset_one}
 
 pub is_name_line : (name : List ℕ) → IsName name → IsNameLine (name_line name) name
-is_name_line name h = (h, (lacks_by (codes "name") refl, refl))
+is_name_line name h = (h, (lacks_by 32 (codes "name") refl, refl))
 
 pub is_offset_line : (offset : ℤ) → IsOffset offset → IsOffsetLine (offset_line offset) offset
-is_offset_line offset h = (signed_decimal offset, (lacks_by (codes "offset") refl, refl), (h, refl))
+is_offset_line offset h = (signed_decimal offset, (lacks_by 32 (codes "offset") refl, refl), (h, refl))
 
 pub is_moment_line : (moment : ℤ) → IsMoment moment → IsMomentLine (moment_line moment) moment
-is_moment_line moment h = (signed_decimal moment, (lacks_by (codes "moment") refl, refl), (h, refl))
+is_moment_line moment h = (signed_decimal moment, (lacks_by 32 (codes "moment") refl, refl), (h, refl))
 
 -- a head by its lines
 pub head_by : (head : Head) (system : List ℕ) → IsName head.name → IsSystemLine system head.version head.system → IsOffset head.offset → IsMoment head.moment →
@@ -65,7 +66,7 @@ abbrev pub system_line : List ℕ
 system_line = codes "system 0 0"
 
 pub a_system : IsSystemLine system_line (48 ∷ []) (48 ∷ [])
-a_system = (codes "0 0", (lacks_by (codes "system") refl, refl), (lacks_by (48 ∷ []) refl, refl), a_version, a_rest)
+a_system = (codes "0 0", (lacks_by 32 (codes "system") refl, refl), (lacks_by 32 (48 ∷ []) refl, refl), a_version, a_rest)
 
 pub an_offset : IsOffset (pos 0)
 an_offset = (omega (arith, ints), omega (arith, ints))
@@ -92,24 +93,24 @@ whole first head h = record {
 }
 
 name_one : (line a b : List ℕ) → IsNameLine line a → IsNameLine line b → b ≡ a
-name_one line a b h k = (one_field line (codes "name") a (codes "name") b h.1 k.1).1
+name_one line a b h k = (IsCut-one 32 line (codes "name") a (codes "name") b h.1 k.1).1
 
 system_one : (line v s x y : List ℕ) → IsSystemLine line v s → IsSystemLine line x y → (x ≡ v) × (y ≡ s)
 system_one line v s x y h k =
-    let one = one_field line (codes "system") h.0 (codes "system") k.0 h.1 k.1 in
+    let one = IsCut-one 32 line (codes "system") h.0 (codes "system") k.0 h.1 k.1 in
     let P : List ℕ → Type 0 = λ r. IsFirstField r x y in
-    let two = one_field h.0 v s x y h.2 (subst P one.1 k.2) in
+    let two = IsCut-one 32 h.0 v s x y h.2 (subst P one.1 k.2) in
     (two.0, two.1)
 
 offset_line_one : (line : List ℕ) (a b : ℤ) → IsOffsetLine line a → IsOffsetLine line b → b ≡ a
 offset_line_one line a b h k =
-    let one = one_field line (codes "offset") h.0 (codes "offset") k.0 h.1 k.1 in
+    let one = IsCut-one 32 line (codes "offset") h.0 (codes "offset") k.0 h.1 k.1 in
     let same : k.0 ≡ h.0 = one.1 in
     offset_one h.0 a b h.2 (k.2.0, sym same ∙ k.2.1)
 
 moment_line_one : (line : List ℕ) (a b : ℤ) → IsMomentLine line a → IsMomentLine line b → b ≡ a
 moment_line_one line a b h k =
-    let one = one_field line (codes "moment") h.0 (codes "moment") k.0 h.1 k.1 in
+    let one = IsCut-one 32 line (codes "moment") h.0 (codes "moment") k.0 h.1 k.1 in
     let same : k.0 ≡ h.0 = one.1 in
     moment_one h.0 a b h.2 (k.2.0, sym same ∙ k.2.1)
 

@@ -4,11 +4,11 @@ use Rattle.std.specs.Prelude.{codes}
 use Rattle.std.specs.declared.result.Result.{Result}
 use Rattle.std.proofs.lemmas.List.{append_cancel_left, take-append-drop}
 use Rattle.line_forms.specs.BadLines.{Begins, AnswersBadLine}
-use Rattle.line_forms.specs.LineStates.{LineState, lines_of, unended_of}
+use Rattle.line_forms.specs.LineStates.{LineState, before_lines, lines_of}
 use Rattle.line_forms.specs.Fields.{field_text}
-use Rattle.line_forms.specs.Lines.{StandsBehind}
 use Rattle.line_forms.specs.Names.{IsName}
-use Rattle.line_forms.proofs.BadLines.{StandsBehind-start, StandsBehind-next, answers_bad_line-wrong}
+use Rattle.line_forms.proofs.BadLines.{answers_bad_line-wrong}
+use Rattle.line_forms.proofs.Passing.{cons_head, cons_tail, stands_behind}
 use Rattle.bf_world.specs.Worlds.{WorldState}
 use Rattle.world_text.specs.declared.draft.Draft.{Draft}
 use Rattle.world_text.specs.declared.draft.Pending.{Pending}
@@ -21,7 +21,6 @@ use Rattle.world_text.specs.Drafts.{just, world_of, with_pending}
 use Rattle.world_text.specs.Rows.{Adds, AddsFields, AddsAll}
 use Rattle.world_text.specs.Texts.{bare, Describes, AreWorldLines, AreNamedLines, ReadsWorld, ReadsNamedWorld}
 use Rattle.world_text.specs.Readings.{world_line, name_line, offset_line, moment_line, end_line, HasOtherName}
-use Rattle.world_text.proofs.FieldLemmas.{cons_head, cons_tail}
 use Rattle.world_text.proofs.HeadLemmas.{shape, system_line}
 use Rattle.world_text.proofs.StopLemmas.{named, named_is}
 
@@ -111,12 +110,9 @@ named_read name text old new (Err (error.BadLine n)) is start none reads =
     bad_named name text n is (λ other more other_is e. none other more other_is (start ∙ e)) reads
 named_read name text old new (Err error.Memory) is start none reads = tt
 
-pub other_named : (name text : List ℕ) (old new : LineState) → IsName name → old ≡ record { lines = lines_of text; unended = unended_of text; number = 1 } → HasOtherName name old new true →
-    AnswersBadLine (AreNamedLines name) text new.number
-other_named name text old new is start (takes, (other, more, other_is, differs, ahead)) =
-    let P : LineState → Type 0 = λ s. StandsBehind text [] s in
-    let stands = StandsBehind-next text world_line [] old new (subst P (sym start) (StandsBehind-start text)) takes in
-    answers_bad_line-wrong (AreNamedLines name) text (name_line other) (world_line ∷ []) more new stands ahead (begins_world name is)
+pub other_named : (name text : List ℕ) (new : LineState) → IsName name → HasOtherName name (before_lines text) new true → AnswersBadLine (AreNamedLines name) text new.number
+other_named name text new is (passes, (other, more, other_is, differs, ahead)) =
+    answers_bad_line-wrong (AreNamedLines name) text (name_line other) (world_line ∷ []) more new (stands_behind text (world_line ∷ []) new passes) ahead (begins_world name is)
     (λ (rest, (w, d, same)).
     let s = second (world_line ∷ name_line other ∷ rest) w d in
     let t = cons_head (name_line other) (name_line w.name) rest s.0 (cons_tail world_line world_line (name_line other ∷ rest) (name_line w.name ∷ s.0) s.1) in

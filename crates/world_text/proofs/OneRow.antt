@@ -3,6 +3,7 @@ use Rattle.std.proofs.Common.{◌≡◌, ℕ, ℤ, List, [], ◌∷◌, ◌++◌
 use Rattle.std.specs.Prelude.{codes}
 use Rattle.line_forms.specs.Fields.{IsFirstField}
 use Rattle.line_forms.specs.Lines.{ended_line}
+use Rattle.line_forms.proofs.Cutting.{IsCut-one}
 use Rattle.bf_world.specs.declared.parts.Program.{Program}
 use Rattle.bf_world.specs.Maps.{put}
 use Rattle.bf_world.specs.Worlds.{WorldState}
@@ -13,7 +14,7 @@ use Rattle.world_text.specs.declared.kind.Kind.{Kind}
 use Rattle.world_text.specs.declared.kind.Kind.TheVariants as kind
 use Rattle.world_text.specs.Drafts.{just, world_of}
 use Rattle.world_text.specs.Rows.{keyword, AddsFile, AddsPackage, AddsSetting, AddsProgram, AddsGives, AddsContent, AddsRow, AddsFields, Adds}
-use Rattle.world_text.proofs.FieldLemmas.{one_field, moment_one, number_one, content_one, keyword_one, content_not_kind, end_not_kind, end_not_content}
+use Rattle.world_text.proofs.FieldLemmas.{moment_one, number_one, content_one, keyword_one, content_not_kind, end_not_kind, end_not_content}
 use Rattle.world_text.proofs.RowLemmas.{file_at, package_at, setting_at, program_at, gives_at}
 
 file_one : (w : WorldState) (rest : List ℕ) (a b : Draft) → AddsFile w rest a → AddsFile w rest b → b ≡ a
@@ -77,7 +78,7 @@ fields_one kind.Gives d rest a b h k = gives_one d rest a b h k
 -- a line of a kind, cut into the word and the fields that are known
 pub row_at : (d : Draft) (line word rest : List ℕ) (new : Draft) → IsFirstField line word rest → AddsRow d line new → (k : Kind) × (word ≡ keyword k) × AddsFields k d rest new
 row_at d line word rest new cut a =
-    let same = one_field line word rest (keyword a.kind) a.rest cut a.fields in
+    let same = IsCut-one 32 line word rest (keyword a.kind) a.rest cut a.fields in
     let P : List ℕ → Type 0 = λ r. AddsFields a.kind d r new in
     (a.kind, sym same.0, subst P same.1 a.adds)
 

@@ -36,15 +36,6 @@ file_there w text path there same is truly h =
     let P : List ℕ → Type 0 = λ p. is_file w p ≡ true in
     no_file_at w text (subst P same (sym is ∙ truly)) h.absent
 
-is_false : (b : Bool) → b ≡ false → IsTrue b → ⊥
-is_false true e h = cc
-is_false false e h = cc
-
-pub parent_missing : (w : WorldState) (text path : List ℕ) (there : Bool) → path ≡ text → there ≡ has_parent w path → there ≡ false → IsNewPath w text → ⊥
-parent_missing w text path there same is falsely h =
-    let P : List ℕ → Type 0 = λ p. has_parent w p ≡ false in
-    is_false (has_parent w text) (subst P same (sym is ∙ falsely)) h.parent
-
 is_true : (b : Bool) → b ≡ true → IsTrue b
 is_true true e = e
 is_true false e = absurd (cc)

@@ -4,6 +4,7 @@ use Rattle.line_forms.specs.Fields.{IsFirstField}
 use Rattle.line_forms.specs.Names.{IsName, IsRest}
 use Rattle.line_forms.specs.Numbers.{IsNumber, IsMomentText}
 use Rattle.line_forms.specs.Versions.{IsVersion}
+use Rattle.line_forms.proofs.Cutting.{IsCut-one}
 use Rattle.bf_world.specs.declared.parts.Program.{Program}
 use Rattle.bf_world.specs.Maps.{at, put}
 use Rattle.bf_world.specs.Worlds.{WorldState}
@@ -12,7 +13,7 @@ use Rattle.world_text.specs.declared.draft.Pending.TheVariants as pending
 use Rattle.world_text.specs.Drafts.{just}
 use Rattle.world_text.specs.Rows.{IsNewPath, AddsFile, AddsPackage, AddsSetting, AddsProgram, AddsGives}
 use Rattle.world_text.specs.Readings.{AreThree}
-use Rattle.world_text.proofs.FieldLemmas.{one_field, move2, move3, three_one}
+use Rattle.world_text.proofs.FieldLemmas.{move2, move3, three_one}
 
 -- a key that is there isn't absent
 pub is_there : {V : Type 0} (m : List (List ℕ × V)) (key name : List ℕ) (there : Bool) → name ≡ key → there ≡ is_some (at name m) → there ≡ true → at key m ≡ None → ⊥
@@ -26,7 +27,7 @@ FileAt w field path new =
 
 pub file_at : (w : WorldState) (rest field path : List ℕ) (new : Draft) → IsFirstField rest field path → AddsFile w rest new → FileAt w field path new
 file_at w rest field path new cut a =
-    let same = one_field rest field path a.field a.path cut a.fields in
+    let same = IsCut-one 32 rest field path a.field a.path cut a.fields in
     move2 (λ f p. FileAt w f p new) a.field a.path field path same.0 same.1 (a.moment, a.moment_is, a.path_is, a.new_is)
 
 abbrev pub PackageAt : WorldState → List ℕ → List ℕ → Draft → Type 0
@@ -35,7 +36,7 @@ PackageAt w version name new =
 
 pub package_at : (w : WorldState) (rest version name : List ℕ) (new : Draft) → IsFirstField rest version name → AddsPackage w rest new → PackageAt w version name new
 package_at w rest version name new cut a =
-    let same = one_field rest version name a.version a.name cut a.fields in
+    let same = IsCut-one 32 rest version name a.version a.name cut a.fields in
     move2 (λ v n. PackageAt w v n new) a.version a.name version name same.0 same.1 (a.version_is, a.name_is, a.absent, a.new_is)
 
 abbrev pub SettingAt : WorldState → List ℕ → List ℕ → List ℕ → Draft → Type 0
@@ -65,5 +66,5 @@ GivesAt d version name new =
 
 pub gives_at : (d : Draft) (rest version name : List ℕ) (new : Draft) → IsFirstField rest version name → AddsGives d rest new → GivesAt d version name new
 gives_at d rest version name new cut a =
-    let same = one_field rest version name a.version a.name cut a.fields in
+    let same = IsCut-one 32 rest version name a.version a.name cut a.fields in
     move2 (λ v n. GivesAt d v n new) a.version a.name version name same.0 same.1 (a.line, a.program, a.pending_is, a.version_is, a.name_is, a.new_is)

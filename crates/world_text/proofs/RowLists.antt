@@ -1,9 +1,9 @@
 -- What some lines add, one after another.
 use Rattle.std.proofs.Common.{◌≡◌, ℕ, List, [], ◌∷◌, ◌++◌, ◌⊎◌, inl, inr, refl, sym, subst, ◌∙◌}
+use Rattle.line_forms.proofs.Passing.{cons_head, cons_tail}
 use Rattle.world_text.specs.declared.draft.Draft.{Draft}
 use Rattle.world_text.specs.Rows.{Adds, AddsAll}
 use Rattle.world_text.specs.Readings.{end_line}
-use Rattle.world_text.proofs.FieldLemmas.{cons_head, cons_tail}
 use Rattle.world_text.proofs.OneRow.{adds_one, end_adds_none}
 
 pub all_snoc : (rows : List (List ℕ)) (line : List ℕ) (d mid last : Draft) → AddsAll d rows mid → Adds mid line last → AddsAll d (rows ++ line ∷ []) last

@@ -4,10 +4,10 @@ use Rattle.std.specs.Prelude.{codes}
 use Rattle.std.proofs.Math.Seq.{take-suc}
 use Rattle.std.proofs.lemmas.List.{take-append-drop}
 use Rattle.std.proofs.lemmas.List.Elements.{All-head, All-tail, All-nil, All-cons}
-use Rattle.line_forms.specs.Cuts.{Lacks, IsCut, pieces}
-use Rattle.line_forms.specs.LineStates.{front_of, lines_of}
+use Rattle.line_forms.specs.Cuts.{Lacks, IsCut}
+use Rattle.line_forms.specs.LineStates.{lines_of}
 use Rattle.line_forms.specs.Lines.{IsLine, ended_line, lines_text}
-use Rattle.line_forms.proofs.Pieces.{pieces-none, pieces-cut, pieces-some}
+use Rattle.line_forms.proofs.LineLemmas.{lines_of-cut, lines_of-none, lines_text-snoc}
 use Rattle.world_text.specs.Fronts.{AreBeforeEnd, EndsAtEnd, Splits}
 
 -- where the first LF stands at i, the text is cut there
@@ -24,10 +24,6 @@ lacks_all [] none = All-nil (λ y. y ≢ 10)
 lacks_all (x ∷ xs) none = All-cons (λ y. y ≢ 10) x xs (none zero (omega arith)) (lacks_all xs (λ k below. none (suc k) (omega arith)))
 
 -- lines and one more
-lines_text-push : (lines : List (List ℕ)) (line : List ℕ) → lines_text (lines ++ line ∷ []) ≡ lines_text lines ++ ended_line line
-lines_text-push [] line = simp append_assoc
-lines_text-push (x ∷ xs) line = ap (λ l. ended_line x ++ l) (lines_text-push xs line) ∙ sym (append_assoc (ended_line x) (lines_text xs) (ended_line line))
-
 All-push : (P : List ℕ → Type 0) (lines : List (List ℕ)) (line : List ℕ) → All P lines → P line → All P (lines ++ line ∷ [])
 All-push P [] line all is = All-cons P line [] is (All-nil P)
 All-push P (x ∷ xs) line all is = All-cons P x (xs ++ line ∷ []) (All-head P x xs all) (All-push P xs line (All-tail P x xs all) is)
@@ -48,7 +44,7 @@ behind_next text line behind is other = record {
   lines = behind.lines ++ line ∷ [];
   are = All-push IsLine behind.lines line behind.are is;
   before = All-push (λ l. l ≢ codes "end") behind.lines line behind.before other;
-  is = ap (λ l. l ++ ended_line line) behind.is ∙ sym (lines_text-push behind.lines line);
+  is = ap (λ l. l ++ ended_line line) behind.is ∙ sym (lines_text-snoc behind.lines line);
 }
 
 -- the line `end`
@@ -57,19 +53,8 @@ behind_end text line behind is = (
   behind.lines,
   behind.are,
   behind.before,
-  ap (λ l. text ++ ended_line l) is ∙ ap (λ l. l ++ ended_line (codes "end")) behind.is ∙ sym (lines_text-push behind.lines (codes "end")),
+  ap (λ l. text ++ ended_line l) is ∙ ap (λ l. l ++ ended_line (codes "end")) behind.is ∙ sym (lines_text-snoc behind.lines (codes "end")),
 )
-
--- a line at the front of a text
-front_of-cons : (x : List ℕ) (xs : List (List ℕ)) → 0 < length xs → front_of (x ∷ xs) ≡ x ∷ front_of xs
-front_of-cons x [] some = absurd (omega arith)
-front_of-cons x (y ∷ ys) some = refl
-
-lines_of-cut : (text line rest : List ℕ) → IsCut 10 text line rest → lines_of text ≡ line ∷ lines_of rest
-lines_of-cut text line rest cut = ap front_of (pieces-cut 10 text line rest cut) ∙ front_of-cons line (pieces 10 rest) (pieces-some 10 rest)
-
-lines_of-none : (text : List ℕ) → Lacks 10 text → lines_of text ≡ []
-lines_of-none text lacks = ap front_of (pieces-none 10 text lacks)
 
 -- the lines of a text that begins with these
 lines_of-after : (lines : List (List ℕ)) (rest : List ℕ) → All IsLine lines → lines_of (lines_text lines ++ rest) ≡ lines ++ lines_of rest
@@ -79,15 +64,11 @@ lines_of-after (line ∷ lines) rest all =
     (All-head IsLine line lines all, append_assoc (ended_line line) (lines_text lines) rest ∙ append_assoc line (10 ∷ []) (lines_text lines ++ rest))
     ∙ ap (λ l. line ∷ l) (lines_of-after lines rest (All-tail IsLine line lines all))
 
-append_nil : (lines : List (List ℕ)) → lines ++ [] ≡ lines
-append_nil [] = refl
-append_nil (x ∷ xs) = ap (λ l. x ∷ l) (append_nil xs)
-
 -- no line is left
 behind_none : (text rest : List ℕ) → IsBehind text → Lacks 10 rest → AreBeforeEnd (lines_of (text ++ rest))
 behind_none text rest behind lacks =
     let e : lines_of (text ++ rest) ≡ behind.lines =
-    ap (λ l. lines_of (l ++ rest)) behind.is ∙ lines_of-after behind.lines rest behind.are ∙ ap (λ l. behind.lines ++ l) (lines_of-none rest lacks) ∙ append_nil behind.lines in
+    ap (λ l. lines_of (l ++ rest)) behind.is ∙ lines_of-after behind.lines rest behind.are ∙ ap (λ l. behind.lines ++ l) (lines_of-none rest lacks) ∙ append-nil behind.lines in
     let P : List (List ℕ) → Type 0 = AreBeforeEnd in
     subst P (sym e) behind.before
 

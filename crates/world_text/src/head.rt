@@ -3,9 +3,9 @@ ghost use Rattle.desk_base.specs.Moments.{IsMoment};
 ghost use Rattle.line_forms.specs.Names.{IsName};
 ghost use Rattle.line_forms.specs.Numbers.{IsOffset};
 ghost use Rattle.world_text.specs.Texts.{IsSystemLine};
-ghost use Rattle.world_text.specs.Readings.{Spells, TakesOne, TakesSystem, ReadsHead, name_line, offset_line, moment_line};
+ghost use Rattle.line_forms.specs.Readers.{Spells, TakesOne};
+ghost use Rattle.world_text.specs.Readings.{TakesSystem, ReadsHead, name_line, offset_line, moment_line};
 
-use crate::ahead::{line_ahead, skip_line, take_word};
 use crate::fields::{Versioned, read_versioned};
 use line_forms::{Lines, after_word, read_moment, read_name, read_offset};
 
@@ -23,7 +23,7 @@ pub(crate) struct HeadText<'a> {
 pub(crate) fn read_head<'a>(lines: &mut Lines<'a>) -> Option<HeadText<'a>>
     ensures { ReadsHead lines.old lines.new result }
 {
-    if !take_word(lines, b"world") {
+    if !lines.take_exactly(b"world") {
         return None;
     }
     let Some(name) = take_name(lines) else {
@@ -83,8 +83,8 @@ fn read_moment_line(line: &[u8]) -> Option<i64>
 fn take_name<'a>(lines: &mut Lines<'a>) -> Option<&'a str>
     ensures { TakesOne IsName name_line lines.old lines.new (option_copied result) }
 {
-    let name = read_name_line(line_ahead(lines)?)?;
-    skip_line(lines);
+    let name = read_name_line(lines.line_ahead()?)?;
+    lines.skip_line();
     Some(name)
 }
 
@@ -92,13 +92,13 @@ fn take_name<'a>(lines: &mut Lines<'a>) -> Option<&'a str>
 fn take_system<'a>(lines: &mut Lines<'a>) -> Option<Versioned<'a>>
     ensures { TakesSystem lines.old lines.new result }
 {
-    let Some(line) = line_ahead(lines) else {
+    let Some(line) = lines.line_ahead() else {
         return None;
     };
     let Some(system) = read_system_line(line) else {
         return None;
     };
-    skip_line(lines);
+    lines.skip_line();
     Some(system)
 }
 
@@ -106,8 +106,8 @@ fn take_system<'a>(lines: &mut Lines<'a>) -> Option<Versioned<'a>>
 fn take_offset(lines: &mut Lines<'_>) -> Option<i64>
     ensures { TakesOne IsOffset offset_line lines.old lines.new result }
 {
-    let offset = read_offset_line(line_ahead(lines)?)?;
-    skip_line(lines);
+    let offset = read_offset_line(lines.line_ahead()?)?;
+    lines.skip_line();
     Some(offset)
 }
 
@@ -115,7 +115,7 @@ fn take_offset(lines: &mut Lines<'_>) -> Option<i64>
 fn take_moment(lines: &mut Lines<'_>) -> Option<i64>
     ensures { TakesOne IsMoment moment_line lines.old lines.new result }
 {
-    let moment = read_moment_line(line_ahead(lines)?)?;
-    skip_line(lines);
+    let moment = read_moment_line(lines.line_ahead()?)?;
+    lines.skip_line();
     Some(moment)
 }

@@ -2,7 +2,6 @@ ghost use Rattle.line_forms.specs.Names.{IsName};
 ghost use Rattle.world_text.specs.Texts.{ReadsNamedWorld};
 ghost use Rattle.world_text.specs.Readings.{HasOtherName};
 
-use crate::ahead::{line_ahead, take_word};
 use crate::error::WorldError;
 use crate::head::read_name_line;
 use crate::read::read_world;
@@ -26,10 +25,10 @@ pub fn read_named_world(alloc: Global, name: &str, text: &[u8]) -> Result<World,
 fn has_other_name(lines: &mut Lines<'_>, name: &str) -> bool
     ensures { HasOtherName name.now lines.old lines.new result }
 {
-    if !take_word(lines, b"world") {
+    if !lines.take_exactly(b"world") {
         return false;
     }
-    let Some(line) = line_ahead(lines) else {
+    let Some(line) = lines.line_ahead() else {
         return false;
     };
     let Some(other) = read_name_line(line) else {

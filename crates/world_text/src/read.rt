@@ -1,30 +1,45 @@
+ghost use Rattle.std.specs.Prelude.{option_copied};
 ghost use Rattle.world_text.specs.Drafts.{IsSoundPending};
 ghost use Rattle.world_text.specs.Texts.{ReadsWorld};
-ghost use Rattle.world_text.specs.Readings.{ReadsLines, ReadsBody, ReadsRows};
+ghost use Rattle.world_text.specs.Readings.{IsRowAhead, ReadsLines, ReadsBody, ReadsRows};
 
-use crate::ahead::{row_ahead, skip_line, take_end};
 use crate::draft::Draft;
 use crate::error::WorldError;
 use crate::fault::Fault;
 use crate::head::read_head;
 use bf_world::World;
-use line_forms::Lines;
+use line_forms::{LineForm, Lines, a_cursor_stands_at_the_bad_line};
 use rel_lexer::Text;
 use std::alloc::Global;
+
+/// The texts of worlds, as a set of texts made of lines.
+pub struct WorldLines;
+
+impl LineForm for WorldLines {
+    ghost use Rattle.world_text.specs.Texts.{AreWorldLines};
+
+    ghost are_good = { λ lines. AreWorldLines lines };
+}
 
 /// Reads a world text, whose last line is `end`. A text that describes no machine is answered by its first bad line.
 pub fn read_world(alloc: Global, text: &[u8]) -> Result<World, WorldError>
     ensures { ReadsWorld text.now result }
 {
+    // what a cursor that is stuck, or has read a whole world, says of the text
+    a_cursor_stands_at_the_bad_line::<WorldLines>();
     let mut lines = Lines::new(text);
-    match read_lines(alloc, &mut lines) {
-        Ok(world) => Ok(world),
-        Err(Fault::Bad) => Err(WorldError::BadLine(lines.number())),
-        Err(Fault::Memory) => Err(WorldError::Memory),
+    let world = match read_lines(alloc, &mut lines) {
+        Ok(world) => world,
+        Err(Fault::Bad) => return Err(WorldError::BadLine(lines.number())),
+        Err(Fault::Memory) => return Err(WorldError::Memory),
+    };
+    if !lines.is_over() {
+        return Err(WorldError::BadLine(lines.number()));
     }
+    Ok(world)
 }
 
-/// Reads the lines of a world. Where they aren't one, the first bad line is ahead afterwards.
+/// Takes the lines of a world, which others may follow. Where those ahead aren't one, the first bad line is ahead afterwards.
 fn read_lines(alloc: Global, lines: &mut Lines<'_>) -> Result<World, Fault>
     ensures { ReadsLines lines.old lines.new result }
 {
@@ -42,13 +57,13 @@ fn read_lines(alloc: Global, lines: &mut Lines<'_>) -> Result<World, Fault>
     }
 }
 
-/// Adds the lines behind a head to its world, and takes `end`, which is to end the text.
+/// Adds the lines behind a head to its world, and takes `end`.
 fn read_body(alloc: Global, draft: &mut Draft, lines: &mut Lines<'_>) -> Result<(), Fault>
     requires { IsSoundPending draft.old.pending }
     ensures { ReadsBody draft.old lines.old lines.new draft.new result }
 {
     read_rows(alloc, draft, lines)?;
-    if !take_end(lines) {
+    if !lines.take_exactly(b"end") {
         return Err(Fault::Bad);
     }
     draft.settle()?;
@@ -62,7 +77,18 @@ fn read_rows(alloc: Global, draft: &mut Draft, lines: &mut Lines<'_>) -> Result<
 {
     while let Some(line) = row_ahead(lines) {
         draft.add_line(alloc, line)?;
-        skip_line(lines);
+        lines.skip_line();
     }
     Ok(())
+}
+
+/// The line ahead, if there is one other than `end`.
+fn row_ahead<'a>(lines: &Lines<'a>) -> Option<&'a [u8]>
+    ensures { IsRowAhead lines.now (option_copied result) }
+{
+    let line = lines.line_ahead()?;
+    if line == b"end".as_slice() {
+        return None;
+    }
+    Some(line)
 }

@@ -2,7 +2,8 @@ use Rattle.std.proofs.Common.{ℕ, List, sym, subst, w64, to_z, of_z}
 use Rattle.std.proofs.lemmas.Int.{to_z-of_z}
 use Rattle.line_forms.specs.Versions.{IsVersion}
 use Rattle.world_text.specs.Readings.{head_of}
-use Rattle.world_text.proofs.FieldLemmas.{offset_mag, moment_mag}
+use Rattle.line_forms.proofs.PlainLemmas.{moment_mag}
+use Rattle.world_text.proofs.FieldLemmas.{offset_mag}
 use Rattle.world_text.proofs.PassLemmas.{start_is, lines_read, lines_fail}
 use Rattle.world_text.proofs.read.read_lines.Goals as goal
 
