@@ -1,13 +1,8 @@
 -- No LF stands in a line of a report.
-use Rattle.std.proofs.Common.{ℕ, ◌≡◌, ◌≢◌, ◌≤◌, ◌==◌, List, [], ◌∷◌, ◌++◌, true, refl, ap, sym, ◌∙◌, arith, All, ◌⊎◌, inl, inr, map, length, append-nil, Ok, Err}
+use Rattle.std.proofs.Common.{ℕ, ◌≡◌, ◌≢◌, ◌≤◌, List, [], ◌∷◌, ◌++◌, refl, ap, sym, ◌∙◌, arith, All, ◌⊎◌, inl, inr, map, length, append-nil, Ok, Err}
 use Rattle.std.specs.declared.result.Result.{Result}
-use Rattle.std.specs.List.{list_all}
-use Rattle.std.specs.Prelude.{codes, decimal, not}
-use Rattle.std.proofs.lemmas.Bool.{cases_eq}
-use Rattle.std.proofs.lemmas.Bool.Decides.{nat_tests}
-use Rattle.std.proofs.lemmas.List.Elements.{All-nil, All-cons, All-append, All-head, All-tail, All-weaker}
-use Rattle.line_forms.specs.Cuts.{Lacks}
-use Rattle.line_forms.specs.Names.{is_name_byte}
+use Rattle.std.specs.Prelude.{codes, decimal}
+use Rattle.std.proofs.lemmas.List.Elements.{All-nil, All-cons, All-append, All-head, All-tail}
 use Rattle.line_forms.specs.Fields.{field_text}
 use Rattle.line_forms.specs.FieldLists.{line_of}
 use Rattle.line_forms.specs.Lines.{IsLine, lines_text}
@@ -19,39 +14,23 @@ use Rattle.report_text.specs.declared.report_row.ReportRow.{ReportRow}
 use Rattle.report_text.specs.ReportRows.{IsReportRow}
 use Rattle.report_text.specs.RowLines.{row_fields, row_line}
 use Rattle.report_text.specs.Reports.{IsReport, AreReportLines, ReadsReport, form_line, computer_line, seq_line, end_line, report_lines, report_text}
-use Rattle.report_text.proofs.FieldLemmas.{IsPlain, lacks_plain, plain_decimal}
 use Rattle.report_text.specs.declared.error.ReportError.{ReportError}
 use Rattle.report_text.specs.declared.error.ReportError.TheVariants as error
 use Rattle.line_forms.proofs.BadLines.{first_bad_line-none}
+use Rattle.line_forms.proofs.Cutting.{lacks_by}
+use Rattle.line_forms.proofs.PlainLemmas.{lacks_fields, lacks_plain, plain_id, plain_name}
 use Rattle.report_text.proofs.RowLemmas.{plain_row}
 use Rattle.report_text.proofs.StopLemmas.{report_one}
 
-lacks_by : (xs : List ℕ) → list_all (λ x. not (x == 10)) xs ≡ true → Lacks 10 xs
-lacks_by [] h = All-nil (λ x. x ≢ 10)
-lacks_by (x ∷ xs) h = elim (cases_eq x 10) [
-  | inl same ↦ absurd (grind (arith, nat_tests))
-  | inr other ↦ All-cons (λ x. x ≢ 10) x xs other (lacks_by xs (grind (arith, nat_tests)))
-]
-
-lacks_fields : (fields : List (List ℕ)) → All IsPlain fields → Lacks 10 (line_of fields)
-lacks_fields [] h = All-nil (λ x. x ≢ 10)
-lacks_fields (x ∷ []) h = lacks_plain 10 x (omega arith) (All-head IsPlain x [] h)
-lacks_fields (x ∷ y ∷ fields) h =
-    All-append (λ x. x ≢ 10) x (32 ∷ line_of (y ∷ fields)) (lacks_plain 10 x (omega arith) (All-head IsPlain x (y ∷ fields) h))
-    (All-cons (λ x. x ≢ 10) 32 (line_of (y ∷ fields)) (omega arith) (lacks_fields (y ∷ fields) (All-tail IsPlain x (y ∷ fields) h)))
-
-name_byte : (byte : ℕ) → is_name_byte byte ≡ true → 45 ≤ byte
-name_byte byte h = grind (arith, nat_tests)
-
 lacks_form : (form : Form) → IsLine (form_line form)
-lacks_form One = lacks_by (form_line One) refl
-lacks_form Two = lacks_by (form_line Two) refl
+lacks_form One = lacks_by 10 (form_line One) refl
+lacks_form Two = lacks_by 10 (form_line Two) refl
 
 rows_lines : (form : Form) (rows : List ReportRow) → All (IsReportRow form) rows → All IsLine (map (row_line form) rows ++ end_line ∷ [])
-rows_lines form [] h = All-cons IsLine end_line [] (lacks_by end_line refl) (All-nil IsLine)
+rows_lines form [] h = All-cons IsLine end_line [] (lacks_by 10 end_line refl) (All-nil IsLine)
 rows_lines form (row ∷ rows) h =
     All-cons IsLine (row_line form row) (map (row_line form) rows ++ end_line ∷ [])
-    (All-append (λ x. x ≢ 10) (field_text (codes "row")) (line_of (row_fields form row)) (lacks_by (field_text (codes "row")) refl) (lacks_fields (row_fields form row) (plain_row form row (All-head (IsReportRow form) row rows h))))
+    (All-append (λ x. x ≢ 10) (field_text (codes "row")) (line_of (row_fields form row)) (lacks_by 10 (field_text (codes "row")) refl) (lacks_fields (row_fields form row) (plain_row form row (All-head (IsReportRow form) row rows h))))
     (rows_lines form rows (All-tail (IsReportRow form) row rows h))
 
 pub are_lines : (report : Report) → IsReport report → All IsLine (report_lines report)
@@ -59,10 +38,10 @@ are_lines report good =
     let behind = map (row_line report.form) report.rows ++ end_line ∷ [] in
     All-cons IsLine (form_line report.form) (computer_line report.computer ∷ seq_line report.seq ∷ behind) (lacks_form report.form)
     (All-cons IsLine (computer_line report.computer) (seq_line report.seq ∷ behind)
-    (All-append (λ x. x ≢ 10) (field_text (codes "computer")) report.computer (lacks_by (field_text (codes "computer")) refl)
-    (All-weaker (λ x. is_name_byte x ≡ true) (λ x. x ≢ 10) (λ x h e. let k = name_byte x h in omega arith) report.computer good.computer.2))
+    (All-append (λ x. x ≢ 10) (field_text (codes "computer")) report.computer (lacks_by 10 (field_text (codes "computer")) refl)
+    (lacks_plain 10 report.computer (omega arith) (plain_name report.computer good.computer)))
     (All-cons IsLine (seq_line report.seq) behind
-    (All-append (λ x. x ≢ 10) (field_text (codes "seq")) (decimal report.seq) (lacks_by (field_text (codes "seq")) refl) (lacks_plain 10 (decimal report.seq) (omega arith) (plain_decimal report.seq (omega (arith, good.seq.1)))))
+    (All-append (λ x. x ≢ 10) (field_text (codes "seq")) (decimal report.seq) (lacks_by 10 (field_text (codes "seq")) refl) (lacks_plain 10 (decimal report.seq) (omega arith) (plain_id report.seq good.seq)))
     (rows_lines report.form report.rows good.rows.good)))
 
 -- the lines of a report are those of its text

@@ -1,10 +1,10 @@
 -- Going over the lines of a report, and what is read there.
-use Rattle.std.proofs.Common.{ℕ, ◌≡◌, List, [], ◌∷◌, ◌++◌, false, true, refl, sym, ap, subst, ◌∙◌, map}
+use Rattle.std.proofs.Common.{ℕ, ◌≡◌, List, [], ◌∷◌, ◌++◌, false, true, sym, subst, ◌∙◌, map}
 use Rattle.line_forms.specs.Names.{IsName}
 use Rattle.line_forms.specs.Numbers.{IsId}
 use Rattle.line_forms.specs.LineStates.{LineState}
-use Rattle.line_forms.specs.Readers.{IsAny, IsNotAhead, IsStuck, Passes, StopsAt, TakesExactly}
-use Rattle.line_forms.proofs.Passing.{cons_head, passes_none, passes_then}
+use Rattle.line_forms.specs.Readers.{IsAny, IsNotAhead, IsStuck, Passes, TakesExactly}
+use Rattle.line_forms.proofs.Passing.{cons_head, map_snoc, passes_none, passes_then, stays}
 use Rattle.report_text.specs.declared.form.Form.{Form}
 use Rattle.report_text.specs.declared.report.Report.{Report}
 use Rattle.report_text.specs.declared.report_row.ReportRow.{ReportRow}
@@ -16,35 +16,20 @@ use Rattle.report_text.proofs.RowLemmas.{row_one}
 use Rattle.report_text.proofs.GrammarLemmas.{rows_snoc}
 use Rattle.report_text.proofs.StopLemmas.{front, stops_form, stops_computer, stops_seq, stops_rows}
 
-map_snoc : (form : Form) (rows : List ReportRow) (row : ReportRow) → map (row_line form) (rows ++ row ∷ []) ≡ map (row_line form) rows ++ row_line form row ∷ []
-map_snoc form [] row = refl
-map_snoc form (x ∷ rows) row = ap (λ l. row_line form x ∷ l) (map_snoc form rows row)
-
 passes_row : (a b c : LineState) (form : Form) (rows : List ReportRow) (row : ReportRow) → Passes a b (map (row_line form) rows) → Passes b c (row_line form row ∷ []) → Passes a c (map (row_line form) (rows ++ row ∷ []))
-passes_row a b c form rows row h one = subst (Passes a c) (sym (map_snoc form rows row)) (passes_then a b c _ _ h one)
-
--- the line ahead was taken, and is that of this value
-pub takes_it : {V : Type 0} (line_of : V → List ℕ) (old new : LineState) (line : List ℕ) (more : List (List ℕ)) (value : V) → old.lines ≡ line ∷ more → line ≡ line_of value →
-    ((line : List ℕ) (more : List (List ℕ)) → old.lines ≡ line ∷ more → Passes old new (line ∷ [])) → Passes old new (line_of value ∷ [])
-takes_it line_of old new line more value ahead is takes = takes (line_of value) more (ahead ∙ ap (λ l. l ∷ more) is)
-
--- the cursor stayed where it was, and is stuck there
-stays : (old mid new : LineState) (before : List (List ℕ)) → new ≡ mid → Passes old mid before → StopsAt AreReportLines before mid → IsStuck AreReportLines old new
-stays old mid new before same passes stops =
-    let P : LineState → Type 0 = λ s. IsStuck AreReportLines old s in
-    subst P (sym same) (before, passes, stops)
+passes_row a b c form rows row h one = subst (Passes a c) (sym (map_snoc (row_line form) rows row)) (passes_then a b c _ _ h one)
 
 pub no_form : (old new : LineState) → (new ≡ old) × IsNotAhead IsAny form_line old → IsStuck AreReportLines old new
-no_form old new none = stays old old new [] none.0 (passes_none old) (stops_form old (λ form more h. none.1 form more tt h))
+no_form old new none = stays AreReportLines old old new [] none.0 (passes_none old) (stops_form old (λ form more h. none.1 form more tt h))
 
 pub no_computer : (old mid new : LineState) (form : Form) → Passes old mid (form_line form ∷ []) → (new ≡ mid) × IsNotAhead IsName computer_line mid → IsStuck AreReportLines old new
 no_computer old mid new form one none =
-    stays old mid new (form_line form ∷ []) none.0 one (stops_computer form mid (λ computer more name h. none.1 computer more name h))
+    stays AreReportLines old mid new (form_line form ∷ []) none.0 one (stops_computer form mid (λ computer more name h. none.1 computer more name h))
 
 pub no_seq : (old a mid new : LineState) (form : Form) (computer : List ℕ) → Passes old a (form_line form ∷ []) → IsName computer → Passes a mid (computer_line computer ∷ []) →
     (new ≡ mid) × IsNotAhead IsId seq_line mid → IsStuck AreReportLines old new
 no_seq old a mid new form computer one name two none =
-    stays old mid new (form_line form ∷ computer_line computer ∷ []) none.0 (passes_then old a mid (form_line form ∷ []) (computer_line computer ∷ []) one two)
+    stays AreReportLines old mid new (form_line form ∷ computer_line computer ∷ []) none.0 (passes_then old a mid (form_line form ∷ []) (computer_line computer ∷ []) one two)
     (stops_seq form computer mid name (λ seq more id h. none.1 seq more id h))
 
 -- the lines before the last one
@@ -58,7 +43,7 @@ passes_front old a b d e form computer seq rows one two three taken =
 pub no_end : (old a b d e new : LineState) (form : Form) (computer : List ℕ) (seq : ℕ) (rows : List ReportRow) → Passes old a (form_line form ∷ []) → IsName computer → Passes a b (computer_line computer ∷ []) → IsId seq →
     Passes b d (seq_line seq ∷ []) → TakesRows form d e rows → TakesExactly end_line e new false → IsStuck AreReportLines old new
 no_end old a b d e new form computer seq rows one name two id three taken none =
-    stays old e new (front form computer seq rows) none.0 (passes_front old a b d e form computer seq rows one two three taken)
+    stays AreReportLines old e new (front form computer seq rows) none.0 (passes_front old a b d e form computer seq rows one two three taken)
     (stops_rows form computer seq rows e name id taken.0 (λ row more can is. taken.2 row more can is) none.1)
 
 pub whole : (old a b d e new : LineState) (form : Form) (computer : List ℕ) (seq : ℕ) (rows : List ReportRow) → Passes old a (form_line form ∷ []) → IsName computer → Passes a b (computer_line computer ∷ []) → IsId seq →

@@ -9,6 +9,7 @@ use Rattle.line_forms.specs.Cuts.{Lacks}
 use Rattle.line_forms.specs.Fields.{field_text}
 use Rattle.line_forms.specs.FieldLists.{fields_of, line_of}
 use Rattle.line_forms.proofs.Pieces.{pieces-join}
+use Rattle.line_forms.proofs.PlainLemmas.{IsPlain, lacks_plain, moment_one, plain_decimal, plain_moment}
 use Rattle.act_rules.specs.declared.row.Note.{Note}
 use Rattle.act_rules.specs.declared.row.Outcome.{Outcome}
 use Rattle.act_rules.specs.declared.row.Outcome.TheVariants.{Fixed, Failed, Interrupted}
@@ -18,7 +19,7 @@ use Rattle.report_text.specs.declared.report_row.ReportRow.{ReportRow}
 use Rattle.report_text.specs.ReportRows.{IsExit, IsPlace, IsNoteAt, IsNoteIn, IsReportRow}
 use Rattle.report_text.specs.RowLines.{added_fields, outcome_field, end_field, row_fields, row_line, exit_field, component_field, line_field}
 use Rattle.report_text.specs.Reports.{end_line}
-use Rattle.report_text.proofs.FieldLemmas.{IsPlain, lacks_plain, plain_decimal, plain_outcome, plain_end, plain_moment, plain_exit, plain_component, plain_line, end_one, exit_one, place_one, moment_one}
+use Rattle.report_text.proofs.FieldLemmas.{plain_outcome, plain_end, plain_exit, plain_component, plain_line, end_one, exit_one, place_one}
 
 pub cons_head : {A : Type 0} (x y : A) (xs ys : List A) → x ∷ xs ≡ y ∷ ys → x ≡ y
 cons_head x y xs ys h = cc

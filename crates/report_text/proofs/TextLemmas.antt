@@ -1,10 +1,12 @@
 -- The texts that are written.
-use Rattle.std.proofs.Common.{ℕ, ◌≡◌, ◌+◌, ◌<◌, List, [], ◌∷◌, ◌++◌, length, Bool, false, refl, sym, ap, ◌∙◌, take, get_or, map, append_assoc, append-nil}
-use Rattle.std.specs.Prelude.{codes, decimal, IsTrue, ◌↔◌}
+use Rattle.std.proofs.Common.{ℕ, ◌≡◌, ◌+◌, ◌<◌, List, [], ◌∷◌, ◌++◌, length, refl, sym, ap, ◌∙◌, take, get_or, map, append_assoc, append-nil}
+use Rattle.std.specs.Prelude.{codes, decimal}
 use Rattle.std.specs.Fmt.{signed_decimal}
 use Rattle.std.proofs.lemmas.List.{take_more}
 use Rattle.line_forms.specs.FieldLists.{line_of}
 use Rattle.line_forms.specs.Lines.{ended_line, lines_text}
+use Rattle.line_forms.proofs.LineLemmas.{lines_text-snoc}
+use Rattle.line_forms.proofs.Passing.{map_snoc}
 use Rattle.act_rules.specs.declared.row.Note.{Note}
 use Rattle.report_text.specs.declared.form.Form.{Form}
 use Rattle.report_text.specs.declared.form.Form.TheVariants.{One, Two}
@@ -13,9 +15,6 @@ use Rattle.report_text.specs.declared.report_row.ReportRow.{ReportRow}
 use Rattle.report_text.specs.RowLines.{row_line, row_fields, added_fields, outcome_field, end_field}
 use Rattle.report_text.specs.Reports.{report_text, form_line, computer_line, seq_line, end_line}
 use Rattle.report_text.specs.Writings.{added_text, fields_text, head_text}
-
-pub not_so : (b : Bool) (P : Type 0) → b ≡ false → (IsTrue b ↔ P) → P → ⊥
-not_so b P fails says h = let yes : IsTrue b = says.1 h in cc
 
 -- a field, and what a form adds behind it
 pub added_line : (form : Form) (field : List ℕ) (note : Note) → line_of (field ∷ added_fields form note) ≡ field ++ added_text form note
@@ -31,15 +30,6 @@ fields_in_parts form row =
     regrouped : (a b c d e f : List ℕ) → a ++ 32 ∷ (b ++ 32 ∷ (c ++ 32 ∷ (d ++ 32 ∷ (e ++ f)))) ≡ (a ++ 32 ∷ b) ++ (((32 ∷ c) ++ ((32 ∷ d) ++ (32 ∷ e))) ++ f)
     regrouped a b c d e f = simp append_assoc refl
 
--- one more line
-lines_snoc : (lines : List (List ℕ)) (line : List ℕ) → lines_text (lines ++ line ∷ []) ≡ lines_text lines ++ ended_line line
-lines_snoc [] line = append-nil (ended_line line)
-lines_snoc (x ∷ lines) line = ap (λ l. ended_line x ++ l) (lines_snoc lines line) ∙ sym (append_assoc (ended_line x) (lines_text lines) (ended_line line))
-
-map_snoc : (form : Form) (rows : List ReportRow) (row : ReportRow) → map (row_line form) (rows ++ row ∷ []) ≡ map (row_line form) rows ++ row_line form row ∷ []
-map_snoc form [] row = refl
-map_snoc form (x ∷ rows) row = ap (λ l. row_line form x ∷ l) (map_snoc form rows row)
-
 -- the text as far as these rows
 abbrev pub text_before : Report → List ReportRow → List ℕ
 text_before report rows = head_text report ++ lines_text (map (row_line report.form) rows)
@@ -49,14 +39,14 @@ pub text_more : (report : Report) (rows : List ReportRow) (i : ℕ) (d : ReportR
 text_more report rows i d old new h old_is new_is =
     new_is ∙ ap (λ l. l ++ ended_line (row_line report.form (get_or rows i d))) old_is
     ∙ append_assoc (head_text report) (lines_text (map (row_line report.form) (take i rows))) (ended_line (row_line report.form (get_or rows i d)))
-    ∙ ap (λ l. head_text report ++ l) (sym (lines_snoc (map (row_line report.form) (take i rows)) (row_line report.form (get_or rows i d)))
-    ∙ ap lines_text (sym (map_snoc report.form (take i rows) (get_or rows i d)) ∙ ap (map (row_line report.form)) (sym (take_more rows i d h))))
+    ∙ ap (λ l. head_text report ++ l) (sym (lines_text-snoc (map (row_line report.form) (take i rows)) (row_line report.form (get_or rows i d)))
+    ∙ ap lines_text (sym (map_snoc (row_line report.form) (take i rows) (get_or rows i d)) ∙ ap (map (row_line report.form)) (sym (take_more rows i d h))))
 
 -- the whole text
 pub text_whole : (report : Report) (out : List ℕ) → out ≡ text_before report report.rows ++ codes "end\n" → out ≡ report_text report
 text_whole report out h =
     h ∙ append_assoc (head_text report) (lines_text (map (row_line report.form) report.rows)) (codes "end\n")
-    ∙ ap (λ l. head_text report ++ l) (sym (lines_snoc (map (row_line report.form) report.rows) end_line))
+    ∙ ap (λ l. head_text report ++ l) (sym (lines_text-snoc (map (row_line report.form) report.rows) end_line))
     ∙ three_lines (ended_line (form_line report.form)) (ended_line (computer_line report.computer)) (ended_line (seq_line report.seq)) (lines_text (map (row_line report.form) report.rows ++ end_line ∷ []))
   where
     three_lines : (a b c d : List ℕ) → (a ++ (b ++ c)) ++ d ≡ a ++ (b ++ (c ++ d))

@@ -1,5 +1,5 @@
+use Rattle.line_forms.proofs.Passing.{takes_it}
 use Rattle.report_text.specs.Reports.{seq_line}
-use Rattle.report_text.proofs.PassLemmas.{takes_it}
 use Rattle.report_text.proofs.head.take_seq.Goals as goal
 
 pub returns : goal.returns

@@ -1,11 +1,11 @@
 use Rattle.std.proofs.Common.{ℕ, Option, refl, sym, subst, arith}
+use Rattle.std.proofs.lemmas.Bool.{iff_false}
 use Rattle.line_forms.specs.BadLines.{AnswersBadLine}
 use Rattle.line_forms.specs.LineStates.{LineState}
 use Rattle.line_forms.specs.Readers.{IsStuck, Passes, ReadsPart}
 use Rattle.report_text.specs.declared.report.Report.{Report}
 use Rattle.report_text.specs.Reports.{AreReportLines, IsReport, report_lines}
 use Rattle.report_text.proofs.StopLemmas.{never_goes_on}
-use Rattle.report_text.proofs.TextLemmas.{not_so}
 use Rattle.report_text.proofs.reader.read_report.Goals as goal
 
 pub returns-in-None : goal.returns-in-None
@@ -24,7 +24,7 @@ returns-then-not-is_over c =
     let read = subst Q c.new-lines.ensures (subst P c.in-Some.is c.in_ok-report.ensures) in (
       omega arith,
       subst N (sym c.number-line.ensures) (c.a_cursor_stands_at_the_bad_line.ensures.left c.args.text.now (report_lines c.in-Some.report) c.take_report.new.lines read.1
-          (c.in-Some.report, read.0, refl) (never_goes_on c.in-Some.report read.0) (λ over. not_so _ _ c.if-not-is_over.true c.is_over.ensures over)),
+          (c.in-Some.report, read.0, refl) (never_goes_on c.in-Some.report read.0) (iff_false c.is_over.ensures c.if-not-is_over.true)),
     )
 
 pub returns : goal.returns

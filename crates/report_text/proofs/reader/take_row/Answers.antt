@@ -1,14 +1,15 @@
 use Rattle.std.proofs.Common.{refl, arith}
+use Rattle.std.proofs.lemmas.Bool.{iff_false}
+use Rattle.line_forms.proofs.Passing.{takes_it}
 use Rattle.report_text.specs.RowLines.{row_line}
-use Rattle.report_text.proofs.PassLemmas.{not_above, takes_it}
-use Rattle.report_text.proofs.TextLemmas.{not_so}
+use Rattle.report_text.proofs.PassLemmas.{not_above}
 use Rattle.report_text.proofs.reader.take_row.Goals as goal
 
 pub returns-then-not-is_above : goal.returns-then-not-is_above
 returns-then-not-is_above c = (
   refl,
   not_above c.args.form c.args.rows.now c.args.lines.now.lines c.in_ok-line_ahead.ensures.0 c.in_ok-line_ahead.field-0.now c.in_ok-row.row c.in_ok-line_ahead.ensures.1
-      c.in_ok-row.ensures.0 c.in_ok-row.ensures.1 (λ h. not_so _ _ c.if-not-is_above.true c.is_above.ensures h),
+      c.in_ok-row.ensures.0 c.in_ok-row.ensures.1 (iff_false c.is_above.ensures c.if-not-is_above.true),
 )
 
 pub returns : goal.returns
