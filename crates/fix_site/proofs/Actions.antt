@@ -11,6 +11,7 @@ use Rattle.line_forms.specs.LineStates.{LineState}
 use Rattle.line_forms.specs.Readers.{Passes, AreLinesOf, IsStuck, IsNotAhead, TakesExactly, IsAny, ReadsPart, NeverGoesOn}
 use Rattle.line_forms.specs.Numbers.{IsId}
 use Rattle.line_forms.proofs.Passing.{cons_head, cons_tail, passes_then}
+use Rattle.line_forms.proofs.PlainLemmas.{id_one, moment_one}
 use Rattle.act_rules.specs.declared.rule.Rules.{Rules}
 use Rattle.fix_site.specs.declared.action.Action.{Action}
 use Rattle.fix_site.specs.declared.action.Target.{Target}
@@ -23,7 +24,7 @@ use Rattle.fix_site.proofs.Parts.{Lines, IsOneWay, Then, HasSome, single, one_wa
 use Rattle.fix_site.proofs.Lists.{EndsForeign, IsForeign, with_first, Many, each_none, each_more, stops_empty, many_one}
 use Rattle.fix_site.proofs.Stuck.{no_tail, Only, stuck_first, stuck_behind, stuck_many, stuck_same, stuck_line, stuck_only}
 use Rattle.fix_site.proofs.ContentLines.{apart}
-use Rattle.fix_site.proofs.FieldLemmas.{named_one, moment_one, id_one}
+use Rattle.fix_site.proofs.FieldLemmas.{named_one}
 use Rattle.fix_site.proofs.Rules.{rules_one, some_rules}
 use Rattle.fix_site.proofs.Targets.{Item, all_item, computer_item, where_item, item_line, CanItem, items_of, items_flat, items_can, items_some, items_from, items_same, item_one, takes_items, no_item}
 

@@ -8,6 +8,7 @@ use Rattle.line_forms.specs.LineStates.{LineState}
 use Rattle.line_forms.specs.Readers.{Passes, AreLinesOf, StopsAt, IsStuck, IsNotAhead}
 use Rattle.line_forms.specs.Numbers.{IsId}
 use Rattle.line_forms.proofs.Passing.{cons_head, cons_tail, passes_then}
+use Rattle.line_forms.proofs.PlainLemmas.{id_one}
 use Rattle.fix_site.specs.declared.action.Action.{Action}
 use Rattle.fix_site.specs.declared.fixlet.Success.TheVariants as success
 use Rattle.fix_site.specs.declared.block.Block.{Block}
@@ -25,7 +26,6 @@ use Rattle.fix_site.proofs.Lists.{OneWayBehind, with_first}
 use Rattle.fix_site.proofs.Stuck.{stuck_same}
 use Rattle.fix_site.proofs.ListLemmas.{each_all}
 use Rattle.fix_site.proofs.ContentLines.{apart}
-use Rattle.fix_site.proofs.FieldLemmas.{id_one}
 use Rattle.fix_site.proofs.Fixlets.{fixlet_one}
 use Rattle.fix_site.proofs.Baselines.{baseline_one}
 use Rattle.fix_site.proofs.Actions.{action_one, some_action}

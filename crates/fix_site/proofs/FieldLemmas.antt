@@ -1,72 +1,25 @@
 -- Fields have no spaces, and each is that of one value.
-use Rattle.std.proofs.Common.{ℕ, suc, ◌≡◌, ◌≢◌, ◌+◌, ◌%◌, ◌^◌, ◌<◌, ◌≤◌, ℤ, pos, negsuc, List, [], ◌∷◌, length, sym, ap, ◌∙◌, arith, All, inl, inr, true}
+use Rattle.std.proofs.Common.{ℕ, ◌≡◌, ◌^◌, ◌<◌, ℤ, pos, negsuc, List, [], ◌∷◌, length, sym, ap, ◌∙◌, arith, All}
 use Rattle.std.specs.Prelude.{decimal}
 use Rattle.std.specs.Fmt.{signed_decimal}
 use Rattle.std.proofs.lemmas.Int.{ints}
-use Rattle.std.proofs.lemmas.List.Elements.{All-nil, All-cons, All-append, All-weaker}
-use Rattle.std.proofs.lemmas.Fmt.{decimal_by_steps, decimal_injective, signed_decimal_injective}
-use Rattle.std.specs.List.{list_all}
-use Rattle.std.specs.Prelude.{nat_le}
-use Rattle.std.proofs.lemmas.Bool.{cases_lt}
-use Rattle.std.proofs.lemmas.Bool.Decides.{nat_tests}
-use Rattle.desk_base.specs.Moments.{IsMoment}
+use Rattle.std.proofs.lemmas.List.Elements.{All-nil, All-cons, All-weaker}
+use Rattle.std.proofs.lemmas.Fmt.{decimal_injective, signed_decimal_injective}
 use Rattle.line_forms.specs.Cuts.{Lacks}
-use Rattle.line_forms.specs.Names.{IsName, is_name_byte}
+use Rattle.line_forms.specs.Names.{IsName}
 use Rattle.line_forms.specs.FieldLists.{fields_of, line_of}
 use Rattle.line_forms.proofs.Pieces.{pieces-join, join-pieces}
 use Rattle.line_forms.specs.Numbers.{IsId}
 use Rattle.line_forms.proofs.Passing.{cons_head, cons_tail}
+use Rattle.line_forms.proofs.PlainLemmas.{IsPlain, id_one, lacks_plain, plain_decimal, plain_id, plain_name, plain_signed}
 use Rattle.act_rules.specs.declared.rule.Hours.{Hours}
 use Rattle.fix_site.specs.RuleLines.{IsHours, IsCount, IsWait}
 use Rattle.fix_site.specs.Readings.{named_fields, counted_fields}
 use lib.Signed.{mag}
 
--- every byte is 45, the sign `-`, or above
-abbrev pub IsPlain : List ℕ → Type 0
-IsPlain text = All (λ byte. 45 ≤ byte) text
-
-plain_one : (x : ℕ) (xs : List ℕ) → 45 ≤ x → IsPlain xs → IsPlain (x ∷ xs)
-plain_one x xs h k = All-cons (λ byte. 45 ≤ byte) x xs h k
-
-plain_none : IsPlain []
-plain_none = All-nil (λ byte. 45 ≤ byte)
-
--- such a text lacks each lesser byte, as a space or an LF
-pub lacks_plain : (byte : ℕ) (text : List ℕ) → byte < 45 → IsPlain text → Lacks byte text
-lacks_plain byte text small plain = All-weaker (λ x. 45 ≤ x) (λ x. x ≢ byte) (λ x h e. omega arith) text plain
-
-pub plain_decimal : (n : ℕ) → n < 2 ^ 64 → IsPlain (decimal n)
-plain_decimal n h =
-    let P : ℕ → List ℕ → Type 0 = λ n ds. IsPlain ds in
-    decimal_by_steps P
-    (λ n small. plain_one (48 + n) [] (omega arith) plain_none)
-    (λ n ds large front. All-append (λ byte. 45 ≤ byte) ds ((48 + n % 10) ∷ []) front (plain_one (48 + n % 10) [] (omega arith) plain_none))
-    n h
-
-moment_mag : (z : ℤ) → IsMoment z → mag z < 2 ^ 63
-moment_mag (pos n) h = omega (arith, ints, h.1)
-moment_mag (negsuc n) h = omega (arith, ints, h.0)
-
 wait_mag : (z : ℤ) → IsWait z → mag z < 2 ^ 63
 wait_mag (pos n) h = omega (arith, ints, h.1)
 wait_mag (negsuc n) h = omega (arith, ints, h.0)
-
-plain_signed : (z : ℤ) → mag z < 2 ^ 63 → IsPlain (signed_decimal z)
-plain_signed (pos n) h = plain_decimal n (omega (arith, h))
-plain_signed (negsuc n) h = plain_one 45 (decimal (suc n)) (omega arith) (plain_decimal (suc n) (omega (arith, h)))
-
-name_byte : (byte : ℕ) → is_name_byte byte ≡ true → 45 ≤ byte
-name_byte byte h = grind (arith, nat_tests)
-
-pub plain_name : (name : List ℕ) → IsName name → IsPlain name
-plain_name name h = All-weaker (λ x. is_name_byte x ≡ true) (λ x. 45 ≤ x) name_byte name h.2
-
-pub plain_by : (xs : List ℕ) → list_all (λ x. nat_le 45 x) xs ≡ true → IsPlain xs
-plain_by [] h = plain_none
-plain_by (x ∷ xs) h = elim (cases_lt x 45) [
-  | inl small ↦ absurd (grind (arith, nat_tests))
-  | inr large ↦ plain_one x xs large (plain_by xs (grind (arith, nat_tests)))
-]
 
 -- fields without spaces are read again from their line
 pub fields_again : (fields : List (List ℕ)) → 0 < length fields → All IsPlain fields → fields_of (line_of fields) ≡ fields
@@ -78,18 +31,6 @@ fields_one fields others some any plain clear e = sym (fields_again fields some 
 
 two_plain : (a b : List ℕ) → IsPlain a → IsPlain b → All IsPlain (a ∷ b ∷ [])
 two_plain a b h k = All-cons IsPlain a (b ∷ []) h (All-cons IsPlain b [] k (All-nil IsPlain))
-
-pub id_one : (a b : ℕ) → IsId a → IsId b → decimal a ≡ decimal b → a ≡ b
-id_one a b h k e = decimal_injective a b (omega (arith, h.1)) (omega (arith, k.1)) e
-
-pub plain_id : (id : ℕ) → IsId id → IsPlain (decimal id)
-plain_id id h = plain_decimal id (omega (arith, h.1))
-
-pub moment_one : (t u : ℤ) → IsMoment t → IsMoment u → signed_decimal t ≡ signed_decimal u → t ≡ u
-moment_one t u a b h = signed_decimal_injective t u (moment_mag t a) (moment_mag u b) h
-
-pub plain_moment : (moment : ℤ) → IsMoment moment → IsPlain (signed_decimal moment)
-plain_moment moment is = plain_signed moment (moment_mag moment is)
 
 -- a name and an id
 pub plain_named : (name : List ℕ) (id : ℕ) → IsName name → IsId id → All IsPlain (named_fields name id)

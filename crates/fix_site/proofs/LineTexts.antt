@@ -1,10 +1,8 @@
 -- No LF stands in a line of a site or of an action.
-use Rattle.std.proofs.Common.{ℕ, ◌≡◌, ◌≢◌, ◌==◌, ℤ, List, [], ◌∷◌, ◌++◌, true, false, refl, sym, ap, ◌∙◌, arith, All, Option, Some, None, map, inl, inr, length, Ok}
+use Rattle.std.proofs.Common.{ℕ, ◌≡◌, ◌≢◌, ◌==◌, ℤ, List, [], ◌∷◌, ◌++◌, true, false, refl, sym, ap, ◌∙◌, arith, All, Option, Some, None, map, length, Ok}
 use Rattle.std.specs.List.{list_all}
 use Rattle.std.specs.Fmt.{signed_decimal}
 use Rattle.std.specs.Prelude.{codes, decimal, not, Bool, flat_map}
-use Rattle.std.proofs.lemmas.Bool.{cases_eq}
-use Rattle.std.proofs.lemmas.Bool.Decides.{nat_tests}
 use Rattle.std.proofs.lemmas.List.Elements.{All-nil, All-cons, All-append, All-head, All-tail}
 use Rattle.hex.specs.Hex.{encode_lower, decode_sized, is_hex_digit, lower_digits}
 use Rattle.hex.proofs.HexLemmas.{decode_sized-encode_lower, decode_sized-twice, decode_of-ok, length-encode_with}
@@ -15,6 +13,8 @@ use Rattle.line_forms.specs.Fields.{field_text}
 use Rattle.line_forms.specs.FieldLists.{line_of}
 use Rattle.line_forms.specs.Lines.{IsLine}
 use Rattle.line_forms.specs.Numbers.{IsId}
+use Rattle.line_forms.proofs.Cutting.{lacks_by}
+use Rattle.line_forms.proofs.PlainLemmas.{lacks_fields, lacks_plain, plain_id, plain_moment, plain_name}
 use Rattle.act_rules.specs.declared.rule.Rules.{Rules}
 use Rattle.fix_site.specs.declared.action.Action.{Action}
 use Rattle.fix_site.specs.declared.action.Target.{Target}
@@ -32,27 +32,13 @@ use Rattle.fix_site.specs.Contents.{IsFixlet, IsBaseline, IsSuccess, fixlet_line
 use Rattle.fix_site.specs.Blocks.{IsBlock, block_lines}
 use Rattle.fix_site.specs.Sites.{IsSite, IsDigestValue, site_line, digest_line, lines_with}
 use Rattle.fix_site.specs.Readings.{IsMaybeMoment, named_fields, counted_fields}
-use Rattle.fix_site.proofs.FieldLemmas.{IsPlain, lacks_plain, plain_id, plain_name, plain_moment, plain_named, plain_counted}
+use Rattle.fix_site.proofs.FieldLemmas.{plain_named, plain_counted}
 use Rattle.fix_site.proofs.RuleFields.{hours_one_plain, reapply_plain}
 use Rattle.fix_site.proofs.BlockLines.{all_good}
 
-lacks_by : (xs : List ℕ) → list_all (λ x. not (x == 10)) xs ≡ true → Lacks 10 xs
-lacks_by [] h = All-nil (λ x. x ≢ 10)
-lacks_by (x ∷ xs) h = elim (cases_eq x 10) [
-  | inl same ↦ absurd (grind (arith, nat_tests))
-  | inr other ↦ All-cons (λ x. x ≢ 10) x xs other (lacks_by xs (grind (arith, nat_tests)))
-]
-
-lacks_fields : (fields : List (List ℕ)) → All IsPlain fields → Lacks 10 (line_of fields)
-lacks_fields [] h = All-nil (λ x. x ≢ 10)
-lacks_fields (x ∷ []) h = lacks_plain 10 x (omega arith) (All-head IsPlain x [] h)
-lacks_fields (x ∷ y ∷ fields) h =
-    All-append (λ x. x ≢ 10) x (32 ∷ line_of (y ∷ fields)) (lacks_plain 10 x (omega arith) (All-head IsPlain x (y ∷ fields) h))
-    (All-cons (λ x. x ≢ 10) 32 (line_of (y ∷ fields)) (omega arith) (lacks_fields (y ∷ fields) (All-tail IsPlain x (y ∷ fields) h)))
-
 -- a word and what follows it
 worded : (word rest : List ℕ) → list_all (λ x. not (x == 10)) word ≡ true → Lacks 10 rest → IsLine (word ++ rest)
-worded word rest h k = All-append (λ x. x ≢ 10) word rest (lacks_by word h) k
+worded word rest h k = All-append (λ x. x ≢ 10) word rest (lacks_by 10 word h) k
 
 lacks_id : (id : ℕ) → IsId id → Lacks 10 (decimal id)
 lacks_id id is = lacks_plain 10 (decimal id) (omega arith) (plain_id id is)
@@ -67,16 +53,16 @@ lines_of_all P first (v ∷ vs) rest says all h =
     All-cons IsLine (first v) (map first vs ++ rest) (says v (All-head P v vs all)) (lines_of_all P first vs rest says (All-tail P v vs all) h)
 
 end_lines : All IsLine (end_line ∷ [])
-end_lines = All-cons IsLine end_line [] (lacks_by end_line refl) (All-nil IsLine)
+end_lines = All-cons IsLine end_line [] (lacks_by 10 end_line refl) (All-nil IsLine)
 
 -- fixlets and baselines
 success_is : (s : Success) → IsSuccess s → IsLine (success_line s)
-success_is success.Lines is = lacks_by (success_line success.Lines) refl
-success_is success.Relevance is = lacks_by (success_line success.Relevance) refl
+success_is success.Lines is = lacks_by 10 (success_line success.Lines) refl
+success_is success.Relevance is = lacks_by 10 (success_line success.Relevance) refl
 success_is (success.Clause question) is = worded (field_text (codes "success clause")) question refl (rest_line question is)
 
 content_is : (line : List ℕ) → IsLineText line → IsLine (held.content_line line)
-content_is [] is = lacks_by (held.content_line []) refl
+content_is [] is = lacks_by 10 (held.content_line []) refl
 content_is (x ∷ line) is = worded (codes "| ") (x ∷ line) refl is.1
 
 relevance_is : (question : List ℕ) → IsRest question → IsLine (relevance_line question)
@@ -101,7 +87,7 @@ baseline_are b is =
 
 -- actions
 target_are : (t : Target) (rest : List (List ℕ)) → IsTarget t → All IsLine rest → All IsLine (target_lines t ++ rest)
-target_are target.All rest is h = All-cons IsLine (codes "target all") rest (lacks_by (codes "target all") refl) h
+target_are target.All rest is h = All-cons IsLine (codes "target all") rest (lacks_by 10 (codes "target all") refl) h
 target_are (target.Computers names) rest is h = lines_of_all IsName computer_line names rest computer_is is.1 h
   where
     computer_is : (name : List ℕ) → IsName name → IsLine (computer_line name)
@@ -109,11 +95,11 @@ target_are (target.Computers names) rest is h = lines_of_all IsName computer_lin
 target_are (target.Where question) rest is h = All-cons IsLine _ rest (worded (field_text (codes "target where")) question refl (rest_line question is)) h
 
 moment_is : (moment : Option ℤ) → IsMaybeMoment moment → Lacks 10 (moment_field moment)
-moment_is None is = lacks_by (codes "none") refl
+moment_is None is = lacks_by 10 (codes "none") refl
 moment_is (Some moment) is = lacks_plain 10 (signed_decimal moment) (omega arith) (plain_moment moment is)
 
 client_are : (client : Bool) (rest : List (List ℕ)) → All IsLine rest → All IsLine (client_lines client ++ rest)
-client_are true rest h = All-cons IsLine (codes "time client") rest (lacks_by (codes "time client") refl) h
+client_are true rest h = All-cons IsLine (codes "time client") rest (lacks_by 10 (codes "time client") refl) h
 client_are false rest h = h
 
 days_is : (days : List Bool) → Lacks 10 (map day_digit days)
@@ -138,12 +124,12 @@ rules_are rules is =
     (All-nil IsLine)))))))
 
 members_is : (all : Bool) → IsLine (members_line all)
-members_is true = lacks_by (members_line true) refl
-members_is false = lacks_by (members_line false) refl
+members_is true = lacks_by 10 (members_line true) refl
+members_is false = lacks_by 10 (members_line false) refl
 
 state_is : (stopped : Bool) → IsLine (state_line stopped)
-state_is true = lacks_by (state_line true) refl
-state_is false = lacks_by (state_line false) refl
+state_is true = lacks_by 10 (state_line true) refl
+state_is false = lacks_by 10 (state_line false) refl
 
 named_is : (word name : List ℕ) (id : ℕ) → list_all (λ x. not (x == 10)) (field_text word) ≡ true → IsName name → IsId id → IsLine (field_text word ++ line_of (named_fields name id))
 named_is word name id h is good = worded (field_text word) (line_of (named_fields name id)) h (lacks_fields (named_fields name id) (plain_named name id is good))

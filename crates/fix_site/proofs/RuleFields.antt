@@ -9,12 +9,13 @@ use Rattle.desk_base.specs.Moments.{IsMoment}
 use Rattle.line_forms.specs.FieldLists.{line_of}
 use Rattle.line_forms.specs.Readers.{Spells}
 use Rattle.line_forms.proofs.Passing.{cons_head, cons_tail}
+use Rattle.line_forms.proofs.PlainLemmas.{IsPlain, moment_one, plain_by}
 use Rattle.act_rules.specs.declared.rule.Hours.{Hours}
 use Rattle.act_rules.specs.declared.rule.Reapply.{Reapply}
 use Rattle.act_rules.specs.declared.rule.Reapply.TheVariants.{Never, Again, While}
 use Rattle.fix_site.specs.RuleLines.{IsHours, IsCount, IsWait, IsReapply, moment_field, hours_fields, day_digit, reapply_fields}
 use Rattle.fix_site.specs.Readings.{IsMaybeMoment, counted_fields}
-use Rattle.fix_site.proofs.FieldLemmas.{IsPlain, plain_by, plain_counted, fields_one, both_one, hours_plain, moment_one}
+use Rattle.fix_site.proofs.FieldLemmas.{plain_counted, fields_one, both_one, hours_plain}
 
 -- no byte of a number is above 57, the digit 9
 low_decimal : (n : ℕ) → n < 2 ^ 64 → All (λ byte. byte ≤ 57) (decimal n)

@@ -1,10 +1,9 @@
 -- Going over lines, and where reading stops.
 use Rattle.std.proofs.Common.{ℕ, ◌≡◌, List, [], ◌∷◌, ◌++◌, refl, sym, ap, subst, ◌∙◌, map, true, false}
 use Rattle.std.specs.Prelude.{flat_map, Bool}
-use Rattle.line_forms.specs.Fields.{field_text}
 use Rattle.line_forms.specs.LineStates.{LineState}
 use Rattle.line_forms.specs.Readers.{Passes, AreLinesOf, IsStuck, EachCan, IsNotAhead, TakesAll, TakesExactly}
-use Rattle.line_forms.proofs.Passing.{passes_none, passes_then}
+use Rattle.line_forms.proofs.Passing.{map_snoc, passes_none, passes_then, stays}
 use Rattle.fix_site.proofs.Parts.{Lines, IsOneWay, Then, HasSome, single, stops_first, stops_behind, stops_same, stops_line}
 use Rattle.fix_site.proofs.Lists.{OneWayBehind, EndsForeign, with_first, Many, each_more, stops_many}
 
@@ -40,9 +39,7 @@ stuck_same S T old new there back (before, passes, stops) = (before, passes, sto
 
 -- a line that isn't ahead
 pub stuck_line : {V : Type 0} (Is : V → Type 0) (line_of : V → List ℕ) (v : V) (old new : LineState) → Is v → (new ≡ old) × IsNotAhead Is line_of old → IsStuck (AreLinesOf Is (single line_of)) old new
-stuck_line Is line_of v old new is none =
-    let P : LineState → Type 0 = λ s. IsStuck (AreLinesOf Is (single line_of)) old s in
-    subst P (sym none.0) ([], passes_none old, stops_line Is line_of v old is none.1)
+stuck_line Is line_of v old new is none = stays (AreLinesOf Is (single line_of)) old old new [] none.0 (passes_none old) (stops_line Is line_of v old is none.1)
 
 -- the one line that can stand there
 abbrev pub Only : List ℕ → Lines → Type 0
@@ -50,18 +47,10 @@ Only line lines = lines ≡ line ∷ []
 
 pub stuck_only : (line : List ℕ) (old new : LineState) → TakesExactly line old new false → IsStuck (Only line) old new
 stuck_only line old new none =
-    let P : LineState → Type 0 = λ s. IsStuck (Only line) old s in
     let U : Unit {0} → Type 0 = λ u. Unit {0} in
-    subst P (sym none.0) (
-      [],
-      passes_none old,
-      stops_same (AreLinesOf U (single (λ u. line))) (Only line) [] old (λ lines h. h.2) (λ lines h. (tt, tt, h))
-          (stops_line U (λ u. line) tt old tt (λ u more _ e. none.1 more e)),
-    )
-
-map_snoc : {V : Type 0} (first : V → List ℕ) (vs : List V) (v : V) → map first (vs ++ v ∷ []) ≡ map first vs ++ first v ∷ []
-map_snoc first [] v = refl
-map_snoc first (x ∷ vs) v = ap (λ l. first x ∷ l) (map_snoc first vs v)
+    stays (Only line) old old new [] none.0 (passes_none old)
+    (stops_same (AreLinesOf U (single (λ u. line))) (Only line) [] old (λ lines h. h.2) (λ lines h. (tt, tt, h))
+    (stops_line U (λ u. line) tt old tt (λ u more _ e. none.1 more e)))
 
 -- one more value was taken
 pub taken_more : {V : Type 0} (Can : List V → V → Type 0) (first : V → List ℕ) (start mid new : LineState) (items result : List V) (v w : V) → EachCan Can items → Passes start mid (map first items) →
@@ -79,12 +68,6 @@ taken_all {V} Can first start mid new items result each passes result_is same no
     let P : List V → Type 0 = λ r. TakesAll Can first start new r in
     let Q : LineState → Type 0 = λ s. TakesAll Can first start s items in
     subst P (sym result_is) (subst Q (sym same) (each, passes, none))
-
--- a line of a word and a rest was taken, and the rest is this text
-pub taken_line : (old new : LineState) (word rest text : List ℕ) (more : Lines) → old.lines ≡ (field_text word ++ rest) ∷ more → rest ≡ text →
-    ((line : List ℕ) (more : Lines) → old.lines ≡ line ∷ more → Passes old new (line ∷ [])) → Passes old new ((field_text word ++ text) ∷ [])
-taken_line old new word rest text more e same takes =
-    takes (field_text word ++ text) more (e ∙ ap (λ l. (field_text word ++ l) ∷ more) same)
 
 -- the second of two lines was taken
 pub second_taken : (first second : List ℕ) (old mid new : LineState) (a b : Bool) → TakesExactly first old mid a → a ≡ false → TakesExactly second mid new b → b ≡ true → Passes old new (second ∷ [])

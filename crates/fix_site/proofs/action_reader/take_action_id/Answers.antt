@@ -1,7 +1,7 @@
 use Rattle.std.specs.Prelude.{codes, decimal}
-use Rattle.fix_site.proofs.Stuck.{taken_line}
+use Rattle.line_forms.proofs.Passing.{takes_rest}
 use Rattle.fix_site.proofs.action_reader.take_action_id.Goals as goal
 
 pub returns : goal.returns
 returns c =
-    (c.in_ok-id.ensures.0, taken_line c.args.lines.now c.skip_line.new.self (codes "action") c.in_ok-rest_ahead.field-0.now (decimal c.in_ok-id.id) c.in_ok-rest_ahead.ensures.0 c.in_ok-rest_ahead.ensures.1 c.in_ok-id.ensures.1 c.skip_line.ensures)
+    (c.in_ok-id.ensures.0, takes_rest c.args.lines.now c.skip_line.new.self (codes "action") c.in_ok-rest_ahead.field-0.now (decimal c.in_ok-id.id) c.in_ok-rest_ahead.ensures.0 c.in_ok-rest_ahead.ensures.1 c.in_ok-id.ensures.1 c.skip_line.ensures)

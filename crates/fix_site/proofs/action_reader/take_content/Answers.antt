@@ -1,9 +1,9 @@
 use Rattle.std.specs.Prelude.{codes}
 use Rattle.line_forms.specs.FieldLists.{line_of}
+use Rattle.line_forms.proofs.Passing.{takes_rest}
 use Rattle.fix_site.specs.Readings.{named_fields}
-use Rattle.fix_site.proofs.Stuck.{taken_line}
 use Rattle.fix_site.proofs.action_reader.take_content.Goals as goal
 
 pub returns : goal.returns
 returns c =
-    (c.in_ok-content.ensures.0, c.in_ok-content.ensures.1, taken_line c.args.lines.now c.skip_line.new.self (codes "content") c.in_ok-rest_ahead.field-0.now (line_of (named_fields c.in_ok-content.content.name.now c.in_ok-content.content.id)) c.in_ok-rest_ahead.ensures.0 c.in_ok-rest_ahead.ensures.1 c.in_ok-content.ensures.2 c.skip_line.ensures)
+    (c.in_ok-content.ensures.0, c.in_ok-content.ensures.1, takes_rest c.args.lines.now c.skip_line.new.self (codes "content") c.in_ok-rest_ahead.field-0.now (line_of (named_fields c.in_ok-content.content.name.now c.in_ok-content.content.id)) c.in_ok-rest_ahead.ensures.0 c.in_ok-rest_ahead.ensures.1 c.in_ok-content.ensures.2 c.skip_line.ensures)
