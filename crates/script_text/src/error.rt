@@ -1,5 +1,5 @@
 ghost use Rattle.std.specs.Prelude.{◌≡◌};
-ghost use Rattle.script_text.specs.Refusals.{numbered};
+ghost use Rattle.script_text.specs.Refusals.{error_line, numbered};
 ghost use Rattle.script_text.specs.declared.error.Refusal.TheVariants.{Memory as OutOfMemory};
 
 use std::alloc::{AllocError, AllocFailed};
@@ -27,6 +27,22 @@ pub enum ScriptError {
     /// Memory ran out.
     #[error("out of memory")]
     Memory,
+}
+
+impl ScriptError {
+    /// The line of the error, counted from 1; 0 for want of memory, which has none.
+    pub fn line(self) -> u32
+        ensures { result ≡ error_line self }
+    {
+        match self {
+            ScriptError::NoCommand(line)
+            | ScriptError::IfNotClosed(line)
+            | ScriptError::StrayElse(line)
+            | ScriptError::BraceNotClosed(line)
+            | ScriptError::CreateNotClosed(line) => line,
+            ScriptError::Memory => 0,
+        }
+    }
 }
 
 impl From<AllocError> for ScriptError {

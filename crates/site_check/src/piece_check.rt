@@ -117,7 +117,7 @@ fn unread(first: u32, error: ScriptError) -> Result<PieceRefusal, AllocError>
         return Err(AllocError);
     };
     Ok(PieceRefusal::Script {
-        line: line_in_text(first, line_of(error)),
+        line: line_in_text(first, error.line()),
         fault,
     })
 }
@@ -133,20 +133,6 @@ fn fault_of_script(error: ScriptError) -> Option<ScriptFault>
         ScriptError::BraceNotClosed(_) => Some(ScriptFault::BraceNotClosed),
         ScriptError::CreateNotClosed(_) => Some(ScriptFault::CreateNotClosed),
         ScriptError::Memory => None,
-    }
-}
-
-/// The line of an error, 0 where it has none.
-fn line_of(error: ScriptError) -> u32
-    ensures { result ≡ error_line error }
-{
-    match error {
-        ScriptError::NoCommand(line)
-        | ScriptError::IfNotClosed(line)
-        | ScriptError::StrayElse(line)
-        | ScriptError::BraceNotClosed(line)
-        | ScriptError::CreateNotClosed(line) => line,
-        ScriptError::Memory => 0,
     }
 }
 
