@@ -1,83 +1,27 @@
 -- The fields of a first line have no spaces, so that they are read again from the line.
-use Rattle.std.proofs.Common.{ℕ, suc, ◌≡◌, ◌≢◌, ◌+◌, ◌%◌, ◌^◌, ◌<◌, ◌≤◌, ℤ, pos, negsuc, List, [], ◌∷◌, length, refl, sym, ap, ◌∙◌, arith, All, inl, inr, true}
+use Rattle.std.proofs.Common.{ℕ, ◌≡◌, ◌<◌, List, [], ◌∷◌, length, refl, sym, ap, ◌∙◌, arith, All, true}
 use Rattle.std.specs.Prelude.{codes, decimal, nat_le}
 use Rattle.std.specs.Fmt.{signed_decimal}
 use Rattle.std.specs.List.{list_all}
-use Rattle.std.proofs.lemmas.Int.{ints}
-use Rattle.std.proofs.lemmas.Bool.{cases_lt}
-use Rattle.std.proofs.lemmas.Bool.Decides.{nat_tests}
-use Rattle.std.proofs.lemmas.List.Elements.{All-nil, All-cons, All-append, All-weaker}
-use Rattle.std.proofs.lemmas.Fmt.{decimal_by_steps, decimal_injective, signed_decimal_injective}
-use Rattle.desk_base.specs.Moments.{IsMoment}
+use Rattle.std.proofs.lemmas.List.Elements.{All-nil, All-cons, All-weaker}
+use Rattle.std.proofs.lemmas.Fmt.{decimal_injective}
 use Rattle.line_forms.specs.Cuts.{Lacks}
 use Rattle.line_forms.specs.FieldLists.{fields_of, line_of}
-use Rattle.line_forms.specs.Names.{is_name_byte, IsName}
-use Rattle.line_forms.specs.Numbers.{IsId}
+use Rattle.line_forms.specs.Names.{IsName}
 use Rattle.line_forms.proofs.Pieces.{pieces-join}
+use Rattle.line_forms.proofs.PlainLemmas.{IsPlain, lacks_plain, plain_by, plain_decimal, plain_id, plain_moment, plain_name}
 use Rattle.office_text.specs.declared.order.Order.{Order}
 use Rattle.office_text.specs.declared.order.Order.TheVariants as order
 use Rattle.office_text.specs.Orders.{IsAnyNumber, IsOrder}
 use Rattle.office_text.specs.OrderLines.{first_fields, first_line}
 use Rattle.office_text.proofs.Fronts.{Lines}
-use lib.Signed.{mag}
-
--- every byte is 45, the sign `-`, or above
-abbrev IsPlain : List ℕ → Type 0
-IsPlain text = All (λ byte. 45 ≤ byte) text
-
-plain_one : (x : ℕ) (xs : List ℕ) → 45 ≤ x → IsPlain xs → IsPlain (x ∷ xs)
-plain_one x xs h k = All-cons (λ byte. 45 ≤ byte) x xs h k
-
-plain_none : IsPlain []
-plain_none = All-nil (λ byte. 45 ≤ byte)
-
-plain_by : (xs : List ℕ) → list_all (λ x. nat_le 45 x) xs ≡ true → IsPlain xs
-plain_by [] h = plain_none
-plain_by (x ∷ xs) h = elim (cases_lt x 45) [
-  | inl small ↦ absurd (grind (arith, nat_tests))
-  | inr large ↦ plain_one x xs large (plain_by xs (grind (arith, nat_tests)))
-]
-
-plain_decimal : (n : ℕ) → n < 2 ^ 64 → IsPlain (decimal n)
-plain_decimal n h =
-    let P : ℕ → List ℕ → Type 0 = λ n ds. IsPlain ds in
-    decimal_by_steps P
-    (λ n small. plain_one (48 + n) [] (omega arith) plain_none)
-    (λ n ds large front. All-append (λ byte. 45 ≤ byte) ds ((48 + n % 10) ∷ []) front (plain_one (48 + n % 10) [] (omega arith) plain_none))
-    n h
-
-moment_mag : (z : ℤ) → IsMoment z → mag z < 2 ^ 63
-moment_mag (pos n) h = omega (arith, ints, h.1)
-moment_mag (negsuc n) h = omega (arith, ints, h.0)
-
-plain_signed : (z : ℤ) → mag z < 2 ^ 63 → IsPlain (signed_decimal z)
-plain_signed (pos n) h = plain_decimal n (omega (arith, h))
-plain_signed (negsuc n) h = plain_one 45 (decimal (suc n)) (omega arith) (plain_decimal (suc n) (omega (arith, h)))
-
-name_byte : (byte : ℕ) → is_name_byte byte ≡ true → 45 ≤ byte
-name_byte byte h = grind (arith, nat_tests)
-
-plain_name : (name : List ℕ) → IsName name → IsPlain name
-plain_name name h = All-weaker (λ x. is_name_byte x ≡ true) (λ x. 45 ≤ x) name_byte name h.2
-
-plain_id : (id : ℕ) → IsId id → IsPlain (decimal id)
-plain_id id h = plain_decimal id (omega (arith, h.1))
 
 plain_number : (number : ℕ) → IsAnyNumber number → IsPlain (decimal number)
 plain_number number h = plain_decimal number (omega (arith, h))
 
-plain_moment : (moment : ℤ) → IsMoment moment → IsPlain (signed_decimal moment)
-plain_moment moment is = plain_signed moment (moment_mag moment is)
-
 -- what a number's field is of
-pub id_one : (a b : ℕ) → IsId a → IsId b → decimal a ≡ decimal b → a ≡ b
-id_one a b h k e = decimal_injective a b (omega (arith, h.1)) (omega (arith, k.1)) e
-
 pub number_one : (a b : ℕ) → IsAnyNumber a → IsAnyNumber b → decimal a ≡ decimal b → a ≡ b
 number_one a b h k e = decimal_injective a b (omega (arith, h)) (omega (arith, k)) e
-
-pub moment_one : (t u : ℤ) → IsMoment t → IsMoment u → signed_decimal t ≡ signed_decimal u → t ≡ u
-moment_one t u a b h = signed_decimal_injective t u (moment_mag t a) (moment_mag u b) h
 
 -- one, two and three fields
 one_plain : (word : List ℕ) → list_all (λ x. nat_le 45 x) word ≡ true → All IsPlain (word ∷ [])
@@ -111,7 +55,7 @@ some_first (order.Publish text) = omega arith
 some_first other = omega arith
 
 again : (fields : Lines) → 0 < length fields → All IsPlain fields → fields_of (line_of fields) ≡ fields
-again fields some plain = pieces-join 32 fields some (All-weaker IsPlain (Lacks 32) (λ field h. All-weaker (λ x. 45 ≤ x) (λ x. x ≢ 32) (λ x g e. omega arith) field h) fields plain)
+again fields some plain = pieces-join 32 fields some (All-weaker IsPlain (Lacks 32) (λ field h. lacks_plain 32 field (omega arith) h) fields plain)
 
 -- a first line has its fields, and no others
 pub first_again : (o : Order) → IsOrder o → fields_of (first_line o) ≡ first_fields o

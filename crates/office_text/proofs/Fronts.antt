@@ -1,6 +1,5 @@
 -- Lists of lines that begin alike, and lines up to a last one.
-use Rattle.std.specs.Prelude.{◌↔◌, IsTrue}
-use Rattle.std.proofs.Common.{Bool, true, false, ℕ, ◌≡◌, ◌+◌, List, [], ◌∷◌, ◌++◌, refl, sym, ap, subst, ◌∙◌, ◌⊎◌, inl, inr, All, append_assoc}
+use Rattle.std.proofs.Common.{ℕ, ◌≡◌, ◌+◌, List, [], ◌∷◌, ◌++◌, refl, sym, ap, subst, ◌∙◌, ◌⊎◌, inl, inr, All, append_assoc}
 use Rattle.std.proofs.lemmas.List.Elements.{All-head, All-tail}
 use Rattle.line_forms.proofs.Passing.{cons_head, cons_tail}
 use Rattle.office_text.specs.OrderLines.{EndsAt}
@@ -13,10 +12,6 @@ nothing line more e = cc
 
 pub something : (line : List ℕ) (more : Lines) → line ∷ more ≡ [] → ⊥
 something line more e = cc
-
--- a test of a fact failed
-pub not_so : (b : Bool) (P : Type 0) → b ≡ false → IsTrue b ↔ P → ¬ P
-not_so b P failed tells h = let held : b ≡ true = tells.1 h in cc
 
 -- of two lists that begin one list, one begins the other
 abbrev pub Fronts : Lines → Lines → Lines → Lines → Type 0

@@ -4,6 +4,7 @@ use Rattle.std.specs.Prelude.{codes, decimal}
 use Rattle.std.specs.Fmt.{signed_decimal}
 use Rattle.line_forms.specs.Lines.{lines_text}
 use Rattle.line_forms.proofs.Passing.{cons_head, cons_tail}
+use Rattle.line_forms.proofs.PlainLemmas.{id_one, moment_one}
 use Rattle.bf_world.specs.Worlds.{WorldState}
 use Rattle.world_text.proofs.StopLemmas.{describes_one}
 use Rattle.world_text.specs.Texts.{Describes}
@@ -13,7 +14,7 @@ use Rattle.office_text.specs.Orders.{IsOrder}
 use Rattle.office_text.specs.OrderLines.{first_fields, first_line, AreTextTo, HoldContent, IsBody, IsEnd, IsSiteEnd}
 use Rattle.office_text.proofs.Fronts.{Lines, ends_same}
 use Rattle.office_text.proofs.BodyLemmas.{content_ends, contents_one, world_ends}
-use Rattle.office_text.proofs.FieldLemmas.{first_one, id_one, number_one, moment_one}
+use Rattle.office_text.proofs.FieldLemmas.{first_one, number_one}
 use Rattle.office_text.proofs.WordLemmas as word
 
 -- the second and the third field

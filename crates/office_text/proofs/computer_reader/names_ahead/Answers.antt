@@ -1,7 +1,7 @@
-use Rattle.std.proofs.Common.{◌≡◌, [], Option, sym, subst}
+use Rattle.std.proofs.Common.{Option, sym, subst}
+use Rattle.std.proofs.lemmas.Bool.{iff_false}
 use Rattle.office_text.specs.declared.computer_reader.Names.{Names}
 use Rattle.office_text.specs.Readings.{FindsNames}
-use Rattle.office_text.proofs.Fronts.{not_so}
 use Rattle.office_text.proofs.ComputerLemmas.{more_names, name_missing, names_are, relay_missing}
 use Rattle.office_text.proofs.computer_reader.names_ahead.Goals as goal
 
@@ -24,7 +24,7 @@ pub returns-then-not-is_over : goal.returns-then-not-is_over
 returns-then-not-is_over c =
     let ahead = c.in_ok-rest_ahead.ensures in
     more_names c.args.orders.now c.args.lines.now c.in_ok-rest_ahead.field-0.now c.in_ok-computer.computer.now c.in_ok-relay.relay.now ahead.0 c.new-fields.result c.take_new_computer_name.new.fields c.take_relay_name.new.fields
-    ahead.1 c.new-fields.ensures c.in_ok-computer.ensures.1 c.in_ok-relay.ensures.1 (not_so c.is_over.result (c.take_relay_name.new.fields ≡ []) c.if-not-is_over.true c.is_over.ensures)
+    ahead.1 c.new-fields.ensures c.in_ok-computer.ensures.1 c.in_ok-relay.ensures.1 (iff_false c.is_over.ensures c.if-not-is_over.true)
 
 pub returns : goal.returns
 returns c =

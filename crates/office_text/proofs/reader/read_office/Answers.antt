@@ -1,11 +1,11 @@
 use Rattle.std.proofs.Common.{Bool, ℕ, [], ◌∷◌, subst, sym, ap, ◌∙◌}
 use Rattle.std.specs.Prelude.{codes}
 use Rattle.std.proofs.lemmas.Result.{err_from_is_err_and}
+use Rattle.std.proofs.lemmas.Bool.{iff_false}
 use Rattle.line_forms.specs.BadLines.{AnswersBadLine}
 use Rattle.line_forms.specs.LineStates.{LineState}
-use Rattle.line_forms.specs.Readers.{IsOver, TakesExactly}
+use Rattle.line_forms.specs.Readers.{TakesExactly}
 use Rattle.office_text.specs.Offices.{AreOfficeLines}
-use Rattle.office_text.proofs.Fronts.{not_so}
 use Rattle.office_text.proofs.OfficeReading.{at_first, bad_order, from_first, in_text, no_end, no_office, office_is, something_left}
 use Rattle.office_text.proofs.reader.read_office.Goals as goal
 
@@ -46,7 +46,7 @@ returns-then-not-is_over c =
     let A : ℕ → Type 0 = AnswersBadLine AreOfficeLines c.args.text.now in
     subst A (sym c.number-then-not-is_over.ensures)
     (something_left c.args.text.now c.take_exactly.new.self c.take_orders.new.lines c.take_exactly-2.new.self c.in_ok-orders.orders first c.in_ok-orders.ensures (subst E c.if-not-take_exactly-2.false c.take_exactly-2.ensures)
-    (not_so c.is_over.result (IsOver c.take_exactly-2.new.self) c.if-not-is_over.true c.is_over.ensures))
+    (iff_false c.is_over.ensures c.if-not-is_over.true))
 
 pub returns : goal.returns
 returns c =

@@ -1,7 +1,7 @@
-use Rattle.std.proofs.Common.{◌≡◌, [], Option, sym, subst, ◌∙◌}
+use Rattle.std.proofs.Common.{Option, sym, subst, ◌∙◌}
+use Rattle.std.proofs.lemmas.Bool.{iff_false}
 use Rattle.office_text.specs.declared.order.Order.{Order}
 use Rattle.office_text.specs.Readings.{TakesArguments}
-use Rattle.office_text.proofs.Fronts.{not_so}
 use Rattle.office_text.proofs.ShortLemmas.{line_is, more_fields, no_arguments, no_word}
 use Rattle.office_text.proofs.short_reader.read_short.Goals as goal
 
@@ -20,7 +20,7 @@ returns-then-not-is_over c =
     let P : Option Order → Type 0 = TakesArguments c.args.orders.now c.in-Some-word_of.word c.take_field.new.self c.take_arguments.new.fields in
     let taken = subst P c.in-Some-2.is c.in_ok-order.ensures in
     more_fields c.args.orders.now c.args.line.now c.in-Some.field.now c.in-Some-word_of.word c.take_field.new.self c.take_arguments.new.fields c.in-Some-2.order (sym c.new-fields.ensures ∙ c.in-Some.ensures) c.in-Some-word_of.ensures
-    taken.1 (not_so c.is_over.result (c.take_arguments.new.fields ≡ []) c.if-not-is_over.true c.is_over.ensures)
+    taken.1 (iff_false c.is_over.ensures c.if-not-is_over.true)
 
 pub returns : goal.returns
 returns c =
