@@ -1,16 +1,12 @@
 -- The fields of an attempt have no spaces, and each is that of one value.
-use Rattle.std.proofs.Common.{ℕ, suc, ◌≡◌, ◌≢◌, ◌+◌, ◌%◌, ◌^◌, ◌<◌, ◌≤◌, ℤ, pos, negsuc, List, [], ◌∷◌, length, get_or, refl, sym, ap, subst, ◌∙◌, arith, Option, Some, None, All, inl, inr, true}
+use Rattle.std.proofs.Common.{ℕ, suc, ◌≡◌, ◌+◌, ◌^◌, ◌<◌, ℤ, pos, negsuc, List, [], length, get_or, refl, sym, ap, subst, ◌∙◌, arith, Option, Some, None, inl, inr}
 use Rattle.std.specs.Prelude.{codes, decimal, IfSome}
 use Rattle.std.specs.Fmt.{signed_decimal}
 use Rattle.std.proofs.lemmas.Int.{ints}
-use Rattle.std.proofs.lemmas.List.Elements.{All-nil, All-cons, All-append, All-weaker}
-use Rattle.std.proofs.lemmas.Fmt.{decimal_by_steps, decimal_injective, signed_decimal_injective, decimal_digit, decimal_nonempty, first_decimal}
-use Rattle.std.specs.List.{list_all}
-use Rattle.std.specs.Prelude.{nat_le}
+use Rattle.std.proofs.lemmas.Fmt.{decimal_injective, signed_decimal_injective, decimal_digit, decimal_nonempty, first_decimal}
 use Rattle.std.proofs.lemmas.Bool.{cases_lt}
-use Rattle.std.proofs.lemmas.Bool.Decides.{nat_tests}
 use Rattle.desk_base.specs.Moments.{IsMoment}
-use Rattle.line_forms.specs.Cuts.{Lacks}
+use Rattle.line_forms.proofs.PlainLemmas.{IsPlain, moment_mag, plain_by, plain_decimal, plain_none, plain_one, plain_signed}
 use Rattle.act_rules.specs.declared.row.Outcome.{Outcome}
 use Rattle.agent_text.specs.AttemptLines.{cleared_field}
 use Rattle.act_rules.specs.declared.row.Outcome.TheVariants.{Fixed, Failed, Interrupted}
@@ -19,41 +15,10 @@ use Rattle.report_text.specs.RowLines.{outcome_word, outcome_field, end_field, e
 use Rattle.report_text.specs.FieldTexts.{IsEnd}
 use lib.Signed.{mag}
 
--- every byte is 45, the sign `-`, or above
-abbrev pub IsPlain : List ℕ → Type 0
-IsPlain text = All (λ byte. 45 ≤ byte) text
-
-plain_one : (x : ℕ) (xs : List ℕ) → 45 ≤ x → IsPlain xs → IsPlain (x ∷ xs)
-plain_one x xs h k = All-cons (λ byte. 45 ≤ byte) x xs h k
-
-plain_none : IsPlain []
-plain_none = All-nil (λ byte. 45 ≤ byte)
-
--- such a text lacks each lesser byte, as a space or an LF
-pub lacks_plain : (byte : ℕ) (text : List ℕ) → byte < 45 → IsPlain text → Lacks byte text
-lacks_plain byte text small plain = All-weaker (λ x. 45 ≤ x) (λ x. x ≢ byte) (λ x h e. omega arith) text plain
-
--- the digits of a number are plain
-pub plain_decimal : (n : ℕ) → n < 2 ^ 64 → IsPlain (decimal n)
-plain_decimal n h =
-    let P : ℕ → List ℕ → Type 0 = λ n ds. IsPlain ds in
-    decimal_by_steps P
-    (λ n small. plain_one (48 + n) [] (omega arith) plain_none)
-    (λ n ds large front. All-append (λ byte. 45 ≤ byte) ds ((48 + n % 10) ∷ []) front (plain_one (48 + n % 10) [] (omega arith) plain_none))
-    n h
-
 -- a number that a field has fits 64 bits
 pub exit_mag : (z : ℤ) → IsExit z → mag z < 2 ^ 63
 exit_mag (pos n) h = omega (arith, ints, h.1)
 exit_mag (negsuc n) h = omega (arith, ints, h.0)
-
-moment_mag : (z : ℤ) → IsMoment z → mag z < 2 ^ 63
-moment_mag (pos n) h = omega (arith, ints, h.1)
-moment_mag (negsuc n) h = omega (arith, ints, h.0)
-
-pub plain_signed : (z : ℤ) → mag z < 2 ^ 63 → IsPlain (signed_decimal z)
-plain_signed (pos n) h = plain_decimal n (omega (arith, h))
-plain_signed (negsuc n) h = plain_one 45 (decimal (suc n)) (omega arith) (plain_decimal (suc n) (omega (arith, h)))
 
 plain_dash : IsPlain (codes "-")
 plain_dash = plain_one 45 [] (omega arith) plain_none
@@ -117,13 +82,6 @@ place_one (Some (c, l)) (Some (d, m)) a b h k =
     ap (λ x. Some (x, l)) c_is ∙ ap (λ x. Some (d, x)) l_is
 
 -- all fields are plain
-plain_by : (xs : List ℕ) → list_all (λ x. nat_le 45 x) xs ≡ true → IsPlain xs
-plain_by [] h = plain_none
-plain_by (x ∷ xs) h = elim (cases_lt x 45) [
-  | inl small ↦ absurd (grind (arith, nat_tests))
-  | inr large ↦ plain_one x xs large (plain_by xs (grind (arith, nat_tests)))
-]
-
 plain_word : (o : Outcome) → IsPlain (outcome_word o)
 plain_word Fixed = plain_by (codes "fixed") refl
 plain_word Failed = plain_by (codes "failed") refl
@@ -137,9 +95,6 @@ pub plain_end : (e : Option (ℤ × Outcome)) → IsEnd e → IsPlain (end_field
 plain_end None h = plain_dash
 plain_end (Some e) h = plain_signed e.0 (moment_mag e.0 h)
 
-pub plain_moment : (t : ℤ) → IsMoment t → IsPlain (signed_decimal t)
-plain_moment t h = plain_signed t (moment_mag t h)
-
 pub plain_exit : (e : Option ℤ) → IfSome e IsExit → IsPlain (exit_field e)
 plain_exit None h = plain_dash
 plain_exit (Some x) h = plain_signed x (exit_mag x h)
@@ -151,10 +106,6 @@ plain_component (Some p) h = plain_decimal p.0 (omega (arith, h.0))
 pub plain_line : (p : Option (ℕ × ℕ)) → IfSome p IsPlace → IsPlain (line_field p)
 plain_line None h = plain_dash
 plain_line (Some p) h = plain_decimal p.1 (omega (arith, h.1))
-
--- and of one moment
-pub moment_one : (t u : ℤ) → IsMoment t → IsMoment u → signed_decimal t ≡ signed_decimal u → t ≡ u
-moment_one t u a b h = signed_decimal_injective t u (moment_mag t a) (moment_mag u b) h
 
 -- when it was cleared
 cleared_is : (c : Option ℤ) → cleared_field c ≡ exit_field c

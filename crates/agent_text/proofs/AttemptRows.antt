@@ -10,6 +10,7 @@ use Rattle.line_forms.specs.Fields.{field_text}
 use Rattle.line_forms.specs.FieldLists.{fields_of, line_of}
 use Rattle.line_forms.proofs.Passing.{cons_head, cons_tail}
 use Rattle.line_forms.proofs.Pieces.{pieces-join}
+use Rattle.line_forms.proofs.PlainLemmas.{IsPlain, lacks_plain, plain_decimal, plain_moment, moment_one}
 use Rattle.act_rules.specs.declared.row.Note.{Note}
 use Rattle.act_rules.specs.declared.row.Row.{Row}
 use Rattle.act_rules.specs.declared.row.Outcome.{Outcome}
@@ -21,7 +22,7 @@ use Rattle.report_text.specs.RowLines.{added_fields, outcome_field, end_field, e
 use Rattle.agent_text.specs.AttemptLines.{attempt_fields, attempt_line, cleared_field}
 use Rattle.agent_text.specs.SavedRows.{IsSavedRow, IsSavedAt}
 use Rattle.agent_text.specs.Readings.{IsAdded, IsAttempt, IsNoted, IsRowIn}
-use Rattle.agent_text.proofs.AttemptFields.{IsPlain, lacks_plain, plain_decimal, plain_outcome, plain_end, plain_moment, plain_exit, plain_component, plain_line, plain_cleared, end_one, exit_one, place_one, moment_one, cleared_one}
+use Rattle.agent_text.proofs.AttemptFields.{plain_outcome, plain_end, plain_exit, plain_component, plain_line, plain_cleared, end_one, exit_one, place_one, cleared_one}
 
 -- ---- notes
 pub note_is : (a b : Note) → a.exit ≡ b.exit → a.place ≡ b.place → a ≡ b

@@ -6,7 +6,7 @@ use Rattle.std.proofs.lemmas.List.Elements.{All-head, All-tail, All-weaker}
 use Rattle.line_forms.specs.LineStates.{LineState}
 use Rattle.line_forms.specs.Numbers.{IsId}
 use Rattle.line_forms.specs.Readers.{EachCan, Passes, TakesAll}
-use Rattle.line_forms.proofs.Passing.{passes_none, passes_then}
+use Rattle.line_forms.proofs.Passing.{passes_none, passes_then, map_snoc}
 use Rattle.act_rules.specs.declared.row.Row.{Row}
 use Rattle.act_rules.specs.Rows.{IsRows}
 use Rattle.report_text.specs.declared.form.Form.{Form}
@@ -20,7 +20,7 @@ use Rattle.agent_text.proofs.AttemptLists.{rows_in}
 use Rattle.agent_text.proofs.AttemptRows.{saved_in}
 use Rattle.agent_text.proofs.Lasts.{each_all, each_ascends, increasing}
 use Rattle.agent_text.proofs.Parts.{Lines}
-use Rattle.agent_text.proofs.Sequences.{each_more, each_none, flat_snoc, map_snoc, same_last}
+use Rattle.agent_text.proofs.Sequences.{each_more, each_none, flat_snoc, same_last}
 
 -- whether there are rows
 pub no_rows : (rows seen : List Row) (answer : Bool) → seen ≡ rows → answer ≡ (length seen == 0) → answer ≡ true → rows ≡ []

@@ -6,7 +6,7 @@ use Rattle.std.specs.List.Sorted.{IsStrictlyIncreasing}
 use Rattle.std.proofs.lemmas.List.Elements.{All-nil, All-cons, All-head, All-tail}
 use Rattle.line_forms.specs.LineStates.{LineState}
 use Rattle.line_forms.specs.Readers.{IsNotAhead, Passes}
-use Rattle.line_forms.proofs.Passing.{cons_head, cons_tail, passes_none, passes_then}
+use Rattle.line_forms.proofs.Passing.{cons_head, cons_tail, passes_none, passes_then, map_snoc}
 use Rattle.agent_text.specs.declared.history.History.{History}
 use Rattle.agent_text.specs.Histories.{AreHistories, IsHistory, PlainHistory, pending_ids, shown_history}
 use Rattle.agent_text.specs.SavedTexts.{pending_line}
@@ -14,7 +14,6 @@ use Rattle.agent_text.specs.Readings.{StandsFrom, TakesPending, untold, untold_o
 use Rattle.agent_text.proofs.Lasts.{ascends}
 use Rattle.agent_text.proofs.Parts.{Lines}
 use Rattle.agent_text.proofs.PendingIds.{Has, Up, action_of, contains_has, has_above, has_below, has_contains, ids_more, ids_same, pending_one, two, up}
-use Rattle.agent_text.proofs.Sequences.{map_snoc}
 
 -- this place is the first, or the history before it is pending
 abbrev pub IsBehindPending : List PlainHistory → ℕ → Type 0

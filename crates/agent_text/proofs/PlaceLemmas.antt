@@ -1,9 +1,9 @@
 -- The place of a history among those in ascending order of their actions, and what a change there does.
-use Rattle.std.proofs.Common.{ℕ, zero, suc, ◌≡◌, ◌+◌, ◌<◌, ◌≤◌, ℤ, List, [], ◌∷◌, ◌++◌, length, Bool, true, false, cond, refl, sym, ap, ◌∙◌, subst, arith, take, drop, get_or, set, map, take-append-drop, ltb, inl, inr, Result, Ok, Err}
+use Rattle.std.proofs.Common.{ℕ, zero, suc, ◌≡◌, ◌+◌, ◌<◌, ◌≤◌, ℤ, List, [], ◌∷◌, ◌++◌, length, true, cond, sym, ap, ◌∙◌, subst, arith, drop, get_or, set, map, take-append-drop, ltb, inl, inr, Result, Ok, Err}
 use Rattle.std.specs.Prelude.{filter, All}
 use Rattle.std.specs.Ordering.{nat_cmp, ordering_index}
 use Rattle.std.specs.declared.cmp.Ordering.{Ordering}
-use Rattle.std.specs.List.{AllWithin, AllPairs, insert}
+use Rattle.std.specs.List.{AllPairs, insert}
 use Rattle.std.specs.List.Sorted.{IsBinarySearchResult, IsNonDecreasingBy, IsSearchInRange}
 use Rattle.std.proofs.lemmas.Bool.{ltb-true, lt-ltb, le-ltb, ne_eqb, eq-eqb, cases_eq}
 use Rattle.std.proofs.lemmas.List.{get_or-map, length-map, set_split}
@@ -11,30 +11,10 @@ use Rattle.std.proofs.lemmas.List.Elements.{All-append, All-weaker, filter_passe
 use Rattle.std.proofs.lemmas.List.Folds.{map_fixed}
 use Rattle.std.proofs.lemmas.List.Kept.{AllPairs-from_increasing}
 use Rattle.std.proofs.lemmas.List.Sorted.{searched}
+use Rattle.line_forms.proofs.Sorted.{filter-take, filter-drop}
 use Rattle.agent_text.specs.Histories.{AreHistories, PlainHistory, cleared, rows_at, with_cleared, with_history}
 use Rattle.agent_text.specs.Readings.{HasPlace}
 use Rattle.agent_text.proofs.HistoryLemmas.{Rises, action_of, no_rows_of, one_cleared, rises_from_increasing, rises_head, rises_tail, rows_of}
-
--- ---- a filter whose test changes once
-filter-take : {X : Type 0} (p : X → Bool) (xs : List X) (i : ℕ) → AllWithin (λ x. p x ≡ true) xs 0 i → AllWithin (λ x. p x ≡ false) xs i (length xs) → i ≤ length xs → filter p xs ≡ take i xs
-filter-take p [] zero pass fail fits = refl
-filter-take p [] (suc i) pass fail fits = absurd (omega arith)
-filter-take p (x ∷ xs) zero pass fail fits =
-    subst (λ b. cond b (x ∷ filter p xs) (filter p xs) ≡ []) (sym (fail 0 x (omega arith) (omega arith)))
-    (filter-take p xs zero (λ k d low high. absurd (omega arith)) (λ k d low high. fail (suc k) d (omega arith) (omega arith)) (omega arith))
-filter-take p (x ∷ xs) (suc i) pass fail fits =
-    subst (λ b. cond b (x ∷ filter p xs) (filter p xs) ≡ x ∷ take i xs) (sym (pass 0 x (omega arith) (omega arith)))
-    (ap (λ l. x ∷ l) (filter-take p xs i (λ k d low high. pass (suc k) d (omega arith) (omega arith)) (λ k d low high. fail (suc k) d (omega arith) (omega arith)) (omega arith)))
-
-filter-drop : {X : Type 0} (p : X → Bool) (xs : List X) (i : ℕ) → AllWithin (λ x. p x ≡ false) xs 0 i → AllWithin (λ x. p x ≡ true) xs i (length xs) → i ≤ length xs → filter p xs ≡ drop i xs
-filter-drop p [] zero fail pass fits = refl
-filter-drop p [] (suc i) fail pass fits = absurd (omega arith)
-filter-drop p (x ∷ xs) zero fail pass fits =
-    subst (λ b. cond b (x ∷ filter p xs) (filter p xs) ≡ x ∷ xs) (sym (pass 0 x (omega arith) (omega arith)))
-    (ap (λ l. x ∷ l) (filter-drop p xs zero (λ k d low high. absurd (omega arith)) (λ k d low high. pass (suc k) d (omega arith) (omega arith)) (omega arith)))
-filter-drop p (x ∷ xs) (suc i) fail pass fits =
-    subst (λ b. cond b (x ∷ filter p xs) (filter p xs) ≡ drop i xs) (sym (fail 0 x (omega arith) (omega arith)))
-    (filter-drop p xs i (λ k d low high. fail (suc k) d (omega arith) (omega arith)) (λ k d low high. pass (suc k) d (omega arith) (omega arith)) (omega arith))
 
 -- ---- a binary search
 -- a search by what the elements are mapped to is one of the mapped list

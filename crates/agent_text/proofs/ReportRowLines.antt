@@ -10,6 +10,7 @@ use Rattle.line_forms.specs.Fields.{field_text}
 use Rattle.line_forms.specs.FieldLists.{fields_of, line_of}
 use Rattle.line_forms.proofs.Passing.{cons_head, cons_tail}
 use Rattle.line_forms.proofs.Pieces.{pieces-join}
+use Rattle.line_forms.proofs.PlainLemmas.{IsPlain, lacks_plain, plain_decimal, plain_moment, moment_one}
 use Rattle.act_rules.specs.declared.row.Note.{Note}
 use Rattle.act_rules.specs.declared.row.Outcome.{Outcome}
 use Rattle.act_rules.specs.declared.row.Outcome.TheVariants.{Fixed, Failed, Interrupted}
@@ -19,7 +20,7 @@ use Rattle.report_text.specs.declared.report_row.ReportRow.{ReportRow}
 use Rattle.report_text.specs.ReportRows.{IsExit, IsPlace, IsNoteAt, IsNoteIn, IsReportRow}
 use Rattle.report_text.specs.RowLines.{added_fields, outcome_field, end_field, row_fields, row_line, exit_field, component_field, line_field}
 use Rattle.report_text.specs.Reports.{end_line}
-use Rattle.agent_text.proofs.AttemptFields.{IsPlain, lacks_plain, plain_decimal, plain_outcome, plain_end, plain_moment, plain_exit, plain_component, plain_line, end_one, exit_one, place_one, moment_one}
+use Rattle.agent_text.proofs.AttemptFields.{plain_outcome, plain_end, plain_exit, plain_component, plain_line, end_one, exit_one, place_one}
 use Rattle.agent_text.proofs.AttemptRows.{no_exit, no_place, note_is}
 
 some_place : (p : Option (ℕ × ℕ)) → IsSomeAnd p IsPlace → IfSome p IsPlace

@@ -5,17 +5,17 @@ use Rattle.std.specs.Prelude.{codes, decimal, not, flat_map, sum_by, IfSome}
 use Rattle.std.specs.Fmt.{signed_decimal}
 use Rattle.std.proofs.lemmas.Int.{ints}
 use Rattle.std.proofs.lemmas.Fmt.{length-decimal-le, length_signed_le}
-use Rattle.std.proofs.lemmas.Bool.{cases_eq}
-use Rattle.std.proofs.lemmas.Bool.Decides.{nat_tests}
 use Rattle.std.proofs.lemmas.List.Sums.{sum_by-cons}
 use Rattle.std.proofs.lemmas.List.Elements.{All-nil, All-cons, All-append, All-head, All-tail, All-weaker, All-map}
 use Rattle.desk_base.specs.Moments.{IsMoment}
 use Rattle.line_forms.specs.Cuts.{Lacks}
-use Rattle.line_forms.specs.Names.{IsName, is_name_byte}
+use Rattle.line_forms.specs.Names.{IsName}
 use Rattle.line_forms.specs.Numbers.{IsId}
 use Rattle.line_forms.specs.Fields.{field_text}
 use Rattle.line_forms.specs.FieldLists.{line_of}
 use Rattle.line_forms.specs.Lines.{IsLine, ended_line, lines_text}
+use Rattle.line_forms.proofs.Cutting.{lacks_by}
+use Rattle.line_forms.proofs.PlainLemmas.{lacks_fields, plain_id, plain_name, lacks_plain}
 use Rattle.act_rules.specs.declared.row.Outcome.{Outcome}
 use Rattle.act_rules.specs.declared.row.Outcome.TheVariants.{Fixed, Failed, Interrupted}
 use Rattle.act_rules.specs.declared.row.Row.{Row}
@@ -31,7 +31,7 @@ use Rattle.agent_text.specs.AttemptLines.{attempt_fields, attempt_line, cleared_
 use Rattle.agent_text.specs.Histories.{IsHistory, PlainHistory, pending_ids}
 use Rattle.agent_text.specs.SavedTexts.{FitsForm, IsSaved, action_line, agent_line, history_bytes, history_lines, most_bytes, next_line, pending_line, report_bytes, saved_lines, saved_text}
 use Rattle.agent_text.specs.Readings.{CanBeNext, IsNoted, IsRowIn}
-use Rattle.agent_text.proofs.AttemptFields.{IsPlain, exit_mag, lacks_plain, plain_decimal}
+use Rattle.agent_text.proofs.AttemptFields.{exit_mag}
 use Rattle.agent_text.proofs.AttemptLists.{each_attempt, next_attempt}
 use Rattle.agent_text.proofs.AttemptRows.{noted, plain_attempt}
 use Rattle.agent_text.proofs.Lasts.{each_all}
@@ -41,42 +41,24 @@ use Rattle.agent_text.proofs.ReportRowLines.{plain_row}
 use Rattle.agent_text.proofs.SavedLines.{in_form}
 
 -- ---- lines
-lacks_by : (xs : List ℕ) → list_all (λ x. not (x == 10)) xs ≡ true → Lacks 10 xs
-lacks_by [] h = All-nil (λ x. x ≢ 10)
-lacks_by (x ∷ xs) h = elim (cases_eq x 10) [
-  | inl same ↦ absurd (grind (arith, nat_tests))
-  | inr other ↦ All-cons (λ x. x ≢ 10) x xs other (lacks_by xs (grind (arith, nat_tests)))
-]
-
--- no LF stands in fields
-lacks_fields : (fields : Lines) → All IsPlain fields → Lacks 10 (line_of fields)
-lacks_fields [] h = All-nil (λ x. x ≢ 10)
-lacks_fields (x ∷ []) h = lacks_plain 10 x (omega arith) (All-head IsPlain x [] h)
-lacks_fields (x ∷ y ∷ fields) h =
-    All-append (λ x. x ≢ 10) x (32 ∷ line_of (y ∷ fields)) (lacks_plain 10 x (omega arith) (All-head IsPlain x (y ∷ fields) h))
-    (All-cons (λ x. x ≢ 10) 32 (line_of (y ∷ fields)) (omega arith) (lacks_fields (y ∷ fields) (All-tail IsPlain x (y ∷ fields) h)))
-
 -- a word and what follows it
 line_after : (word rest : List ℕ) → list_all (λ x. not (x == 10)) (field_text word) ≡ true → Lacks 10 rest → IsLine (field_text word ++ rest)
-line_after word rest h lacks = All-append (λ x. x ≢ 10) (field_text word) rest (lacks_by (field_text word) h) lacks
+line_after word rest h lacks = All-append (λ x. x ≢ 10) (field_text word) rest (lacks_by 10 (field_text word) h) lacks
 
--- nor in a number or a name
+-- no LF stands in a number or a name
 lacks_id : (n : ℕ) → IsId n → Lacks 10 (decimal n)
-lacks_id n id = lacks_plain 10 (decimal n) (omega arith) (plain_decimal n (omega (arith, id.1)))
-
-name_byte : (byte : ℕ) → is_name_byte byte ≡ true → 45 ≤ byte
-name_byte byte h = grind (arith, nat_tests)
+lacks_id n id = lacks_plain 10 (decimal n) (omega arith) (plain_id n id)
 
 lacks_name : (name : List ℕ) → IsName name → Lacks 10 name
-lacks_name name is = All-weaker (λ x. is_name_byte x ≡ true) (λ x. x ≢ 10) (λ x h e. let k = name_byte x h in omega arith) name is.2
+lacks_name name is = lacks_plain 10 name (omega arith) (plain_name name is)
 
 line_agent : (form : Form) → IsLine (agent_line form)
-line_agent One = lacks_by (agent_line One) refl
-line_agent Two = lacks_by (agent_line Two) refl
+line_agent One = lacks_by 10 (agent_line One) refl
+line_agent Two = lacks_by 10 (agent_line Two) refl
 
 line_form : (form : Form) → IsLine (form_line form)
-line_form One = lacks_by (form_line One) refl
-line_form Two = lacks_by (form_line Two) refl
+line_form One = lacks_by 10 (form_line One) refl
+line_form Two = lacks_by 10 (form_line Two) refl
 
 -- lists of lines
 all_mapped : {V : Type 0} (line : V → List ℕ) (P : V → Type 0) → ((v : V) → P v → IsLine (line v)) → (vs : List V) → All P vs → All IsLine (map line vs)
@@ -104,7 +86,7 @@ report_are report good =
     (All-cons IsLine (seq_line report.seq) (rows ++ end_line ∷ []) (line_after (codes "seq") (decimal report.seq) refl (lacks_id report.seq good.seq))
     (All-append IsLine rows (end_line ∷ [])
     (all_mapped (row_line report.form) (IsReportRow report.form) (λ row fine. line_after (codes "row") (line_of (row_fields report.form row)) refl (lacks_fields (row_fields report.form row) (plain_row report.form row fine))) report.rows good.rows.good)
-    (All-cons IsLine end_line [] (lacks_by end_line refl) (All-nil IsLine)))))
+    (All-cons IsLine end_line [] (lacks_by 10 end_line refl) (All-nil IsLine)))))
 
 -- pending ids are ids
 ids_good : (hs : List PlainHistory) → All IsHistory hs → All IsId (pending_ids hs)
@@ -134,7 +116,7 @@ saved_are form saved is fits =
     (all_mapped pending_line IsId (λ n id. line_after (codes "pending") (decimal n) refl (lacks_id n id)) (pending_ids saved.histories) (ids_good saved.histories is.histories.good))
     (All-append IsLine reports (end_line ∷ [])
     (all_flat report_lines IsReport (λ r good. report_are r good) saved.reports is.reports.good)
-    (All-cons IsLine end_line [] (lacks_by end_line refl) (All-nil IsLine)))))))
+    (All-cons IsLine end_line [] (lacks_by 10 end_line refl) (All-nil IsLine)))))))
 
 -- ---- lengths
 abbrev size : Lines → ℕ

@@ -6,6 +6,7 @@ use Rattle.std.proofs.lemmas.List.Elements.{All-contains}
 use Rattle.line_forms.specs.Fields.{field_text}
 use Rattle.line_forms.specs.Numbers.{IsId}
 use Rattle.line_forms.proofs.Passing.{cons_head, cons_tail}
+use Rattle.line_forms.proofs.PlainLemmas.{id_one}
 use Rattle.act_rules.specs.declared.row.Row.{Row}
 use Rattle.report_text.specs.declared.form.Form.{Form}
 use Rattle.report_text.specs.declared.form.Form.TheVariants.{One, Two}
@@ -18,7 +19,6 @@ use Rattle.agent_text.specs.SavedTexts.{action_line, agent_line, history_lines, 
 use Rattle.agent_text.specs.Readings.{Around, CanBeNext, CanCome, CanFollow, IsFrame, frame_lines, history_line, report_line}
 use Rattle.agent_text.proofs.AttemptLists.{each_attempt, next_attempt}
 use Rattle.agent_text.proofs.AttemptRows.{attempt_one, noted}
-use Rattle.agent_text.proofs.IdLines.{id_one}
 use Rattle.agent_text.proofs.Parts.{IsOneWay, Lines, Only, Then}
 use Rattle.agent_text.proofs.PendingIds.{CanBePending, action_of}
 use Rattle.agent_text.proofs.ReportLists.{one_report}

@@ -4,7 +4,7 @@ use Rattle.std.specs.Prelude.{flat_map}
 use Rattle.line_forms.specs.LineStates.{LineState}
 use Rattle.line_forms.specs.BadLines.{Begins}
 use Rattle.line_forms.specs.Readers.{AreLinesOf, StopsAt, EachCan, IsNotAhead, IsStuck, Passes, TakesAll}
-use Rattle.line_forms.proofs.Passing.{cons_head, cons_tail, passes_then}
+use Rattle.line_forms.proofs.Passing.{cons_head, cons_tail, map_snoc, passes_then}
 use Rattle.agent_text.proofs.Parts.{Lines, splits, rest_same, no_value_ahead, HoldsNone, Then, HasSome}
 
 -- ---- each value of a list stands behind those before it; one more can be added
@@ -277,10 +277,6 @@ module _ {V : Type 0} {Can : List V → V → Type 0} {first : V → List ℕ} {
   )
 
 -- ---- values that were taken, a line each
-pub map_snoc : {V W : Type 0} (first : V → W) (vs : List V) (v : V) → map first (vs ++ v ∷ []) ≡ map first vs ++ first v ∷ []
-map_snoc first [] v = refl
-map_snoc first (x ∷ vs) v = ap (λ l. first x ∷ l) (map_snoc first vs v)
-
 -- one more value was taken
 pub taken_more : {V : Type 0} (Can : List V → V → Type 0) (first : V → List ℕ) (start mid new : LineState) (items seen result : List V) (v : V) → EachCan Can items → Passes start mid (map first items) →
     seen ≡ items → result ≡ items ++ v ∷ [] → Can seen v → Passes mid new (first v ∷ []) → EachCan Can result × Passes start new (map first result)
@@ -299,8 +295,3 @@ taken_all {V} Can first start mid new items seen result each passes seen_is resu
     let Q : LineState → Type 0 = λ s. TakesAll Can first start s items in
     let C : List V → Type 0 = λ l. IsNotAhead (Can l) first mid in
     subst P (sym result_is) (subst Q (sym same) (each, passes, subst C seen_is none))
-
--- the line ahead was taken, and is that of this value
-pub takes_it : {V : Type 0} (line_of : V → List ℕ) (old new : LineState) (line : List ℕ) (more : Lines) (value : V) → old.lines ≡ line ∷ more → line ≡ line_of value →
-    ((line : List ℕ) (more : Lines) → old.lines ≡ line ∷ more → Passes old new (line ∷ [])) → Passes old new (line_of value ∷ [])
-takes_it line_of old new line more value ahead is takes = takes (line_of value) more (ahead ∙ ap (λ l. l ∷ more) is)

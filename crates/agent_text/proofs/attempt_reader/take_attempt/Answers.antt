@@ -1,7 +1,7 @@
 use Rattle.std.proofs.Common.{◌≡◌, ◌-◌, length, refl, arith}
+use Rattle.line_forms.proofs.Passing.{takes_it}
 use Rattle.agent_text.specs.AttemptLines.{attempt_line}
 use Rattle.agent_text.proofs.AttemptLists.{wrong_number}
-use Rattle.agent_text.proofs.Sequences.{takes_it}
 use Rattle.agent_text.proofs.attempt_reader.take_attempt.Goals as goal
 
 pub returns-then-row-rows : goal.returns-then-row-rows

@@ -1,9 +1,9 @@
 use Rattle.std.proofs.Common.{ℕ, [], ◌∷◌, map, refl, sym, subst}
-use Rattle.std.specs.Prelude.{codes}
+use Rattle.std.specs.Prelude.{codes, decimal}
 use Rattle.line_forms.specs.Readers.{Passes}
+use Rattle.line_forms.proofs.Passing.{takes_rest}
 use Rattle.agent_text.specs.Histories.{shown_history}
 use Rattle.agent_text.specs.SavedTexts.{pending_line}
-use Rattle.agent_text.proofs.IdLines.{id_taken}
 use Rattle.agent_text.proofs.PendingPlaces.{no_id, not_from, nowhere, too_early_id}
 use Rattle.agent_text.proofs.history_reader.take_pending_line.Goals as goal
 
@@ -36,6 +36,6 @@ returns c =
         c.in-Some-place_of.ensures.0,
         c.in-Some-place_of.ensures.1,
         subst P (sym c.in-Some-place_of.ensures.2)
-            (id_taken (codes "pending") c.in-Some.rest.now c.args.lines.now c.skip_line.new.self c.in-Some.ensures.0 c.in-Some-read_id.action c.in-Some.ensures.1 c.in-Some-read_id.ensures.1 c.skip_line.ensures),
+            (takes_rest c.args.lines.now c.skip_line.new.self (codes "pending") c.in-Some.rest.now (decimal c.in-Some-read_id.action) c.in-Some.ensures.0 c.in-Some.ensures.1 c.in-Some-read_id.ensures.1 c.skip_line.ensures),
       ),
     )

@@ -1,8 +1,8 @@
 use Rattle.std.proofs.Common.{refl, arith}
+use Rattle.line_forms.proofs.Passing.{takes_it}
 use Rattle.report_text.specs.RowLines.{row_line}
 use Rattle.agent_text.proofs.AttemptReading.{not_so}
 use Rattle.agent_text.proofs.ReportLists.{not_above}
-use Rattle.agent_text.proofs.Sequences.{takes_it}
 use Rattle.agent_text.proofs.report_reader.take_row.Goals as goal
 
 pub returns-then-not-is_above : goal.returns-then-not-is_above

@@ -1,8 +1,9 @@
 use Rattle.std.proofs.Common.{◌<◌, refl, arith}
-use Rattle.std.specs.Prelude.{codes}
+use Rattle.std.specs.Prelude.{codes, decimal}
+use Rattle.line_forms.proofs.Passing.{takes_rest}
 use Rattle.agent_text.specs.Readings.{IsLater}
 use Rattle.agent_text.proofs.AttemptReading.{not_so}
-use Rattle.agent_text.proofs.IdLines.{id_taken, other_id}
+use Rattle.agent_text.proofs.IdLines.{other_id}
 use Rattle.agent_text.proofs.report_reader.take_seq.Goals as goal
 
 pub returns-then-seq-next : goal.returns-then-seq-next
@@ -24,5 +25,5 @@ returns-then-not-is_later c = (
 pub returns : goal.returns
 returns c = (
   (c.in_ok-seq.ensures.0, c.is_later.ensures.0 c.if-not-is_later.false, c.if-seq-next.false),
-  id_taken (codes "seq") c.in_ok-rest_ahead.field-0.now c.args.lines.now c.skip_line.new.self c.in_ok-rest_ahead.ensures.0 c.in_ok-seq.seq c.in_ok-rest_ahead.ensures.1 c.in_ok-seq.ensures.1 c.skip_line.ensures,
+  takes_rest c.args.lines.now c.skip_line.new.self (codes "seq") c.in_ok-rest_ahead.field-0.now (decimal c.in_ok-seq.seq) c.in_ok-rest_ahead.ensures.0 c.in_ok-rest_ahead.ensures.1 c.in_ok-seq.ensures.1 c.skip_line.ensures,
 )
