@@ -1,0 +1,6 @@
+pub mod Keys
+pub mod Forms
+pub mod Tables
+pub mod Calls
+pub mod Memory
+pub mod Inside

@@ -1,0 +1,93 @@
+ghost use Rattle.std.specs.Prelude.{◌≡◌, ◌↔◌, IsTrue, IfSome, None};
+ghost use Rattle.desk_base.specs.Moments.{IsMoment};
+ghost use Rattle.line_forms.specs.Names.{IsName};
+ghost use Rattle.line_forms.specs.Numbers.{IsId};
+ghost use Rattle.report_text.specs.ReportRows.{IsNoteAt, no_note};
+ghost use Rattle.desk_keep.specs.Forms.{Fits, IsResult, IsRowOfReport};
+
+use crate::{Change, ResultRow};
+use act_rules::{Note, Outcome};
+use desk_base::LAST_MOMENT;
+use line_forms::read_name;
+use rel_lexer::Text;
+use report_text::ReportRow;
+
+/// The last id, the last version of a site and the last number of a report: 2^53.
+const LAST_ID: u64 = 9_007_199_254_740_992;
+
+impl Change {
+    /// Whether its names, numbers and moments have their forms.
+    pub fn fits(&self) -> bool
+        ensures { IsTrue result ↔ Fits self.now }
+    {
+        match self {
+            Change::Site { name, version, .. } => is_name(name) && is_id(*version),
+            Change::Action { id, .. } => is_id(*id),
+            Change::File { .. } => true,
+            Change::Computer(name) => is_name(name),
+            Change::Report { computer, seq, .. } => is_name(computer) && is_id(*seq),
+            Change::Result(result) => is_result(result),
+        }
+    }
+}
+
+fn is_result(row: &ResultRow) -> bool
+    ensures { IsTrue result ↔ IsResult row.now }
+{
+    is_name(&row.computer) && is_row_of_report(&row.row) && is_id(row.seq)
+}
+
+fn is_name(text: &Text) -> bool
+    ensures { IsTrue result ↔ IsName text.now }
+{
+    read_name(text.as_str().as_bytes()).is_some()
+}
+
+fn is_id(number: u64) -> bool
+    ensures { IsTrue result ↔ IsId number }
+{
+    number >= 1 && number <= LAST_ID
+}
+
+fn is_moment(moment: i64) -> bool
+    ensures { IsTrue result ↔ IsMoment moment }
+{
+    moment >= 0 && moment <= LAST_MOMENT
+}
+
+/// Whether a report of some form can have the row.
+fn is_row_of_report(row: &ReportRow) -> bool
+    ensures { IsTrue result ↔ IsRowOfReport row.now }
+{
+    is_id(row.action)
+        && row.number >= 1
+        && is_moment(row.begun)
+        && ends_at_moment(row.end)
+        && (is_empty(row.note) || is_note_at(row.end, row.note))
+}
+
+fn ends_at_moment(end: Option<(i64, Outcome)>) -> bool
+    ensures { IsTrue result ↔ IfSome end (λ end. IsMoment end.0) }
+{
+    match end {
+        Some((moment, _)) => is_moment(moment),
+        None => true,
+    }
+}
+
+fn is_empty(note: Note) -> bool
+    ensures { IsTrue result ↔ (note ≡ no_note) }
+{
+    note.exit.is_none() && note.place.is_none()
+}
+
+/// Whether a report of form Two can have the note at a row that ended so.
+fn is_note_at(end: Option<(i64, Outcome)>, note: Note) -> bool
+    ensures { IsTrue result ↔ IsNoteAt end note }
+{
+    match end {
+        Some((_, Outcome::Fixed)) => note.place.is_none(),
+        Some((_, Outcome::Failed)) => note.place.is_some(),
+        _ => is_empty(note),
+    }
+}

@@ -1,0 +1,9 @@
+//! Tests of keepers, by public calls alone.
+#![tactic(auto)]
+
+#[cfg(test)]
+mod memory;
+#[cfg(test)]
+mod next_rows;
+#[cfg(test)]
+mod rows;
