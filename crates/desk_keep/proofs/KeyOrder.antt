@@ -26,11 +26,6 @@ equal_from_test Less h = cc
 equal_from_test Equal h = refl
 equal_from_test Greater h = cc
 
-pub less_from_test : (o : Ordering) → is_lt o ≡ true → o ≡ Less
-less_from_test Less h = refl
-less_from_test Equal h = cc
-less_from_test Greater h = cc
-
 pub same_exact : (a b : Key) → same_key a b ≡ true → a ≡ b
 same_exact a b same = key_exact a b (equal_from_test (key_cmp a b) same)
 

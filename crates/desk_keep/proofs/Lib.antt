@@ -6,5 +6,4 @@ mod Counting
 mod Entries
 mod Keeping
 mod Ranges
-mod ReportForms
 mod Answering

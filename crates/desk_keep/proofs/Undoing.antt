@@ -8,7 +8,7 @@ use Rattle.std.specs.List.Sorted.{IsStrictlySortedBy}
 use Rattle.std.proofs.lemmas.List.Elements.{filter-append}
 use Rattle.std.proofs.lemmas.Cmp.{tied_itself}
 use Rattle.std.proofs.Common.{append-nil}
-use Rattle.std.proofs.lemmas.List.{take_more, take_all, same_from_push, length-append}
+use Rattle.std.proofs.lemmas.List.{take_more, same_from_push, length-append}
 use Rattle.desk_keep.specs.declared.change.Change.{Change}
 use Rattle.desk_keep.specs.Keys.{Key, key_of, key_cmp, same_key}
 use Rattle.desk_keep.specs.Tables.{put, put_all, row_at, rows_below, rows_above, AreRows}
@@ -169,7 +169,3 @@ steps_on batch before stood row start rows new inside is found put_is were =
           ∙ ap (λ n. stood_before (take n batch) start) (sym count),
       put_is ∙ (λ i. put (is i) (were.1 i)) ∙ sym (put_all-more batch (length before) row start inside) ∙ ap (λ n. put_all (take n batch) start) (sym count),
     )
-
--- all rows were put
-pub all_put : (batch : List Change) (before : List (Option Change)) (start rows : List Change) → length batch ≤ length before → WerePut batch before start rows → rows ≡ put_all batch start
-all_put batch before start rows all were = were.1 ∙ ap (λ b. put_all b start) (take_all (length before) batch all)
