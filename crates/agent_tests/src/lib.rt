@@ -1,6 +1,8 @@
-//! Tests of what agents save, by public calls alone.
+//! Tests of what agents save and attempt, by public calls alone.
 #![tactic(auto)]
 
+#[cfg(test)]
+mod attempts;
 #[cfg(test)]
 mod histories;
 #[cfg(test)]

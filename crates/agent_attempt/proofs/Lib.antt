@@ -1,0 +1,13 @@
+pub mod Lookups
+pub mod Reading
+pub mod Asked
+pub mod Rules
+pub mod Components
+pub mod Alike
+pub mod Stepping
+pub mod Firsts
+pub mod Failing
+pub mod Runs
+pub mod Supplying
+pub mod Stages
+pub mod AfterRun

@@ -1,0 +1,10 @@
+pub mod Contents
+pub mod Reads
+pub mod Blocks
+pub mod Shown
+pub mod Relevance
+pub mod Attempts
+pub mod Stages
+pub mod Supplies
+pub mod Going
+pub mod Steps

@@ -1,0 +1,247 @@
+// How the component at hand goes on.
+ghost use Rattle.std.specs.Prelude.{◌≡◌, ◌≤◌, ◌<◌, ◌+◌, ◌*◌, ℕ, List, ◌∷◌, length, Some, None, IfOk, IfSome};
+ghost use Rattle.script_run.specs.Machines.{MachineView, view};
+ghost use Rattle.script_run.specs.Asking.{When};
+ghost use Rattle.script_run.specs.Places.{WaitsBelow, from, wanted_at};
+ghost use Rattle.script_run.specs.Advances.{wanted_by};
+ghost use Rattle.agent_attempt.specs.declared.attempt.Part.{Part};
+ghost use Rattle.agent_attempt.specs.Attempts.{PlainStage, StageWaitsBelow, issue_date, judging, running, starting};
+ghost use Rattle.agent_attempt.specs.Going.{AfterRun, Through, exit_at, HasNote, SameAttempt};
+ghost use Rattle.agent_attempt.specs.Reads.{IsScriptOf};
+ghost use Rattle.agent_attempt.specs.Relevance.{FixletIs, Succeeds};
+ghost use Rattle.agent_attempt.specs.Stages.{FirstHasScript, IsRun, shown_attempt, shown_stage};
+ghost use Rattle.agent_attempt.specs.Steps.{Falls, OpensRun, StepsBy, StepsTo, first_component, stage_behind, weight_of, with_stage};
+
+use crate::attempt::{Attempt, Stage};
+use crate::found::Found;
+use crate::time::Time;
+use crate::went::Went;
+use bf_machine::Machine;
+use rel_inspect::Pairs;
+use rel_lexer::Text;
+use rel_value::{Value, text};
+use script_run::{Cause, Ran, Run};
+use script_text::Script;
+use std::alloc::{AllocError, Global};
+
+impl Attempt {
+    /// The component at hand is asked whether it is relevant. One that isn't is passed over.
+    pub(crate) fn come<M: Machine>(
+        &mut self,
+        alloc: Global,
+        machine: &mut M,
+        time: &Time,
+    ) -> Option<Went>
+        requires stage { self.old.stage ≡ Stage.Coming }
+        requires some { 0 < length self.old.left }
+        ensures steps { StepsTo time.now (shown_attempt self.old)
+            (view (M.world machine.old) (M.looked machine.old) (M.acted machine.old) (M.polled machine.old) (M.faults machine.old)) result
+            (view (M.world machine.new) (M.looked machine.new) (M.acted machine.new) (M.polled machine.new) (M.faults machine.new)) (shown_attempt self.new) }
+        ensures waits { StageWaitsBelow (M.started machine.new) (shown_stage self.new.stage) }
+        ensures started { M.started machine.old ≤ M.started machine.new }
+        ensures note { IfSome result HasNote }
+        ensures same { SameAttempt (shown_attempt self.old) (shown_attempt self.new) }
+        ensures falls { Falls result (weight_of (shown_attempt self.old)) (weight_of (shown_attempt self.new)) }
+    {
+        match self.is_relevant(alloc, machine, time) {
+            Found::Yes => {
+                self.stage = Stage::Starting;
+                None
+            }
+            Found::No => self.next(),
+            Found::Failed => self.fail(0, Cause::MachineFault, None),
+            Found::Memory => Some(Went::Memory),
+        }
+    }
+
+    /// Whether the component at hand is relevant.
+    fn is_relevant<M: Machine>(&self, alloc: Global, machine: &mut M, time: &Time) -> Found
+        ensures asks { (part : Part) (left : List Part) → self.now.left ≡ part ∷ left → FixletIs time.now part.fixlet
+            (view (M.world machine.old) (M.looked machine.old) (M.acted machine.old) (M.polled machine.old) (M.faults machine.old)) result
+            (view (M.world machine.new) (M.looked machine.new) (M.acted machine.new) (M.polled machine.new) (M.faults machine.new)) }
+        ensures started { M.started machine.new ≡ M.started machine.old }
+    {
+        match self.left.front() {
+            Some(part) => part.fixlet.is_relevant(alloc, machine, time),
+            None => Found::No,
+        }
+    }
+
+    /// The script of the component at hand begins.
+    pub(crate) fn start(&mut self, alloc: Global) -> Option<Went>
+        requires some { 0 < length self.old.left }
+        requires script { FirstHasScript self.old.left }
+        ensures steps { (at : When) (machine : MachineView) → StepsTo at (with_stage starting (shown_attempt self.old)) machine result machine (shown_attempt self.new) }
+        ensures waits { (started : ℕ) → StageWaitsBelow started (shown_stage self.new.stage) }
+        ensures note { IfSome result HasNote }
+        ensures same { SameAttempt (shown_attempt self.old) (shown_attempt self.new) }
+        ensures falls { Falls result (weight_of (with_stage starting (shown_attempt self.old))) (weight_of (shown_attempt self.new)) }
+    {
+        match self.opened(alloc) {
+            Ok(run) => {
+                self.stage = Stage::Running(run);
+                None
+            }
+            Err(_) => {
+                self.stage = Stage::Starting;
+                Some(Went::Memory)
+            }
+        }
+    }
+
+    /// The script of the component at hand, at its beginning. The error is want of memory, here and below.
+    fn opened(&self, alloc: Global) -> Result<Run, AllocError>
+        requires some { 0 < length self.now.left }
+        requires script { FirstHasScript self.now.left }
+        ensures opens { IfOk result (λ run. (part : Part) (left : List Part) → self.now.left ≡ part ∷ left
+            → OpensRun part.fixlet.script (issue_date (shown_attempt self.now)) run) }
+        ensures waits { IfOk result (λ run. (started : ℕ) → WaitsBelow started run.place) }
+    {
+        let script = self.script()?;
+        let parameters = self.parameters(alloc)?;
+        Run::open(alloc, script, parameters)
+    }
+
+    /// The script of the component at hand.
+    fn script(&self) -> Result<Script, AllocError>
+        requires some { 0 < length self.now.left }
+        requires script { FirstHasScript self.now.left }
+        ensures { IfOk result (λ script. (part : Part) (left : List Part) → self.now.left ≡ part ∷ left → IsScriptOf part.fixlet.script (Some script)) }
+    {
+        match self.left.front() {
+            Some(part) => part.fixlet.script(),
+            None => unreachable!(),
+        }
+    }
+
+    /// The one parameter with which a script begins.
+    fn parameters(&self, alloc: Global) -> Result<Pairs, AllocError>
+        ensures { IfOk result (λ parameters. parameters ≡ issue_date (shown_attempt self.now)) }
+    {
+        let issued = match text(alloc, &Value::Time(self.action.issued), self.offset) {
+            Ok(issued) => issued,
+            Err(_) => return Err(AllocError),
+        };
+        let mut parameters = Pairs::new(alloc);
+        parameters.push(Text::from_str(alloc, "action issue date")?, issued)?;
+        Ok(parameters)
+    }
+
+    /// The script of the component at hand goes on.
+    pub(crate) fn run<M: Machine>(
+        &mut self,
+        alloc: Global,
+        machine: &mut M,
+        time: &Time,
+        mut run: Run,
+    ) -> Option<Went>
+        requires some { 0 < length self.old.left }
+        requires run { IsRun run }
+        requires waits { WaitsBelow (M.started machine.old) run.place }
+        ensures steps { StepsTo time.now (with_stage (running (from run) (wanted_at run.place)) (shown_attempt self.old))
+            (view (M.world machine.old) (M.looked machine.old) (M.acted machine.old) (M.polled machine.old) (M.faults machine.old)) result
+            (view (M.world machine.new) (M.looked machine.new) (M.acted machine.new) (M.polled machine.new) (M.faults machine.new)) (shown_attempt self.new) }
+        ensures waits { StageWaitsBelow (M.started machine.new) (shown_stage self.new.stage) }
+        ensures started { M.started machine.old ≤ M.started machine.new }
+        ensures note { IfSome result HasNote }
+        ensures same { SameAttempt (shown_attempt self.old) (shown_attempt self.new) }
+        ensures falls { Falls result (weight_of (with_stage (running (from run) (wanted_at run.place)) (shown_attempt self.old))) (weight_of (shown_attempt self.new)) }
+    {
+        let ran = run.advance(alloc, machine, time.moment(), time.offset());
+        let exit = run.exit();
+        self.stage = stage_behind(&ran, exit, run);
+        self.after_run(ran, exit)
+    }
+
+    /// What comes of an attempt whose script went on and came to this, with this exit code. It stands at the stage behind that.
+    fn after_run(&mut self, ran: Ran, exit: Option<i64>) -> Option<Went>
+        requires some { 0 < length self.old.left }
+        requires stage { (run : Run) × (self.old.stage ≡ stage_behind ran exit run) }
+        ensures steps { (at : When) (before : PlainStage) (run : Run) (machine : MachineView) (part : Part) (left : List Part)
+            → self.old.left ≡ part ∷ left → self.old.stage ≡ stage_behind ran exit run → wanted_at run.place ≡ wanted_by ran → exit ≡ exit_at (from run)
+            → StepsBy at (AfterRun at (with_stage before (shown_attempt self.old)) part left (Through at (with_stage before (shown_attempt self.old)) left) ran (from run))
+            self.old.past machine result machine (shown_attempt self.new) }
+        ensures stage { self.new.stage ≡ self.old.stage }
+        ensures note { IfSome result HasNote }
+        ensures same { SameAttempt (shown_attempt self.old) (shown_attempt self.new) }
+        ensures falls { Falls result (4 * length self.old.left + 1) (weight_of (shown_attempt self.new)) }
+    {
+        match ran {
+            Ran::Held(line) => Some(Went::Held {
+                component: self.component(),
+                line,
+            }),
+            Ran::Wants(_, digest) => Some(Went::Wants { digest }),
+            Ran::Done => None,
+            Ran::Failed(line, cause) => self.fail(line, cause, exit),
+            Ran::Memory => Some(Went::Memory),
+        }
+    }
+
+    /// The success of the component at hand is judged.
+    pub(crate) fn judge<M: Machine>(
+        &mut self,
+        alloc: Global,
+        machine: &mut M,
+        time: &Time,
+        exit: Option<i64>,
+    ) -> Option<Went>
+        requires stage { self.old.stage ≡ Stage.Coming }
+        requires some { 0 < length self.old.left }
+        ensures steps { StepsTo time.now (with_stage (judging exit) (shown_attempt self.old))
+            (view (M.world machine.old) (M.looked machine.old) (M.acted machine.old) (M.polled machine.old) (M.faults machine.old)) result
+            (view (M.world machine.new) (M.looked machine.new) (M.acted machine.new) (M.polled machine.new) (M.faults machine.new)) (shown_attempt self.new) }
+        ensures waits { StageWaitsBelow (M.started machine.new) (shown_stage self.new.stage) }
+        ensures started { M.started machine.old ≤ M.started machine.new }
+        ensures note { IfSome result HasNote }
+        ensures same { SameAttempt (shown_attempt self.old) (shown_attempt self.new) }
+        ensures falls { Falls result (weight_of (with_stage (judging exit) (shown_attempt self.old))) (weight_of (shown_attempt self.new)) }
+    {
+        match self.succeeds(alloc, machine, time) {
+            Found::Yes => {
+                self.exit = exit;
+                self.next()
+            }
+            Found::No => self.fail(0, Cause::NotMet, exit),
+            Found::Failed => self.fail(0, Cause::MachineFault, exit),
+            Found::Memory => {
+                self.stage = Stage::Judging(exit);
+                Some(Went::Memory)
+            }
+        }
+    }
+
+    /// Whether the success rule of the component at hand holds.
+    fn succeeds<M: Machine>(&self, alloc: Global, machine: &mut M, time: &Time) -> Found
+        ensures asks { (part : Part) (left : List Part) → self.now.left ≡ part ∷ left → Succeeds time.now part.fixlet part.fixlet.success
+            (view (M.world machine.old) (M.looked machine.old) (M.acted machine.old) (M.polled machine.old) (M.faults machine.old)) result
+            (view (M.world machine.new) (M.looked machine.new) (M.acted machine.new) (M.polled machine.new) (M.faults machine.new)) }
+        ensures started { M.started machine.new ≡ M.started machine.old }
+    {
+        match self.left.front() {
+            Some(part) => part.fixlet.succeeds(alloc, machine, time),
+            None => Found::No,
+        }
+    }
+
+    /// The position of the component at hand.
+    pub(crate) fn component(&self) -> u32
+        ensures { result ≡ first_component self.now.left }
+    {
+        match self.left.front() {
+            Some(part) => part.component,
+            None => 0,
+        }
+    }
+}
+
+/// The stage behind what a script came to, with its exit code.
+fn stage_behind(ran: &Ran, exit: Option<i64>, run: Run) -> Stage
+    ensures { result ≡ stage_behind ran.now exit run }
+{
+    match ran {
+        Ran::Done => Stage::Judging(exit),
+        Ran::Failed(_, _) => Stage::Coming,
+        Ran::Held(_) | Ran::Wants(_, _) | Ran::Memory => Stage::Running(run),
+    }
+}

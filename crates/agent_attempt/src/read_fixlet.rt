@@ -1,0 +1,154 @@
+ghost use Rattle.std.specs.Prelude.{◌≡◌, ◌<◌, ◌^◌, ℕ, List, length, Some, IfOk};
+ghost use Rattle.fix_site.specs.Contents.{IsFixlet};
+ghost use Rattle.script_run.specs.Machines.{view};
+ghost use Rattle.agent_attempt.specs.Reads.{IsScriptOf, success_clause};
+ghost use Rattle.agent_attempt.specs.Relevance.{FixletIs, HasScript, Succeeds};
+
+use crate::clause::{Clause, ask_all, ask_given, copy_all, copy_clause, read_all};
+use crate::found::Found;
+use crate::time::Time;
+use bf_machine::Machine;
+use fix_site::{Fixlet, Success};
+use rel_lexer::Text;
+use script_text::{Script, ScriptError, read_script};
+use std::alloc::{AllocError, Global};
+use std::marker::Model;
+
+/// A fixlet whose texts were read once. Contracts see the fixlet.
+#[derive(Drop)]
+pub struct ReadFixlet {
+    alloc: Global,
+    fixlet: Fixlet,
+    relevance: Vec<Clause>,
+    success: Option<Clause>,
+    script: Option<Script>,
+}
+
+impl Model for ReadFixlet {
+    ghost use Rattle.std.specs.Prelude.{◌≡◌};
+    ghost use Rattle.fix_site.specs.declared.fixlet.Fixlet.{Fixlet};
+    ghost use Rattle.fix_site.specs.Contents.{IsFixlet};
+    ghost use Rattle.agent_attempt.specs.Reads.{IsScriptOf, success_clause};
+
+    ghost Value = { Fixlet };
+
+    ghost view = { λ f. f.fixlet };
+
+    ghost invariant = { λ f. IsFixlet f.fixlet × (f.relevance.items ≡ f.fixlet.relevance)
+        × (f.success ≡ success_clause f.fixlet.success) × IsScriptOf f.fixlet.script f.script };
+}
+
+impl ReadFixlet {
+    /// Reads the texts of a fixlet. The error is want of memory, here and below.
+    pub(crate) fn read(alloc: Global, fixlet: &Fixlet) -> Result<ReadFixlet, AllocError>
+        requires { IsFixlet fixlet.now }
+        ensures { IfOk result (λ read. read ≡ fixlet.now) }
+    {
+        Ok(ReadFixlet {
+            alloc,
+            fixlet: fixlet.copy()?,
+            relevance: read_all(alloc, fixlet.relevance.as_slice())?,
+            success: read_success(alloc, &fixlet.success)?,
+            script: script_of(alloc, fixlet.script.as_slice())?,
+        })
+    }
+
+    /// The same fixlet once more.
+    pub(crate) fn copy(&self) -> Result<ReadFixlet, AllocError>
+        ensures { IfOk result (λ copy. copy ≡ self.now) }
+    {
+        Ok(ReadFixlet {
+            alloc: self.alloc,
+            fixlet: self.fixlet.copy()?,
+            relevance: copy_all(self.alloc, self.relevance.as_slice())?,
+            success: copy_clause(&self.success)?,
+            script: copy_script(&self.script)?,
+        })
+    }
+
+    /// Its id.
+    pub(crate) fn id(&self) -> u64
+        ensures { result ≡ self.now.id }
+    {
+        self.fixlet.id
+    }
+
+    /// Its script, which isn't refused.
+    pub(crate) fn script(&self) -> Result<Script, AllocError>
+        requires { HasScript self.now.script }
+        ensures { IfOk result (λ script. IsScriptOf self.now.script (Some script)) }
+    {
+        match &self.script {
+            Some(script) => script.copy(),
+            None => unreachable!(),
+        }
+    }
+
+    /// Whether the fixlet is relevant.
+    pub(crate) fn is_relevant<M: Machine>(
+        &self,
+        alloc: Global,
+        machine: &mut M,
+        time: &Time,
+    ) -> Found
+        ensures asks { FixletIs time.now self.now
+            (view (M.world machine.old) (M.looked machine.old) (M.acted machine.old) (M.polled machine.old) (M.faults machine.old)) result
+            (view (M.world machine.new) (M.looked machine.new) (M.acted machine.new) (M.polled machine.new) (M.faults machine.new)) }
+        ensures started { M.started machine.new ≡ M.started machine.old }
+    {
+        if self.script.is_none() {
+            return Found::No;
+        }
+        ask_all(alloc, self.relevance.as_slice(), machine, time)
+    }
+
+    /// Whether its success rule holds, after its script is done.
+    pub(crate) fn succeeds<M: Machine>(&self, alloc: Global, machine: &mut M, time: &Time) -> Found
+        ensures asks { Succeeds time.now self.now self.now.success
+            (view (M.world machine.old) (M.looked machine.old) (M.acted machine.old) (M.polled machine.old) (M.faults machine.old)) result
+            (view (M.world machine.new) (M.looked machine.new) (M.acted machine.new) (M.polled machine.new) (M.faults machine.new)) }
+        ensures started { M.started machine.new ≡ M.started machine.old }
+    {
+        match &self.fixlet.success {
+            Success::Lines => Found::Yes,
+            Success::Relevance => {
+                ask_all(alloc, self.relevance.as_slice(), machine, time).opposite()
+            }
+            Success::Clause(_) => ask_given(alloc, &self.success, machine, time),
+        }
+    }
+}
+
+/// Reads the question of a success rule, if it has one.
+fn read_success(alloc: Global, success: &Success) -> Result<Option<Clause>, AllocError>
+    ensures { IfOk result (λ clause. clause ≡ success_clause success.now) }
+{
+    match success {
+        Success::Lines | Success::Relevance => Ok(None),
+        Success::Clause(question) => Ok(Some(Clause::read(alloc, question)?)),
+    }
+}
+
+/// Reads a script. None where it is refused.
+fn script_of(alloc: Global, lines: &[Text]) -> Result<Option<Script>, AllocError>
+    requires { length lines.now < 2 ^ 32 }
+    ensures { IfOk result (λ script. IsScriptOf lines.now script) }
+{
+    match read_script(alloc, lines) {
+        Ok(script) => Ok(Some(script)),
+        Err(error) => match error {
+            ScriptError::Memory => Err(AllocError),
+            _ => Ok(None),
+        },
+    }
+}
+
+/// The same script once more.
+fn copy_script(script: &Option<Script>) -> Result<Option<Script>, AllocError>
+    ensures { (lines : List (List ℕ)) → IsScriptOf lines script.now → IfOk result (λ copy. IsScriptOf lines copy) }
+{
+    match script {
+        Some(script) => Ok(Some(script.copy()?)),
+        None => Ok(None),
+    }
+}

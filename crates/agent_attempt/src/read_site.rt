@@ -1,0 +1,127 @@
+ghost use Rattle.std.specs.Prelude.{◌≡◌, ◌==◌, map, IfOk};
+ghost use Rattle.std.specs.List.{find};
+ghost use Rattle.std.specs.Option.{option_map};
+ghost use Rattle.fix_site.specs.Sites.{IsSite};
+ghost use Rattle.agent_attempt.specs.Blocks.{read_id, shown_block};
+ghost use Rattle.agent_attempt.specs.Contents.{block_content};
+ghost use Rattle.agent_attempt.specs.Shown.{FindsBlock, FindsContent, FindsFixlet, shown_if};
+
+use crate::read_block::{ReadBaseline, ReadBlock};
+use crate::read_fixlet::ReadFixlet;
+use fix_site::Site;
+use rel_lexer::Text;
+use std::alloc::{AllocError, Global};
+use std::marker::Model;
+
+/// A site whose texts were read once. Contracts see the site.
+#[derive(Drop)]
+pub struct ReadSite {
+    name: Text,
+    version: u64,
+    blocks: Vec<ReadBlock>,
+}
+
+impl Model for ReadSite {
+    ghost use Rattle.std.specs.Prelude.{map};
+    ghost use Rattle.fix_site.specs.declared.site.Site.{Site};
+    ghost use Rattle.fix_site.specs.Sites.{IsSite};
+    ghost use Rattle.agent_attempt.specs.Blocks.{shown_block};
+
+    ghost Value = { Site };
+
+    ghost view = { λ s. record { name = s.name; version = s.version; blocks = map shown_block s.blocks.items } };
+
+    ghost invariant = { λ s. IsSite (record { name = s.name; version = s.version; blocks = map shown_block s.blocks.items }) };
+}
+
+/// What an action runs.
+#[derive(Clone, Copy)]
+pub enum Content<'a> {
+    Fixlet(&'a ReadFixlet),
+    /// A baseline of this site.
+    Baseline(&'a ReadSite, &'a ReadBaseline),
+}
+
+impl ReadSite {
+    /// Reads the texts of a site. The error is want of memory.
+    pub fn read(alloc: Global, site: &Site) -> Result<ReadSite, AllocError>
+        requires { IsSite site.now }
+        ensures { IfOk result (λ read. read ≡ site.now) }
+    {
+        let mut blocks = Vec::new(alloc);
+        for block in site.blocks.as_slice() {
+            blocks.push(ReadBlock::read(alloc, block)?)?;
+        }
+        Ok(ReadSite {
+            name: site.name.copy()?,
+            version: site.version,
+            blocks,
+        })
+    }
+
+    /// Its name.
+    pub fn name(&self) -> &str
+        ensures { result.now ≡ self.now.name }
+    {
+        self.name.as_str()
+    }
+
+    /// Its version.
+    pub fn version(&self) -> u64
+        ensures { result ≡ self.now.version }
+    {
+        self.version
+    }
+
+    /// Its blocks, in their order.
+    pub fn blocks(&self) -> &[ReadBlock]
+        ensures blocks { map shown_block result.now ≡ self.now.blocks }
+        ensures good { IsSite self.now }
+    {
+        self.blocks.as_slice()
+    }
+
+    fn block(&self, id: u64) -> Option<&ReadBlock>
+        ensures { FindsBlock id self.now.blocks result }
+    {
+        block_of(self.blocks.as_slice(), id)
+    }
+
+    /// The fixlet of this id, if there is one.
+    pub(crate) fn fixlet(&self, id: u64) -> Option<&ReadFixlet>
+        ensures { FindsFixlet id self.now.blocks result }
+    {
+        match self.block(id) {
+            Some(block) => block.as_fixlet(),
+            None => None,
+        }
+    }
+
+    /// What an action of this content runs, if there is such a fixlet or baseline.
+    pub fn content(&self, id: u64) -> Option<Content<'_>>
+        ensures { FindsContent id self.now.blocks result }
+    {
+        match self.block(id) {
+            Some(block) => self.content_of(block),
+            None => None,
+        }
+    }
+
+    /// What an action of this block of the site runs.
+    fn content_of<'a>(&'a self, block: &'a ReadBlock) -> Option<Content<'a>>
+        ensures { shown_if result ≡ block_content self.now.blocks (shown_block block.now) }
+    {
+        match block {
+            ReadBlock::Fixlet(fixlet) => Some(Content::Fixlet(fixlet)),
+            ReadBlock::Baseline(baseline) => Some(Content::Baseline(self, baseline)),
+            ReadBlock::Action(_) => None,
+        }
+    }
+}
+
+/// The first of these blocks that has this id.
+fn block_of(blocks: &[ReadBlock], id: u64) -> Option<&ReadBlock>
+    ensures { option_map (λ block. block.now) result ≡ find (λ block. read_id block == id) blocks.now }
+{
+    blocks.iter().find(|block| block.id() == id)
+}

@@ -1,0 +1,180 @@
+ghost use Rattle.std.specs.Prelude.{◌≡◌, IsTrue, ◌↔◌, ◌∷◌, [], Some};
+ghost use Rattle.act_rules.specs.Rows.{IsRows};
+ghost use Rattle.act_rules.specs.Tallies.{StandsFor};
+ghost use Rattle.script_run.specs.Machines.{view};
+ghost use Rattle.agent_attempt.specs.Contents.{fixlets_at, group};
+ghost use Rattle.agent_attempt.specs.Relevance.{AsksThen, ContentIs, IsDue, MayBegin, SomeIs, Targets, and_then};
+ghost use Rattle.agent_attempt.specs.Shown.{shown_content, shown_if};
+
+use crate::found::Found;
+use crate::read_block::{ReadAction, ReadBaseline};
+use crate::read_site::{Content, ReadSite};
+use crate::time::Time;
+use act_rules::{Row, Tally, window};
+use bf_machine::Machine;
+use rel_lexer::Text;
+use std::alloc::Global;
+
+/// The most rows of an action.
+const MOST_ROWS: usize = 4_294_967_295;
+
+/// Whether content is relevant. What isn't gathered isn't.
+pub fn relevant<M: Machine>(
+    alloc: Global,
+    content: Option<Content<'_>>,
+    machine: &mut M,
+    time: &Time,
+) -> Found
+    ensures asks { ContentIs time.now (shown_if content.entry)
+        (view (M.world machine.old) (M.looked machine.old) (M.acted machine.old) (M.polled machine.old) (M.faults machine.old)) result
+        (view (M.world machine.new) (M.looked machine.new) (M.acted machine.new) (M.polled machine.new) (M.faults machine.new)) }
+    ensures started { M.started machine.new ≡ M.started machine.old }
+{
+    match content {
+        None => Found::No,
+        Some(content) => content_relevant(alloc, content, machine, time),
+    }
+}
+
+/// Whether content that is gathered is relevant.
+fn content_relevant<M: Machine>(
+    alloc: Global,
+    content: Content<'_>,
+    machine: &mut M,
+    time: &Time,
+) -> Found
+    ensures asks { ContentIs time.now (Some (shown_content content.entry))
+        (view (M.world machine.old) (M.looked machine.old) (M.acted machine.old) (M.polled machine.old) (M.faults machine.old)) result
+        (view (M.world machine.new) (M.looked machine.new) (M.acted machine.new) (M.polled machine.new) (M.faults machine.new)) }
+    ensures started { M.started machine.new ≡ M.started machine.old }
+{
+    match content {
+        Content::Fixlet(fixlet) => fixlet.is_relevant(alloc, machine, time),
+        Content::Baseline(site, baseline) => {
+            baseline_relevant(alloc, site, baseline, machine, time)
+        }
+    }
+}
+
+/// Whether a baseline of a site is relevant.
+fn baseline_relevant<M: Machine>(
+    alloc: Global,
+    site: &ReadSite,
+    baseline: &ReadBaseline,
+    machine: &mut M,
+    time: &Time,
+) -> Found
+    ensures asks { ContentIs time.now (Some (group baseline.now.relevance (fixlets_at baseline.now.components site.now.blocks)))
+        (view (M.world machine.old) (M.looked machine.old) (M.acted machine.old) (M.polled machine.old) (M.faults machine.old)) result
+        (view (M.world machine.new) (M.looked machine.new) (M.acted machine.new) (M.polled machine.new) (M.faults machine.new)) }
+    ensures started { M.started machine.new ≡ M.started machine.old }
+{
+    match baseline.ask(alloc, machine, time) {
+        Found::Yes => some_relevant(alloc, site, baseline.components(), machine, time),
+        found => found,
+    }
+}
+
+/// Asks the fixlets of these ids in order, up to the first that is relevant.
+fn some_relevant<M: Machine>(
+    alloc: Global,
+    site: &ReadSite,
+    ids: &[u64],
+    machine: &mut M,
+    time: &Time,
+) -> Found
+    ensures asks { SomeIs time.now (fixlets_at ids.now site.now.blocks)
+        (view (M.world machine.old) (M.looked machine.old) (M.acted machine.old) (M.polled machine.old) (M.faults machine.old)) result
+        (view (M.world machine.new) (M.looked machine.new) (M.acted machine.new) (M.polled machine.new) (M.faults machine.new)) }
+    ensures started { M.started machine.new ≡ M.started machine.old }
+{
+    for id in ids {
+        match one_relevant(alloc, site, *id, machine, time) {
+            Found::No => {}
+            found => return found,
+        }
+    }
+    Found::No
+}
+
+/// Asks the fixlet of this id. Where there is none, none is relevant.
+fn one_relevant<M: Machine>(
+    alloc: Global,
+    site: &ReadSite,
+    id: u64,
+    machine: &mut M,
+    time: &Time,
+) -> Found
+    ensures asks { SomeIs time.now (fixlets_at (id ∷ []) site.now.blocks)
+        (view (M.world machine.old) (M.looked machine.old) (M.acted machine.old) (M.polled machine.old) (M.faults machine.old)) result
+        (view (M.world machine.new) (M.looked machine.new) (M.acted machine.new) (M.polled machine.new) (M.faults machine.new)) }
+    ensures started { M.started machine.new ≡ M.started machine.old }
+{
+    match site.fixlet(id) {
+        Some(fixlet) => fixlet.is_relevant(alloc, machine, time),
+        None => Found::No,
+    }
+}
+
+/// Whether an action is due on this computer, by its rows, for which the tally stands, and its content.
+pub fn due<M: Machine>(
+    alloc: Global,
+    computer: &Text,
+    action: &ReadAction,
+    content: Option<Content<'_>>,
+    rows: &[Row],
+    tally: &Tally,
+    machine: &mut M,
+    time: &Time,
+) -> Found
+    requires rows { IsRows rows.now }
+    requires tally { StandsFor tally.now action.now.rules.retries rows.now }
+    ensures asks { IsDue time.now computer.now action.now (shown_if content.entry) rows.now
+        (view (M.world machine.old) (M.looked machine.old) (M.acted machine.old) (M.polled machine.old) (M.faults machine.old)) result
+        (view (M.world machine.new) (M.looked machine.new) (M.acted machine.new) (M.polled machine.new) (M.faults machine.new)) }
+    ensures started { M.started machine.new ≡ M.started machine.old }
+{
+    if may_begin(action, rows, tally, time) {
+        return wanted(alloc, computer, action, content, machine, time);
+    }
+    Found::No
+}
+
+/// Whether an action targets this computer and its content is relevant.
+fn wanted<M: Machine>(
+    alloc: Global,
+    computer: &Text,
+    action: &ReadAction,
+    content: Option<Content<'_>>,
+    machine: &mut M,
+    time: &Time,
+) -> Found
+    ensures asks { AsksThen (Targets time.now computer.now action.now.target) (λ found. and_then found (ContentIs time.now (shown_if content.entry)))
+        (view (M.world machine.old) (M.looked machine.old) (M.acted machine.old) (M.polled machine.old) (M.faults machine.old)) result
+        (view (M.world machine.new) (M.looked machine.new) (M.acted machine.new) (M.polled machine.new) (M.faults machine.new)) }
+    ensures started { M.started machine.new ≡ M.started machine.old }
+{
+    match action.targets(alloc, computer, machine, time) {
+        Found::Yes => relevant(alloc, content, machine, time),
+        found => found,
+    }
+}
+
+/// Whether an action may begin, as far as that can be said without a look.
+fn may_begin(action: &ReadAction, rows: &[Row], tally: &Tally, time: &Time) -> bool
+    requires rows { IsRows rows.now }
+    requires tally { StandsFor tally.now action.now.rules.retries rows.now }
+    ensures { IsTrue result ↔ MayBegin time.now action.now rows.now }
+{
+    let rules = &action.action().rules;
+    if rows.len() >= MOST_ROWS {
+        return false;
+    }
+    if action.action().stopped {
+        return false;
+    }
+    if !window(rules, time.moment(), time.offset()) {
+        return false;
+    }
+    tally.owed(rules, rows.last(), time.moment())
+}
