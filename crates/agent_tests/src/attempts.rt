@@ -9,7 +9,7 @@ use agent_attempt::{
 };
 use bf_machine::{PlainMachine, read_world};
 use desk_base::Bytes;
-use fix_site::{Site, read_site};
+use fix_site::read_site;
 use line_forms::write_digest;
 use rel_lexer::Text;
 use sha2::{Digest, Sha256};
@@ -79,14 +79,12 @@ fn sealed(alloc: Global, body: &[u8]) -> Option<Bytes> {
     Some(text)
 }
 
-fn site_of(alloc: Global, body: &[u8]) -> Option<Site> {
-    let text = sealed(alloc, body)?;
-    read_site(alloc, text.as_slice()).ok()
-}
-
 fn read(alloc: Global, body: &[u8]) -> Option<ReadSite> {
-    let site = site_of(alloc, body)?;
-    ReadSite::read(alloc, &site).ok()
+    let text = sealed(alloc, body)?;
+    match read_site(alloc, text.as_slice()) {
+        Ok(site) => ReadSite::read(alloc, &site).ok(),
+        Err(_) => None,
+    }
 }
 
 fn machine(alloc: Global) -> Option<PlainMachine> {
