@@ -175,7 +175,10 @@ staged_waits started s a run same is h =
     run_waits started run (subst (λ (x : Stage). StageWaitsBelow started (shown_stage x)) (sym (ap (λ (x : AttemptState). x.stage) same) ∙ is) h)
 
 -- the next component comes, where `a` is another name of the attempt
-pub next_is : (s a : AttemptState) (part : Part) (left rest : List Part) → a ≡ s → s.left ≡ part ∷ left → rest ≡ drop 1 a.left → record a { left = rest; stage = stage.Coming } ≡ record s { left = left; stage = stage.Coming }
-next_is s a part left rest same e is =
+pub next_is : (s a : AttemptState) (part : Part) (left rest : List Part) → a ≡ s → s.left ≡ part ∷ left → s.stage ≡ stage.Coming → rest ≡ drop 1 a.left → record a { left = rest } ≡ record s { left = left; stage = stage.Coming }
+next_is s a part left rest same e comes is =
     let behind : rest ≡ left = is ∙ ap (λ (x : AttemptState). drop 1 x.left) same ∙ ap (drop 1) e in
-    (λ i. record a { left = behind i; stage = stage.Coming }) ∙ ap (λ (x : AttemptState). record x { left = left; stage = stage.Coming }) same
+    (λ i. record a { left = behind i }) ∙ ap (λ (x : AttemptState). record x { left = left }) same ∙ (λ i. record s { left = left; stage = comes i })
+
+pub coming_is : (left : List Part) (own : Stage) → own ≡ stage.Coming → IsStage left own
+coming_is left own is = subst (IsStage left) (sym is) tt

@@ -1,16 +1,14 @@
 -- An attempt that is given a file, and one that begins.
-use Rattle.std.proofs.Common.{◌≡◌, ◌≢◌, ◌↔◌, ℕ, ℤ, Bool, true, false, List, [], ◌∷◌, ◌++◌, Option, Some, None, Result, Ok, Err, refl, sym, ap, subst, ◌∙◌}
-use Rattle.std.specs.Prelude.{IsTrue, IfOk}
+use Rattle.std.proofs.Common.{◌≡◌, ◌≢◌, ◌↔◌, ℕ, Bool, true, false, List, [], ◌∷◌, ◌++◌, Option, Some, None, refl, sym, ap, subst, ◌∙◌}
+use Rattle.std.specs.Prelude.{IsTrue}
 use Rattle.rel_sources.specs.declared.pair.Pair.{Pair}
-use Rattle.fix_site.specs.declared.action.Action.{Action}
 use Rattle.script_text.specs.Scripts.{PlainScript}
 use Rattle.script_run.specs.declared.run.Run.{Run}
 use Rattle.script_run.specs.Walks.{Settled, supplied}
 use Rattle.script_run.specs.Places.{Stands, WaitsBelow, wanted_at}
-use Rattle.agent_attempt.specs.declared.attempt.Part.{Part}
 use Rattle.agent_attempt.specs.declared.attempt.Stage.{Stage}
 use Rattle.agent_attempt.specs.declared.attempt.Stage.TheVariants as stage
-use Rattle.agent_attempt.specs.Attempts.{PlainAttempt, StageWaitsBelow}
+use Rattle.agent_attempt.specs.Attempts.{StageWaitsBelow}
 use Rattle.agent_attempt.specs.Stages.{AttemptState, IsRun, shown_attempt, shown_stage}
 use Rattle.agent_attempt.specs.Supplies.{StageTakes, Supplies, Takes, wanted_of}
 use Rattle.agent_attempt.proofs.Runs.{run_waits, supply_from, walk_waits}
@@ -60,12 +58,3 @@ none_wanted (stage.Judging exit) digest other = ((λ t. absurd (cc)), (λ e. abs
 pub supplies_none : (s a : AttemptState) (digest : List ℕ) (bytes : Option (List ℕ)) → a ≡ s → ((run : Run) → a.stage ≢ stage.Running run) → Supplies (shown_attempt s) digest bytes false (shown_attempt a)
 supplies_none s a digest bytes same other =
     subst (λ (x : AttemptState). Supplies (shown_attempt x) digest bytes false (shown_attempt a)) same (none_wanted a.stage digest other, refl)
-
--- ---- beginning
-pub begun : {E : Type 0} (result : Result AttemptState E) (a : AttemptState) (plain : PlainAttempt) → IfOk result (λ made. made ≡ a) → shown_attempt a ≡ plain → IfOk result (λ made. shown_attempt made ≡ plain)
-begun (Ok made) a plain is e = ap shown_attempt is ∙ e
-begun (Err error) a plain is e = tt
-
--- an attempt at this stage of its first component
-abbrev pub attempt_at : Action → ℕ → ℤ → List Part → Stage → AttemptState
-attempt_at action row offset left at = record { action = action; row = row; offset = offset; left = left; stage = at; past = record { failure = None; exit = None } }

@@ -1,4 +1,5 @@
 ghost use Rattle.std.specs.Prelude.{◌≡◌, ℕ, ◌+◌, ◌∷◌, ◌++◌, [], length, None, IfOk};
+ghost use Rattle.desk_base.specs.Moments.{IsMoment};
 ghost use Rattle.line_forms.specs.Numbers.{IsOffset};
 ghost use Rattle.agent_attempt.specs.Attempts.{StageWaitsBelow, new_attempt, numbered};
 ghost use Rattle.agent_attempt.specs.Contents.{fixlets_at, single};
@@ -105,46 +106,42 @@ impl Attempt {
         ensures begun { IfOk result (λ attempt. shown_attempt attempt ≡ new_attempt action.now (shown_content content.entry) row offset) }
         ensures waits { IfOk result (λ attempt. (started : ℕ) → StageWaitsBelow started (shown_stage attempt.stage)) }
     {
+        let own = action.copied()?;
         match content {
             Content::Fixlet(fixlet) => {
                 let left = alone(alloc, fixlet)?;
-                Attempt::of(action, row, offset, left, Stage::Starting)
+                Ok(Attempt::of(own, row, offset, left, Stage::Starting))
             }
             Content::Baseline(site, baseline) => {
                 let left = group(alloc, site, baseline)?;
-                Attempt::of(action, row, offset, left, Stage::Coming)
+                Ok(Attempt::of(own, row, offset, left, Stage::Coming))
             }
         }
     }
 
     /// An attempt of these components, the first of which stands at this stage.
-    fn of(
-        action: &ReadAction,
-        row: u32,
-        offset: i64,
-        left: VecDeque<Part>,
-        stage: Stage,
-    ) -> Result<Attempt, AllocError>
+    fn of(action: Action, row: u32, offset: i64, left: VecDeque<Part>, stage: Stage) -> Attempt
+        requires moment { IsMoment action.issued }
         requires offset { IsOffset offset }
         requires stage { IsStage left.items stage }
-        ensures { IfOk result (λ attempt. attempt ≡ record {
-          action = action.now;
+        ensures { result ≡ record {
+          action = action;
           row = row;
           offset = offset;
           left = left.items;
           stage = stage;
           past = record { failure = None; exit = None };
-        }) }
+        } }
     {
-        Ok(Attempt {
-            action: action.copied()?,
+        Attempt {
+            action,
             row,
             offset,
             left,
             stage,
             failure: None,
             exit: None,
-        })
+        }
     }
 
     /// The id of its action.

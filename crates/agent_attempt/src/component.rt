@@ -23,6 +23,7 @@ use rel_value::{Value, text};
 use script_run::{Cause, Ran, Run};
 use script_text::Script;
 use std::alloc::{AllocError, Global};
+use std::mem::drop;
 
 impl Attempt {
     /// The component at hand is asked whether it is relevant. One that isn't is passed over.
@@ -240,8 +241,14 @@ fn stage_behind(ran: &Ran, exit: Option<i64>, run: Run) -> Stage
     ensures { result ≡ stage_behind ran.now exit run }
 {
     match ran {
-        Ran::Done => Stage::Judging(exit),
-        Ran::Failed(_, _) => Stage::Coming,
+        Ran::Done => {
+            drop(run);
+            Stage::Judging(exit)
+        }
+        Ran::Failed(_, _) => {
+            drop(run);
+            Stage::Coming
+        }
         Ran::Held(_) | Ran::Wants(_, _) | Ran::Memory => Stage::Running(run),
     }
 }

@@ -1,5 +1,5 @@
 // How an attempt goes on, component by component.
-ghost use Rattle.std.specs.Prelude.{◌≡◌, ◌≤◌, ◌<◌, ◌*◌, List, ◌∷◌, length, None, IfSome};
+ghost use Rattle.std.specs.Prelude.{◌≡◌, ◌≤◌, ◌<◌, ◌*◌, List, ◌∷◌, length, drop, None, IfSome};
 ghost use Rattle.script_run.specs.Machines.{MachineView, view};
 ghost use Rattle.script_run.specs.Asking.{When};
 ghost use Rattle.agent_attempt.specs.declared.attempt.Part.{Part};
@@ -8,13 +8,14 @@ ghost use Rattle.agent_attempt.specs.Going.{Fails, Through, ended, with_failure,
 ghost use Rattle.agent_attempt.specs.Stages.{shown_attempt, shown_stage};
 ghost use Rattle.agent_attempt.specs.Steps.{Falls, StepsBy, StepsTo, weight_of};
 
-use crate::attempt::{Attempt, Failure, Stage};
+use crate::attempt::{Attempt, Failure, Part, Stage};
 use crate::time::Time;
 use crate::went::{Fail, Went};
 use act_rules::Note;
 use bf_machine::Machine;
 use script_run::Cause;
 use std::alloc::Global;
+use std::collections::VecDeque;
 use std::mem;
 
 impl Attempt {
@@ -124,12 +125,19 @@ impl Attempt {
 
     /// The next component comes.
     pub(crate) fn next(&mut self) -> Option<Went>
+        requires { self.old.stage ≡ Stage.Coming }
         ensures none { result ≡ None }
         ensures next { (part : Part) (left : List Part) → self.old.left ≡ part ∷ left
             → self.new ≡ record self.old { left = left; stage = Stage.Coming } }
     {
-        self.left.pop_front();
-        self.stage = Stage::Coming;
+        leave(&mut self.left);
         None
     }
+}
+
+/// The first of the components is behind.
+fn leave(parts: &mut VecDeque<Part>)
+    ensures { parts.new.items ≡ drop 1 parts.old.items }
+{
+    parts.pop_front();
 }

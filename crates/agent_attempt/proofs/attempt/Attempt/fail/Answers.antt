@@ -5,6 +5,11 @@ use Rattle.agent_attempt.proofs.Stepping.{first_of, first_falls, falls_coming, s
 use Rattle.agent_attempt.proofs.Failing.{failing_next, failing_end, failing_left}
 use Rattle.agent_attempt.proofs.attempt.Attempt.fail.Goals as goal
 
+pub next-requires : goal.next-requires
+next-requires c =
+    let p = first_of c.args.self.now.left c.requires.some in
+    ap (λ (x : AttemptState). x.stage) (c.keep_failure.ensures p.0 p.1 p.2) ∙ c.requires.stage
+
 pub returns-then-self-clause-steps : goal.returns-then-self-clause-steps
 returns-then-self-clause-steps c = λ at machine part left e.
     failing_next at c.args.self.now c.keep_failure.new.self c.next.new.self part left _ _ _ machine c.next.result (c.keep_failure.ensures part left e) e

@@ -8,6 +8,9 @@ use Rattle.agent_attempt.proofs.Stepping.{first_of, fail_from, held_so, same_hel
 use Rattle.agent_attempt.proofs.Stages.{judge_steps, judge_next, next_falls, next_same}
 use Rattle.agent_attempt.proofs.attempt.Attempt.judge.Goals as goal
 
+pub next-requires : goal.next-requires
+next-requires g c = ap (λ (x : AttemptState). x.stage) c.self.view_is ∙ c.requires.stage
+
 pub returns-in-Yes-clause-steps : goal.returns-in-Yes-clause-steps
 returns-in-Yes-clause-steps g c =
     let s = c.args.self.now in
