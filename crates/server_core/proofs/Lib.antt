@@ -1,0 +1,12 @@
+pub mod Accepting
+pub mod RowsAfter
+pub mod KeptFiles
+pub mod KeptReports
+pub mod KeptResults
+pub mod KeptSites
+pub mod Refusing
+pub mod Gathering
+pub mod Deciding
+pub mod Talking
+pub mod Running
+pub mod ReadAgain

@@ -1,0 +1,10 @@
+pub mod Entries
+pub mod Readings
+pub mod ActionStates
+pub mod Actionsite
+pub mod Tables
+pub mod Replies
+pub mod Answers
+pub mod Views
+pub mod Bodies
+pub mod Inside

@@ -1,0 +1,43 @@
+// Files.
+ghost use Rattle.std.specs.Prelude.{◌≡◌, ◌≤◌, true, IfOk, IsErrOf, OnErr};
+ghost use Rattle.desk_base.specs.Counts.{Rose};
+ghost use Rattle.desk_keep.specs.Calls.{IfTold};
+ghost use Rattle.server_core.specs.Entries.{Filed};
+ghost use Rattle.server_core.specs.Inside.{AnswersEntry, is_plain};
+
+use crate::keeping::put;
+use crate::limits::Limits;
+use crate::looking::{count_of, has_row};
+use crate::reply::Reply;
+use crate::stop::Stop;
+use desk_base::Bytes;
+use desk_keep::{Change, Find, Keeper, Table};
+use sha2::{Digest, Sha256};
+
+/// Keeps a file of these bytes, if it is accepted.
+pub(crate) fn keep_file<K: Keeper>(
+    keeper: &mut K,
+    limits: Limits,
+    bytes: &Bytes,
+) -> Result<Reply, Stop>
+    ensures plain { IfOk result (λ reply. is_plain reply ≡ true) }
+    ensures answers { IfOk result (λ reply. IfTold (K.rows keeper.old)
+        (λ rows. AnswersEntry limits rows (Filed bytes.now) reply (K.rows keeper.new))) }
+    ensures err { OnErr result (K.rows keeper.new ≡ K.rows keeper.old) }
+    ensures later { K.faults keeper.old ≤ K.faults keeper.new }
+    ensures failed { IsErrOf result Stop.Keeper → Rose (K.faults keeper.old) (K.faults keeper.new) }
+{
+    let digest = Sha256::digest(bytes.as_slice());
+    if has_row(keeper, &Find::File(digest))? {
+        return Ok(Reply::Digest(digest));
+    }
+    if limits.files <= count_of(keeper, Table::Files)? {
+        return Ok(Reply::Full(limits.files));
+    }
+    let row = Change::File {
+        digest,
+        bytes: bytes.copy()?,
+    };
+    put(keeper, &[row])?;
+    Ok(Reply::Digest(digest))
+}
