@@ -1,5 +1,5 @@
 -- What accepted requests are, and that the tables stay rows in order and form.
-use Rattle.std.proofs.Common.{◌≡◌, ◌≢◌, ℕ, ◌^◌, ◌<◌, nat_le, List, [], ◌∷◌, Bool, true, false, cond, Some, None, is_none, IfSome, codes, refl, sym, ap, subst, arith, filter, map}
+use Rattle.std.proofs.Common.{◌≡◌, ◌≢◌, ℕ, ◌+◌, ◌^◌, ◌<◌, ◌≤◌, nat_le, List, [], ◌∷◌, ◌++◌, Bool, true, false, cond, Some, None, is_none, IfSome, codes, refl, sym, ap, ◌∙◌, subst, arith, filter, map}
 use Rattle.std.specs.Prelude.{All, Ok, Err}
 use Rattle.std.specs.declared.option.Option.{Option}
 use Rattle.std.specs.declared.result.Result.{Result}
@@ -101,11 +101,11 @@ version_free rows =
       | false ↦ λ e h. grind (arith, nat_tests)
     ] refl
 
-first_one : (reply : Option Reply) → is_none (first_of (reply ∷ [])) ≡ true → is_none reply ≡ true
+pub first_one : (reply : Option Reply) → is_none (first_of (reply ∷ [])) ≡ true → is_none reply ≡ true
 first_one None h = refl
 first_one (Some reply) h = h
 
-first_two : (reply other : Option Reply) → is_none (first_of (reply ∷ other ∷ [])) ≡ true → (is_none reply ≡ true) × (is_none other ≡ true)
+pub first_two : (reply other : Option Reply) → is_none (first_of (reply ∷ other ∷ [])) ≡ true → (is_none reply ≡ true) × (is_none other ≡ true)
 first_two None other h = (refl, first_one other h)
 first_two (Some reply) other h = absurd (not_so h)
 

@@ -1,5 +1,5 @@
 -- Lists that loops gather, with one element more.
-use Rattle.std.proofs.Common.{◌≡◌, ℕ, ◌+◌, ◌-◌, ◌^◌, ◌<◌, min, List, [], ◌∷◌, ◌++◌, length, take, get_or, map, codes, refl, sym, ap, ◌∙◌, arith, append_assoc, append-nil, length-append, add_assoc, add-zero, zero-add}
+use Rattle.std.proofs.Common.{◌≡◌, ℕ, ◌+◌, ◌-◌, ◌^◌, ◌<◌, ◌≤◌, min, List, [], ◌∷◌, ◌++◌, length, take, get_or, map, codes, decimal, refl, sym, ap, ◌∙◌, subst, arith, append_assoc, append-nil, length-append, add_assoc, add-zero, zero-add}
 use Rattle.std.specs.Prelude.{filter_map}
 use Rattle.std.specs.List.{concat}
 use Rattle.std.specs.declared.option.Option.{Option}
@@ -50,7 +50,7 @@ head_length : length (ended_line (site_line (codes "actionsite") (2 ^ 53))) ≡ 
 unfolding digits
 head_length = refl
 
-digest_length : (digest : List ℕ) → length digest ≡ 32 → length (ended_line (digest_line digest)) ≡ 72
+pub digest_length : (digest : List ℕ) → length digest ≡ 32 → length (ended_line (digest_line digest)) ≡ 72
 digest_length digest is =
     let a = length-append (digest_line digest) (10 ∷ []) in
     let b = length-append (field_text (codes "digest")) (encode_lower digest) in
@@ -78,7 +78,7 @@ longest texts =
     let d : length last ≡ 72 = digest_length (sha256 (head ++ held)) (length-sha256 (head ++ held)) in
     a ∙ (λ i. (b ∙ (λ j. h j + t j)) i + d i) ∙ sum_of (most_bytes texts)
 
-most_of-append : (texts more : List (List ℕ)) → most_bytes (texts ++ more) ≡ most_bytes texts + most_bytes more
+pub most_of-append : (texts more : List (List ℕ)) → most_bytes (texts ++ more) ≡ most_bytes texts + most_bytes more
 most_of-append [] more = sym (zero-add (most_bytes more))
 most_of-append (text ∷ texts) more = ap (λ n. length (stopped_text text) + n) (most_of-append texts more) ∙ sym (add_assoc (length (stopped_text text)) (most_bytes texts) (most_bytes more))
 

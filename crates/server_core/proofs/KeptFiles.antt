@@ -1,5 +1,6 @@
 -- What is kept of files.
-use Rattle.std.proofs.Common.{◌≡◌, ℕ, inl, inr, List, [], ◌∷◌, ◌++◌, true, false, cond, Some, None, filter, map, refl, sym, ap, ◌∙◌, subst}
+use Rattle.std.proofs.Common.{◌≡◌, ℕ, ◌⊎◌, inl, inr, List, [], ◌∷◌, ◌++◌, Bool, true, false, cond, Some, None, filter, map, refl, sym, ap, ◌∙◌, subst}
+use Rattle.std.specs.Prelude.{Contains}
 use Rattle.std.specs.declared.option.Option.{Option}
 use Rattle.fix_site.specs.declared.site.Site.{Site}
 use Rattle.fix_site.specs.declared.action.Action.{Action}
@@ -9,7 +10,8 @@ use Rattle.sha2.specs.Sha256.{sha256}
 use Rattle.desk_keep.specs.declared.change.Change.{Change}
 use Rattle.desk_keep.specs.declared.change.Change.TheVariants as change
 use Rattle.desk_keep.specs.declared.find.Find.TheVariants as find
-use Rattle.desk_keep.specs.Keys.{asked_key, key_of, same_key}
+use Rattle.desk_keep.specs.Keys.{Key, asked_key, key_of, same_key}
+use Rattle.desk_keep.specs.Tables.{put_all, row_at}
 use Rattle.desk_keep.proofs.KeyOrder.{same_exact}
 use Rattle.server_core.specs.Entries.{Entry, Filed, Issued, Published, Reported, Stopped}
 use Rattle.server_core.specs.Tables.{action_at, file_at, has_later, next_version_row, puts, result_of, stopped_row, view}

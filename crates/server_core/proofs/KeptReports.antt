@@ -1,5 +1,6 @@
 -- What is kept of computers and reports.
-use Rattle.std.proofs.Common.{◌≡◌, ℕ, inl, inr, List, [], ◌∷◌, ◌++◌, true, false, cond, Some, None, is_none, filter, map, refl, sym, ap, ◌∙◌, subst}
+use Rattle.std.proofs.Common.{◌≡◌, ℕ, ◌⊎◌, inl, inr, List, [], ◌∷◌, ◌++◌, Bool, true, false, cond, Some, None, is_none, filter, map, refl, sym, ap, ◌∙◌, subst}
+use Rattle.std.specs.Prelude.{Contains}
 use Rattle.std.specs.declared.option.Option.{Option}
 use Rattle.sha2.specs.Sha256.{sha256}
 use Rattle.fix_site.specs.declared.site.Site.{Site}
@@ -10,14 +11,14 @@ use Rattle.report_text.specs.Reports.{report_text}
 use Rattle.desk_keep.specs.declared.change.Change.{Change}
 use Rattle.desk_keep.specs.declared.change.Change.TheVariants as change
 use Rattle.desk_keep.specs.declared.find.Find.TheVariants as find
-use Rattle.desk_keep.specs.Keys.{asked_key, key_of, same_key}
+use Rattle.desk_keep.specs.Keys.{Key, asked_key, key_of, same_key}
 use Rattle.desk_keep.proofs.KeyOrder.{same_exact}
 use Rattle.server_core.specs.declared.limits.Limits.{Limits}
 use Rattle.server_core.specs.Answers.{AreAccepted, is_accepted}
 use Rattle.server_core.specs.Entries.{Entry, Filed, Issued, Published, Reported, Stopped}
 use Rattle.server_core.specs.Replies.{reply_to_report}
 use Rattle.server_core.specs.Tables.{action_at, computer_at, has_later, next_version_row, puts, report_at, result_of, stopped_row, view}
-use Rattle.server_core.specs.Views.{ShowsComputer, ShowsReport}
+use Rattle.server_core.specs.Views.{IsReportOf, ShowsComputer, ShowsReport}
 use Rattle.server_core.proofs.Accepting.{not_so}
 use Rattle.server_core.proofs.RowsAfter.{cons_head, cons_tail, in_cons, in_nothing, other_key, row_after, row_at-put_all}
 

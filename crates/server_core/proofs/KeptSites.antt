@@ -1,6 +1,6 @@
 -- What is kept of sites, and the version of `actionsite`.
-use Rattle.std.proofs.Common.{◌≡◌, ◌≢◌, ℕ, ◌+◌, inl, inr, List, [], ◌∷◌, ◌++◌, true, false, cond, Some, None, codes, filter, map, refl, sym, ap, ◌∙◌, subst, add_comm, zero-add}
-use Rattle.std.specs.Prelude.{count_by}
+use Rattle.std.proofs.Common.{◌≡◌, ◌≢◌, ℕ, ◌+◌, ◌⊎◌, inl, inr, List, [], ◌∷◌, ◌++◌, Bool, true, false, cond, Some, None, codes, filter, map, refl, sym, ap, ◌∙◌, subst, add_comm, zero-add}
+use Rattle.std.specs.Prelude.{Contains, count_by}
 use Rattle.std.specs.declared.option.Option.{Option}
 use Rattle.std.proofs.lemmas.List.Sums.{sum_by-cons}
 use Rattle.fix_site.specs.declared.site.Site.{Site}
@@ -11,14 +11,14 @@ use Rattle.report_text.specs.declared.report_row.ReportRow.{ReportRow}
 use Rattle.desk_keep.specs.declared.change.Change.{Change}
 use Rattle.desk_keep.specs.declared.change.Change.TheVariants as change
 use Rattle.desk_keep.specs.declared.find.Find.TheVariants as find
-use Rattle.desk_keep.specs.Keys.{Key, asked_key, same_key}
+use Rattle.desk_keep.specs.Keys.{Key, asked_key, key_of, same_key}
 use Rattle.desk_keep.proofs.KeyOrder.{same_exact}
 use Rattle.server_core.specs.Answers.{AreAccepted}
 use Rattle.server_core.specs.Entries.{Entry, Filed, Issued, Published, Reported, Stopped}
 use Rattle.server_core.specs.Tables.{action_at, actions_version, has_later, next_version_row, puts, result_of, site_at, stopped_row, version_in, view}
-use Rattle.server_core.specs.Views.{ShowsSite, changes_actions}
+use Rattle.server_core.specs.Views.{IsLastSite, ShowsSite, changes_actions}
 use Rattle.server_core.proofs.Accepting.{IsEntry, entry_of}
-use Rattle.server_core.proofs.RowsAfter.{in_cons, in_nothing, other_key, row_after, row_at-put_all}
+use Rattle.server_core.proofs.RowsAfter.{cons_head, cons_tail, in_cons, in_nothing, other_key, row_after, row_at-put_all}
 
 abbrev pub key_for : List ℕ → Key
 key_for name = asked_key (find.Site name)
@@ -39,12 +39,12 @@ same_site : (site other : Site) → Published site ≡ Published other → site 
 same_site site other e = cc
 
 -- rows of results leave a site's
-site_results : (name : List ℕ) (report : Report) (rows : List ReportRow) (old : Option Change) → row_after (key_for name) (map (result_of report) rows) old ≡ old
+pub site_results : (name : List ℕ) (report : Report) (rows : List ReportRow) (old : Option Change) → row_after (key_for name) (map (result_of report) rows) old ≡ old
 site_results name report [] old = refl
 site_results name report (row ∷ rows) old = site_results name report rows old
 
 -- of what an act or a stop puts, the row of `actionsite` alone is one of a site
-site_stopped : (name : List ℕ) (found : Option Change) (rows : List Change) (old : Option Change) → row_after (key_for name) (stopped_row found ++ next_version_row rows ∷ []) old ≡ row_after (key_for name) (next_version_row rows ∷ []) old
+pub site_stopped : (name : List ℕ) (found : Option Change) (rows : List Change) (old : Option Change) → row_after (key_for name) (stopped_row found ++ next_version_row rows ∷ []) old ≡ row_after (key_for name) (next_version_row rows ∷ []) old
 site_stopped name None rows old = refl
 site_stopped name (Some (change.Action id text digest)) rows old = refl
 site_stopped name (Some (change.Site other version text)) rows old = refl
@@ -54,7 +54,7 @@ site_stopped name (Some (change.Report computer seq digest)) rows old = refl
 site_stopped name (Some (change.Result result)) rows old = refl
 
 -- a row of a site of another name leaves it
-other_site : (name other : List ℕ) (version : ℕ) (text : List ℕ) (old : Option Change) → (name ≡ other → ⊥) → row_after (key_for name) (change.Site other version text ∷ []) old ≡ old
+pub other_site : (name other : List ℕ) (version : ℕ) (text : List ℕ) (old : Option Change) → (name ≡ other → ⊥) → row_after (key_for name) (change.Site other version text ∷ []) old ≡ old
 other_site name other version text old differ =
     elim (same_key (key_for name) (key_for other)) as (λ b. same_key (key_for name) (key_for other) ≡ b → cond b (Some (change.Site other version text)) old ≡ old) [
       | true ↦ λ e. absurd (differ (ap (λ k. k.name) (same_exact (key_for name) (key_for other) e)))

@@ -10,3 +10,10 @@ pub mod Deciding
 pub mod Talking
 pub mod Running
 pub mod ReadAgain
+pub mod Meaning
+pub mod ActionTexts
+pub mod KeptActions
+pub mod Staying
+pub mod ActionLists
+pub mod Measures
+pub mod AnsweredSites

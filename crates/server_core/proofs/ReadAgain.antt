@@ -1,12 +1,12 @@
 -- The text of a report asks that the report is accepted.
-use Rattle.std.proofs.Common.{◌≡◌, ℕ, ◌⊎◌, inl, inr, sym, ap, ◌∙◌, subst}
+use Rattle.std.proofs.Common.{◌≡◌, ℕ, ◌⊎◌, inl, inr, List, sym, ap, ◌∙◌, subst}
 use Rattle.std.specs.Prelude.{Ok, Err}
 use Rattle.std.specs.declared.result.Result.{Result}
 use Rattle.report_text.specs.declared.report.Report.{Report}
 use Rattle.report_text.specs.declared.error.ReportError.{ReportError}
 use Rattle.report_text.specs.declared.error.ReportError.TheVariants.{Memory}
 use Rattle.report_text.specs.Reports.{IsReport, ReadsReport, report_text}
-use Rattle.server_core.specs.Entries.{Asked, Enters, Reported}
+use Rattle.server_core.specs.Entries.{Asked, Enters, Entry, Reported}
 use Rattle.server_core.specs.Readings.{ReadsReported, TellsReportError, asked_of}
 
 abbrev pub Again : Type 0

@@ -1,5 +1,5 @@
 -- The lines that are told of texts that aren't read.
-use Rattle.std.proofs.Common.{◌≡◌, ℕ, List, refl, inl}
+use Rattle.std.proofs.Common.{◌≡◌, ℕ, List, refl, inl, inr}
 use Rattle.std.specs.Prelude.{Ok, Err}
 use Rattle.fix_site.specs.declared.site.Site.{Site}
 use Rattle.fix_site.specs.declared.error.SiteError.TheVariants as error

@@ -1,12 +1,12 @@
 -- The row of a key after a batch, and lists with one element more.
-use Rattle.std.proofs.Common.{◌≡◌, ◌<◌, ◌⊎◌, inl, inr, List, [], ◌∷◌, cond, Some, refl, sym, ap, ◌∙◌, arith, true, false}
+use Rattle.std.proofs.Common.{◌≡◌, ℕ, ◌<◌, ◌⊎◌, inl, inr, List, [], ◌∷◌, ◌++◌, cond, Some, None, refl, sym, ap, ◌∙◌, arith, true, false}
 use Rattle.std.specs.Prelude.{Contains}
 use Rattle.std.specs.declared.option.Option.{Option}
 use Rattle.std.proofs.lemmas.List.Elements.{Contains-append_cases, Contains-append_right, Contains-push_cases}
 use Rattle.desk_keep.specs.declared.change.Change.{Change}
 use Rattle.desk_keep.specs.Keys.{Key, key_of, same_key}
 use Rattle.desk_keep.specs.Tables.{put, put_all, row_at}
-use Rattle.desk_keep.proofs.KeyOrder.{same_itself}
+use Rattle.desk_keep.proofs.KeyOrder.{same_exact, same_itself}
 use Rattle.desk_keep.proofs.Putting.{row_at-put}
 
 -- what a batch puts at a key: its last row there, or what was there before

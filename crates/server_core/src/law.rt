@@ -1,17 +1,44 @@
 // What holds of every list of accepted requests.
-ghost use Rattle.std.specs.Prelude.{◌≡◌, ◌≢◌, ℕ, List, codes, count_by};
+ghost use Rattle.std.specs.Prelude.{◌≡◌, ◌≢◌, ◌<◌, ◌↔◌, ℕ, true, List, Ok, Some, Contains, codes, count_by};
+ghost use Rattle.fix_site.specs.declared.action.Action.{Action};
+ghost use Rattle.fix_site.specs.declared.block.Block.TheVariants.{Action as action_block};
+ghost use Rattle.fix_site.specs.declared.site.Site.{Site};
+ghost use Rattle.fix_site.specs.Actions.{IsAction, action_text};
+ghost use Rattle.fix_site.specs.Answers.{ReadsSite};
 ghost use Rattle.report_text.specs.declared.report.Report.{Report as TheReport};
 ghost use Rattle.report_text.specs.Reports.{IsReport, report_text};
+ghost use Rattle.desk_keep.specs.declared.change.Change.TheVariants as change;
 ghost use Rattle.desk_keep.specs.Tables.{AreRows};
+ghost use Rattle.server_core.specs.declared.limits.Limits.{Limits};
+ghost use Rattle.server_core.specs.declared.reply.Reply.TheVariants as told;
+ghost use Rattle.server_core.specs.declared.request.Request.{Request};
 ghost use Rattle.server_core.specs.declared.request.Request.TheVariants as asking;
-ghost use Rattle.server_core.specs.Answers.{AreAccepted};
-ghost use Rattle.server_core.specs.Entries.{Asked, Enters, Entry, Reported};
+ghost use Rattle.server_core.specs.ActionStates.{before_state, is_stopped, stopped_text};
+ghost use Rattle.server_core.specs.Answers.{AreAccepted, after};
+ghost use Rattle.server_core.specs.Entries.{Asked, Enters, Entry, Reported, SiteText};
 ghost use Rattle.server_core.specs.Readings.{Asks};
-ghost use Rattle.server_core.specs.Tables.{actions_version, computer_at, file_at, report_at, result_at, site_at, view};
-ghost use Rattle.server_core.specs.Views.{ShowsComputer, ShowsFile, ShowsReport, ShowsResult, ShowsSite, changes_actions};
+ghost use Rattle.server_core.specs.Replies.{reply};
+ghost use Rattle.server_core.specs.Tables.{action_at, actions_version, computer_at, file_at, report_at, result_at, site_at, view};
+ghost use Rattle.server_core.specs.Views.{ShowsAction, ShowsComputer, ShowsFile, ShowsReport, ShowsResult, ShowsSite, changes_actions};
 
 use desk_keep::{a_row_is_found_where_it_was_put, one_key, rows_stay_rows};
+use fix_site::{an_action_is_read_again, one_action, one_reading};
+use rel_eval::one_plan;
 use report_text::{a_report_is_read_again, one_report};
+use site_check::one_finding;
+
+/// A request asks one thing.
+pub fn one_meaning()
+    ensures { (request : Request) (asked other : Asked) → Asks request asked → Asks request other → asked ≡ other }
+{
+    one_reading();
+    one_finding();
+    one_plan();
+    one_action();
+    an_action_is_read_again();
+    one_report();
+    a_report_is_read_again();
+}
 
 /// The text of a report that can be spelled is never refused as a text.
 pub fn a_written_report_is_read()
@@ -22,11 +49,31 @@ pub fn a_written_report_is_read()
     one_report();
 }
 
+/// The text of a stopped action is that of the action with `state stopped`, and the rest of an action's text tells which one it is.
+pub fn the_state_ends_an_action()
+    ensures stopped { (action : Action) → is_stopped (action_text action) ≡ action.stopped }
+    ensures stops { (action : Action) → stopped_text (action_text action) ≡ action_text (record action { stopped = true }) }
+    ensures same { (action other : Action) → IsAction action → IsAction other
+        → before_state (action_text action) ≡ before_state (action_text other)
+        → action ≡ record other { stopped = action.stopped } }
+{
+    one_action();
+}
+
 /// The tables are rows in order and in their forms.
 pub fn the_tables_are_rows()
     ensures { (accepted : List Entry) → AreAccepted accepted → AreRows (view accepted) }
 {
     rows_stay_rows();
+}
+
+/// What was accepted once isn't accepted again, whatever came since.
+pub fn what_is_accepted_stays()
+    ensures { (accepted : List Entry) (limits : Limits) (entry : Entry) → AreAccepted accepted → Contains accepted entry
+        → after accepted limits (Enters entry) ≡ accepted }
+{
+    a_row_is_found_where_it_was_put();
+    one_key();
 }
 
 /// The row of a site is that of the last one of its name that was published.
@@ -36,6 +83,15 @@ pub fn the_last_site_is_kept()
 {
     a_row_is_found_where_it_was_put();
     one_key();
+}
+
+/// The row of an action has its text, stopped or not, and the digest of the text as it came.
+pub fn an_action_is_kept_as_it_came()
+    ensures { (accepted : List Entry) (id : ℕ) → AreAccepted accepted → ShowsAction accepted id (action_at id (view accepted)) }
+{
+    a_row_is_found_where_it_was_put();
+    one_key();
+    the_state_ends_an_action();
 }
 
 /// The version of `actionsite` is the number of actions and stops that were accepted.
@@ -80,4 +136,20 @@ pub fn the_greatest_number_is_kept()
 {
     a_row_is_found_where_it_was_put();
     one_key();
+}
+
+/// A text that is answered for a site is that of a site of this name, of a greater version than the one that was told. That of
+/// `actionsite` has the actions as they are kept.
+pub fn an_answered_site_is_read()
+    ensures site { (accepted : List Entry) (limits : Limits) (name : List ℕ) (version : ℕ) (text : List ℕ) → AreAccepted accepted
+        → reply accepted limits (SiteText name version) ≡ told.Site text
+        → (site : Site) × ReadsSite text (Ok site) × (site.name ≡ name) × (version < site.version) }
+    ensures actions { (accepted : List Entry) (limits : Limits) (version : ℕ) (text : List ℕ) (site : Site) (action : Action)
+        → AreAccepted accepted → reply accepted limits (SiteText (codes "actionsite") version) ≡ told.Site text
+        → ReadsSite text (Ok site) → IsAction action
+        → Contains site.blocks (action_block action)
+        ↔ ((digest : List ℕ) × (action_at action.id (view accepted) ≡ Some (change.Action action.id (action_text action) digest))) }
+{
+    one_reading();
+    one_action();
 }

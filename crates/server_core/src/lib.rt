@@ -28,8 +28,9 @@ pub use body::say_reply;
 pub use desk_keep::ResultRow;
 pub use law::{
     a_computer_is_kept_that_reported, a_file_is_kept_by_its_digest, a_report_is_kept_by_its_number,
-    a_written_report_is_read, actionsite_counts_actions_and_stops, the_greatest_number_is_kept,
-    the_last_site_is_kept, the_tables_are_rows,
+    a_written_report_is_read, actionsite_counts_actions_and_stops, an_action_is_kept_as_it_came,
+    an_answered_site_is_read, one_meaning, the_greatest_number_is_kept, the_last_site_is_kept,
+    the_state_ends_an_action, the_tables_are_rows, what_is_accepted_stays,
 };
 pub use limits::Limits;
 pub use reply::Reply;

@@ -1,4 +1,4 @@
-use Rattle.std.proofs.Common.{[], ◌∷◌, ◌∙◌, ap}
+use Rattle.std.proofs.Common.{[], ◌∷◌, ◌∙◌, ap, sym}
 use Rattle.sha2.specs.Sha256.{sha256}
 use Rattle.fix_site.specs.Actions.{action_text}
 use Rattle.desk_keep.specs.declared.change.Change.TheVariants as change

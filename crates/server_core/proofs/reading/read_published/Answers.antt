@@ -1,4 +1,4 @@
-use Rattle.std.proofs.Common.{subst}
+use Rattle.std.proofs.Common.{Some, subst}
 use Rattle.std.specs.declared.option.Option.{Option}
 use Rattle.fix_site.specs.Pieces.{pieces_of}
 use Rattle.site_check.specs.declared.refusal.PieceRefusal.{PieceRefusal}
