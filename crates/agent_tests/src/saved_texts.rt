@@ -65,7 +65,8 @@ fn is_read_as(alloc: Global, text: &[u8], wanted: &[u8]) -> Option<bool> {
 }
 
 /// Texts of form Two, which are written again as they are.
-const SAME: [&str; 5] = [
+const SAME: [&str; 6] = [
+    "agent 2\ncomputer pc1\nnext 1\naction 7\nattempt 1 1000 fixed 1000 1005 0 - -\nattempt 2 1060 interrupted 1070 1080 - - -\nattempt 3 1090 running - - - - -\nend\n",
     "agent 2\ncomputer pc1\nnext 1\nend\n",
     "agent 2\ncomputer pc1\nnext 9007199254740992\nend\n",
     "agent 2\ncomputer pc1\nnext 3\naction 7\nattempt 1 1000 failed 1000 - - 0 3\nattempt 2 1060 running - - - - -\npending 7\nreport 2\ncomputer pc1\nseq 1\nrow 7 1 failed 1000 1000 - 0 3\nend\nend\n",
@@ -107,7 +108,7 @@ fn an_old_text_is_written_anew(rt: HostRuntime) {
 }
 
 /// What stands behind the first three lines, and the line that is bad.
-const BAD: [(&str, &str); 22] = [
+const BAD: [(&str, &str); 24] = [
     ("", "line 4"),
     ("end", "line 4"),
     ("end\nmore\n", "line 5"),
@@ -119,6 +120,7 @@ const BAD: [(&str, &str); 22] = [
         "action 7\nattempt 1 0 running - - - - -\nattempt 2 0 fixed 0 - - - -\n",
         "line 6",
     ),
+    ("action 7\nattempt 1 0 running - - 0 - -\n", "line 5"),
     ("action 7\nattempt 1 0 fixed 0 - - 0 1\n", "line 5"),
     ("action 7\nattempt 1 0 failed 0 - - 0 -\n", "line 5"),
     ("action 7\nattempt 1 0 failed 0 - - - 1\n", "line 5"),
@@ -139,6 +141,10 @@ const BAD: [(&str, &str); 22] = [
     ),
     ("report 2\ncomputer pc2\n", "line 5"),
     ("report 2\ncomputer pc1\nseq 3\n", "line 6"),
+    (
+        "report 2\ncomputer pc1\nseq 1\nrow 7 1 fixed 0 0 - - -\nrow 6 1 fixed 0 0 - - -\n",
+        "line 8",
+    ),
     (
         "report 2\ncomputer pc1\nseq 1\nend\nreport 2\ncomputer pc1\nseq 1\n",
         "line 10",

@@ -1,0 +1,330 @@
+-- Where nothing fails and memory lasts, a script and an attempt go on in one way on a machine that tells its world.
+use Rattle.std.proofs.Common.{◌≡◌, ◌≢◌, ℕ, ◌-◌, ◌^◌, ◌<◌, ◌≤◌, ℤ, Bool, true, false, List, [], ◌∷◌, ◌++◌, ◌⊎◌, inl, inr, Option, Some, None, refl, sym, ap, subst, ◌∙◌, arith}
+use Rattle.std.specs.Prelude.{Ok, Result}
+use Rattle.bf_world.specs.declared.command.Acted.{Acted}
+use Rattle.bf_world.specs.declared.command.Acted.TheVariants as of_act
+use Rattle.bf_world.specs.declared.command.Polled.{Polled}
+use Rattle.bf_world.specs.declared.command.Polled.TheVariants as of_poll
+use Rattle.rel_eval.specs.declared.told.Truth.TheVariants as truth
+use Rattle.bf_machine.proofs.Telling.{later-RoseBy}
+use Rattle.script_text.specs.declared.error.ScriptError.{ScriptError}
+use Rattle.script_text.specs.Scripts.{IsVerdict, PlainScript}
+use Rattle.script_run.specs.declared.cause.Cause.{Cause}
+use Rattle.script_run.specs.declared.ran.Ran.{Ran}
+use Rattle.script_run.specs.declared.ran.Ran.TheVariants as ran
+use Rattle.script_run.specs.Walks.{Known, Settled, said, judged, acted, polled, Next, Wants, Says, Tests, Pauses, Does, Polls, Ends, Fails, Walk}
+use Rattle.script_run.specs.Scripts.{standing}
+use Rattle.script_run.specs.Machines.{Counts, MachineView, PollsOn}
+use Rattle.script_run.specs.Asking.{When, scene_of}
+use Rattle.script_run.specs.Steps.{Any, Comes, Holds, Settles, Stops}
+use Rattle.agent_attempt.specs.declared.found.Found.{Found}
+use Rattle.agent_attempt.specs.declared.found.Found.TheVariants as found
+use Rattle.agent_attempt.specs.declared.went.Went.{Went}
+use Rattle.agent_attempt.specs.declared.went.Went.TheVariants as went
+use Rattle.agent_attempt.specs.declared.attempt.Part.{Part}
+use Rattle.agent_attempt.specs.Attempts.{PlainAttempt, PlainStage, Past, coming, starting, running, judging, issue_date}
+use Rattle.agent_attempt.specs.Going.{Advances, AfterComing, AfterJudging, AfterRun, Ends as AttemptEnds, Fails as AttemptFails, FromComing, FromJudging, FromLeft, FromRunning, FromStage, FromStarting, Goes, GoesOn, Stays, Through, after_failure, exit_at, held_at, with_failure}
+use Rattle.agent_core.specs.Alike.{AlikeHeld, AlikeStages}
+use Rattle.agent_core.proofs.GoingPoints.{Later, going_later, after_coming_leads, after_judging_leads, after_run_leads, through_leads}
+use Rattle.agent_core.proofs.OneAsking.{fixlet_once, succeeds_once}
+use Rattle.agent_core.proofs.OneLook.{Calm, OnePlan, SameView, acts_same, judges_same, polls_same, says_same}
+use Rattle.agent_core.proofs.Quiet.{fixlet_quiet, succeeds_quiet}
+
+-- the law of lines that are scripts
+abbrev pub OneVerdict : Type 0
+OneVerdict = (lines : List (List ℕ)) (x y : Result PlainScript ScriptError) → IsVerdict lines x → IsVerdict lines y → x ≡ y
+
+-- ---- counts
+counts_later : (failed : Type 0) (old new : ℕ) → failed ⊎ (failed → ⊥) → Counts failed old new → old ≤ new
+counts_later failed old new (inl f) counts = let rose = counts.rose f in omega (arith, rose)
+counts_later failed old new (inr f) counts = let same = counts.steady f in omega (arith, same)
+
+act_failed : (a : Acted) → (a ≡ of_act.Failed) ⊎ (a ≡ of_act.Failed → ⊥)
+act_failed of_act.Done = inr (λ e. absurd (cc))
+act_failed (of_act.Started process) = inr (λ e. absurd (cc))
+act_failed (of_act.Refused reason) = inr (λ e. absurd (cc))
+act_failed of_act.Failed = inl refl
+act_failed of_act.Memory = inr (λ e. absurd (cc))
+
+poll_failed : (a : Polled) → (a ≡ of_poll.Failed) ⊎ (a ≡ of_poll.Failed → ⊥)
+poll_failed of_poll.Running = inr (λ e. absurd (cc))
+poll_failed (of_poll.Exited code) = inr (λ e. absurd (cc))
+poll_failed of_poll.Failed = inl refl
+
+polls_later : (process : ℕ) (old : MachineView) (a : Polled) (new : MachineView) → PollsOn process old a new → old.faults ≤ new.faults
+polls_later process old a new p = counts_later (a ≡ of_poll.Failed) old.faults new.faults (poll_failed a) p.faults
+
+settles_later : (at : When) (known : Known) (next : Next) (old : MachineView) (r : Settled) (new : MachineView) → Settles at known next old r new → old.faults ≤ new.faults
+settles_later at known (Says n midway text) old (said a) new p = p.1.later
+settles_later at known (Tests n text) old (judged a) new p = p.1.later
+settles_later at known (Pauses n text) old (judged a) new p = p.2.later
+settles_later at known (Does n midway command) old (acted a) new p = counts_later (a ≡ of_act.Failed) old.faults new.faults (act_failed a) p.1.faults
+settles_later at known (Polls n process) old (polled a) new p = polls_later process old a new p.1
+settles_later at known next old r new p = absurd p
+
+holds_later : (at : When) (known : Known) (next : Next) (n : ℕ) (old new : MachineView) → Holds at known next n old new → old.faults ≤ new.faults
+holds_later at known (Pauses own text) n old new p = p.1.later
+holds_later at known (Polls own process) n old new p = polls_later process old of_poll.Running new p.1
+holds_later at known next n old new p = absurd p
+
+-- an advance that doesn't want for memory
+stops_later : (at : When) (old : MachineView) (f : Walk) (a : Ran) (new : MachineView) → Stops at old f a new → a ≢ ran.Memory → old.faults ≤ new.faults
+stops_later at old f (ran.Held n) new p ample = holds_later at (f []).known (f []).next n old new p
+stops_later at old f (ran.Wants n digest) new p ample = let same = ap (λ (v : MachineView). v.faults) p.1 in omega (arith, same)
+stops_later at old f ran.Done new p ample = let same = ap (λ (v : MachineView). v.faults) p.1 in omega (arith, same)
+stops_later at old f (ran.Failed n cause) new p ample = let same = ap (λ (v : MachineView). v.faults) p.1 in omega (arith, same)
+stops_later at old f ran.Memory new p ample = absurd (ample refl)
+
+comes_later : (at : When) (f : Walk) (old : MachineView) (rs : List Settled) (new : MachineView) → Comes Any at old f rs new → old.faults ≤ new.faults
+comes_later at f old [] new h = let same = ap (λ (v : MachineView). v.faults) h in omega (arith, same)
+comes_later at f old (r ∷ rs) new (any, (between, settles, rest)) =
+    let first = settles_later at (f []).known (f []).next old r between settles in
+    let later = comes_later at (λ more. f (r ∷ more)) between rs new rest in
+    omega (arith, first, later)
+
+-- ---- one stop
+abbrev stop_at : Next → Ran
+stop_at (Wants n digest) = ran.Wants n digest
+stop_at (Pauses n text) = ran.Held n
+stop_at (Polls n process) = ran.Held n
+stop_at Ends = ran.Done
+stop_at (Fails n cause) = ran.Failed n cause
+stop_at _ = ran.Memory
+
+held_as : (at : When) (known : Known) (next : Next) (n : ℕ) (old new : MachineView) → Holds at known next n old new → ran.Held n ≡ stop_at next
+held_as at known (Pauses own text) n old new h = ap ran.Held h.0
+held_as at known (Polls own process) n old new h = ap ran.Held h.0
+held_as at known next n old new h = absurd h
+
+stops_as : (at : When) (old : MachineView) (f : Walk) (a : Ran) (new : MachineView) → Stops at old f a new → a ≢ ran.Memory → a ≡ stop_at (f []).next
+stops_as at old f (ran.Held n) new h ample = held_as at (f []).known (f []).next n old new h
+stops_as at old f (ran.Wants n digest) new h ample = sym (ap stop_at h.0)
+stops_as at old f ran.Done new h ample = sym (ap stop_at h.0)
+stops_as at old f (ran.Failed n cause) new h ample = sym (ap stop_at h.0)
+stops_as at old f ran.Memory new h ample = absurd (ample refl)
+
+same_ok : (x y : PlainScript) (a b : Result PlainScript ScriptError) → a ≡ Ok x → b ≡ Ok y → a ≡ b → x ≡ y
+same_ok x y a b is is' e = cc
+
+module _ (plan : OnePlan) (verdict : OneVerdict) (faults : ℕ) (low : faults < 2 ^ 64 - 1) (at : When) where
+  abbrev Same : MachineView → MachineView → Type 0
+  Same new other = SameView plan faults low new other
+
+  settles_same : (known : Known) (next : Next) (old : MachineView) (r s : Settled) (new other : MachineView) → Calm faults old → Settles at known next old r new → Settles at known next old s other → new.faults ≡ faults → other.faults ≡ faults
+      → (r ≡ s) × Same new other
+  settles_same known (Says n midway text) old (said a) (said b) new other calm p q e e' = let same = says_same plan faults low (scene_of at known) text old a b new other calm p.1 q.1 e e' p.0 q.0 in (ap said same.0, same.1)
+  settles_same known (Says n midway text) old (said a) s new other calm p q e e' = absurd q
+  settles_same known (Tests n text) old (judged a) (judged b) new other calm p q e e' = let same = judges_same plan faults low (scene_of at known) text old a b new other calm p.1 q.1 e e' p.0 q.0 in (ap judged same.0, same.1)
+  settles_same known (Tests n text) old (judged a) s new other calm p q e e' = absurd q
+  settles_same known (Pauses n text) old (judged a) (judged b) new other calm p q e e' = let same = judges_same plan faults low (scene_of at known) text old a b new other calm p.2 q.2 e e' p.0 q.0 in (ap judged same.0, same.1)
+  settles_same known (Pauses n text) old (judged a) s new other calm p q e e' = absurd q
+  settles_same known (Does n midway command) old (acted a) (acted b) new other calm p q e e' = let same = acts_same plan faults low at.moment command old a b new other calm p.1 q.1 e e' p.0 q.0 in (ap acted same.0, same.1)
+  settles_same known (Does n midway command) old (acted a) s new other calm p q e e' = absurd q
+  settles_same known (Polls n process) old (polled a) (polled b) new other calm p q e e' = let same = polls_same plan faults low process old a b new other calm p.1 q.1 e e' in (ap polled same.0, same.1)
+  settles_same known (Polls n process) old (polled a) s new other calm p q e e' = absurd q
+  settles_same known next old r s new other calm p q e e' = absurd p
+
+  holds_same : (known : Known) (next : Next) (n : ℕ) (old new other : MachineView) → Calm faults old → Holds at known next n old new → Holds at known next n old other → new.faults ≡ faults → other.faults ≡ faults → Same new other
+  holds_same known (Pauses own text) n old new other calm p q e e' = (judges_same plan faults low (scene_of at known) text old truth.True truth.True new other calm p.1 q.1 e e' (λ m. absurd (cc)) (λ m. absurd (cc))).1
+  holds_same known (Polls own process) n old new other calm p q e e' = (polls_same plan faults low process old of_poll.Running of_poll.Running new other calm p.1 q.1 e e').1
+  holds_same known next n old new other calm p q e e' = absurd p
+
+  left_same : (old new other : MachineView) → Calm faults old → new ≡ old → other ≡ old → Same new other
+  left_same old new other calm p q = (p ∙ sym q, subst (Calm faults) (sym p) calm)
+
+  stops_view : (f : Walk) (a : Ran) (old new other : MachineView) → Calm faults old → Stops at old f a new → Stops at old f a other → new.faults ≡ faults → other.faults ≡ faults → a ≢ ran.Memory → Same new other
+  stops_view f (ran.Held n) old new other calm p q e e' ample = holds_same (f []).known (f []).next n old new other calm p q e e'
+  stops_view f (ran.Wants n digest) old new other calm p q e e' ample = left_same old new other calm p.1 q.1
+  stops_view f ran.Done old new other calm p q e e' ample = left_same old new other calm p.1 q.1
+  stops_view f (ran.Failed n cause) old new other calm p q e e' ample = left_same old new other calm p.1 q.1
+  stops_view f ran.Memory old new other calm p q e e' ample = absurd (ample refl)
+
+  stops_same : (f : Walk) (a b : Ran) (old new other : MachineView) → Calm faults old → Stops at old f a new → Stops at old f b other → new.faults ≡ faults → other.faults ≡ faults → a ≢ ran.Memory → b ≢ ran.Memory → (a ≡ b) × Same new other
+  stops_same f a b old new other calm p q e e' ample ample' =
+      let same : a ≡ b = stops_as at old f a new p ample ∙ sym (stops_as at old f b other q ample') in
+      (same, stops_view f a old new other calm p (subst (λ x. Stops at old f x other) (sym same) q) e e' ample)
+
+  -- what holds a line doesn't come to a result
+  polled_as : (a : Polled) → polled a ≡ polled of_poll.Running → a ≡ of_poll.Running
+  polled_as a e = cc
+
+  held_or_settled : (known : Known) (next : Next) (n : ℕ) (old : MachineView) (r : Settled) (new other : MachineView) → Calm faults old → Settles at known next old r new → Holds at known next n old other → new.faults ≡ faults → other.faults ≡ faults → ⊥
+  held_or_settled known (Pauses own text) n old (judged a) new other calm p q e e' =
+      p.1 (judges_same plan faults low (scene_of at known) text old a truth.True new other calm p.2 q.1 e e' p.0 (λ m. absurd (cc))).0
+  held_or_settled known (Polls own process) n old (polled a) new other calm p q e e' = p.0 (polls_same plan faults low process old a of_poll.Running new other calm p.1 q.1 e e').0
+  held_or_settled known (Says own midway text) n old r new other calm p q e e' = absurd q
+  held_or_settled known (Tests own text) n old r new other calm p q e e' = absurd q
+  held_or_settled known (Does own midway command) n old r new other calm p q e e' = absurd q
+  held_or_settled known next n old r new other calm p q e e' = absurd p
+
+  stopped_or_settled : (f : Walk) (old : MachineView) (r : Settled) (new : MachineView) (a : Ran) (other : MachineView) → Calm faults old → Settles at (f []).known (f []).next old r new → Stops at old f a other → new.faults ≡ faults → other.faults ≡ faults
+      → a ≢ ran.Memory → ⊥
+  stopped_or_settled f old r new (ran.Held n) other calm p q e e' ample = held_or_settled (f []).known (f []).next n old r new other calm p q e e'
+  stopped_or_settled f old r new (ran.Wants n digest) other calm p q e e' ample = let S : Next → Type 0 = λ x. Settles at (f []).known x old r new in subst S q.0 p
+  stopped_or_settled f old r new ran.Done other calm p q e e' ample = let S : Next → Type 0 = λ x. Settles at (f []).known x old r new in subst S q.0 p
+  stopped_or_settled f old r new (ran.Failed n cause) other calm p q e e' ample = let S : Next → Type 0 = λ x. Settles at (f []).known x old r new in subst S q.0 p
+  stopped_or_settled f old r new ran.Memory other calm p q e e' ample = ample refl
+
+  -- ---- one advance
+  abbrev SameAdvance : List Settled → List Settled → Ran → Ran → MachineView → MachineView → Type 0
+  SameAdvance xs ys a b new other = (xs ≡ ys) × (a ≡ b) × Same new other
+
+  comes_same : (f : Walk) (old : MachineView) (xs ys : List Settled) (mid far : MachineView) (a b : Ran) (new other : MachineView) → Calm faults old → Comes Any at old f xs mid → Comes Any at old f ys far
+      → Stops at mid (λ more. f (xs ++ more)) a new → Stops at far (λ more. f (ys ++ more)) b other → new.faults ≡ faults → other.faults ≡ faults → a ≢ ran.Memory → b ≢ ran.Memory → SameAdvance xs ys a b new other
+  comes_same f old [] [] mid far a b new other calm c d s t e e' ample ample' =
+      let same = stops_same f a b old new other calm (subst (λ v. Stops at v f a new) c s) (subst (λ v. Stops at v f b other) d t) e e' ample ample' in (refl, same.0, same.1)
+  comes_same f old [] (y ∷ ys) mid far a b new other calm c (any, (between, settles, rest)) s t e e' ample ample' =
+      let one = settles_later at (f []).known (f []).next old y between settles in
+      let two = comes_later at (λ more. f (y ∷ more)) between ys far rest in
+      let three = stops_later at far (λ more. f (y ∷ (ys ++ more))) b other t ample' in
+      let start = calm.count in
+      absurd (stopped_or_settled f old y between a new calm settles (subst (λ v. Stops at v f a new) c s) (omega (arith, one, two, three, start, e')) e ample)
+  comes_same f old (x ∷ xs) [] mid far a b new other calm (any, (between, settles, rest)) d s t e e' ample ample' =
+      let one = settles_later at (f []).known (f []).next old x between settles in
+      let two = comes_later at (λ more. f (x ∷ more)) between xs mid rest in
+      let three = stops_later at mid (λ more. f (x ∷ (xs ++ more))) a new s ample in
+      let start = calm.count in
+      absurd (stopped_or_settled f old x between b other calm settles (subst (λ v. Stops at v f b other) d t) (omega (arith, one, two, three, start, e)) e' ample')
+  comes_same f old (x ∷ xs) (y ∷ ys) mid far a b new other calm (any, (between, settles, rest)) (any', (between', settles', rest')) s t e e' ample ample' =
+      let one = settles_later at (f []).known (f []).next old x between settles in
+      let two = comes_later at (λ more. f (x ∷ more)) between xs mid rest in
+      let three = stops_later at mid (λ more. f (x ∷ (xs ++ more))) a new s ample in
+      let one' = settles_later at (f []).known (f []).next old y between' settles' in
+      let two' = comes_later at (λ more. f (y ∷ more)) between' ys far rest' in
+      let three' = stops_later at far (λ more. f (y ∷ (ys ++ more))) b other t ample' in
+      let start = calm.count in
+      let same = settles_same (f []).known (f []).next old x y between between' calm settles settles' (omega (arith, one, two, three, start, e)) (omega (arith, one', two', three', start, e')) in
+      let R : Settled → MachineView → Type 0 = λ z v. Comes Any at v (λ more. f (z ∷ more)) ys far in
+      let T : Settled → Type 0 = λ z. Stops at far (λ more. f (z ∷ (ys ++ more))) b other in
+      let later = comes_same (λ more. f (x ∷ more)) between xs ys mid far a b new other same.1.1 rest (subst (λ z. R z between) (sym same.0) (subst (R y) (sym same.1.0) rest')) s (subst T (sym same.0) t) e e' ample ample' in
+      (ap (λ z. z ∷ xs) same.0 ∙ ap (λ l. y ∷ l) later.0, later.1, later.2)
+
+  -- walks that do the same after any further results
+  abbrev AlikeWalks : Walk → Walk → Type 0
+  AlikeWalks f g = (more : List Settled) → f more ≡ g more
+
+  advances_same : (f : Walk) (old : MachineView) (a b : Ran) (new other : MachineView) (left further : Walk) → Calm faults old → Advances at old f a new left → Advances at old f b other further → new.faults ≡ faults → other.faults ≡ faults
+      → a ≢ ran.Memory → b ≢ ran.Memory → (a ≡ b) × Same new other × AlikeWalks left further
+  advances_same f old a b new other left further calm p q e e' ample ample' =
+      let same = comes_same f old p.results q.results p.between q.between a b new other calm p.comes q.comes p.stops q.stops e e' ample ample' in
+      (same.1, same.2, λ more. p.same more ∙ ap (λ l. f (l ++ more)) same.0 ∙ sym (q.same more))
+
+  -- ---- one way on
+  -- the two come to one answer and one view, and alike attempts are held
+  abbrev SameWay : Went → Went → MachineView → MachineView → Option PlainAttempt → Option PlainAttempt → Type 0
+  SameWay answer would new other after then = (answer ≡ would) × Same new other × AlikeHeld after then
+
+  abbrev Meets : Goes → Goes → Type 0
+  Meets go way = (past : Past) (old : MachineView) (answer would : Went) (new other : MachineView) (after then : Option PlainAttempt) → Calm faults old → go past old answer new after → way past old would other then
+      → new.faults ≡ faults → other.faults ≡ faults → answer ≢ went.Memory → would ≢ went.Memory → SameWay answer would new other after then
+
+  ends_meet : Meets AttemptEnds AttemptEnds
+  ends_meet past old answer would new other after then calm p q e e' ample ample' =
+      (p.0 ∙ sym q.0, left_same old new other calm p.1 q.1, subst (λ o. AlikeHeld o then) (sym p.2) (subst (λ o. AlikeHeld None o) (sym q.2) tt))
+
+  stays_meet : (a : PlainAttempt) (left : List Part) (stage still : PlainStage) (would : Went) → AlikeStages stage still → Meets (Stays a left stage would) (Stays a left still would)
+  stays_meet a left stage still says alike past old answer would new other after then calm p q e e' ample ample' = (
+    p.0 ∙ sym q.0,
+    left_same old new other calm p.1 q.1,
+    subst (λ o. AlikeHeld o then) (sym p.2) (subst (λ o. AlikeHeld (Some (held_at a left stage past)) o) (sym q.2) (refl, alike)),
+  )
+
+  failure_meets : (all : Bool) (rest : Goes) → Meets rest rest → Meets (after_failure all rest) (after_failure all rest)
+  failure_meets true rest meets = meets
+  failure_meets false rest meets = ends_meet
+
+  fails_meet : (a : PlainAttempt) (part : Part) (line : ℕ) (cause : Cause) (exit : Option ℤ) (rest : Goes) → Meets rest rest → Meets (AttemptFails a part line cause exit rest) (AttemptFails a part line cause exit rest)
+  fails_meet a part line cause exit rest meets = λ past. failure_meets a.action.all_members rest meets (with_failure part line cause exit past)
+
+  after_judging_meets : (a : PlainAttempt) (part : Part) (left : List Part) (exit : Option ℤ) (rest : Goes) → Meets rest rest → (f : Found) → Meets (AfterJudging a part left exit rest f) (AfterJudging a part left exit rest f)
+  after_judging_meets a part left exit rest meets found.Yes = λ past. meets (record past { exit = exit })
+  after_judging_meets a part left exit rest meets found.No = fails_meet a part 0 _ exit rest meets
+  after_judging_meets a part left exit rest meets found.Failed = fails_meet a part 0 _ exit rest meets
+  after_judging_meets a part left exit rest meets found.Memory = stays_meet a (part ∷ left) (judging exit) (judging exit) _ refl
+
+  -- what comes later doesn't lower the machine's count
+  abbrev Lasts : Goes → Type 0
+  Lasts go = (past : Past) (old : MachineView) (answer : Went) (new : MachineView) (after : Option PlainAttempt) → go past old answer new after → old.faults ≤ new.faults
+
+  judging_meets : (a : PlainAttempt) (part : Part) (left : List Part) (exit : Option ℤ) (rest : Goes) → Lasts rest → Meets rest rest → Meets (FromJudging at a part left exit rest) (FromJudging at a part left exit rest)
+  judging_meets a part left exit rest lasts meets past old answer would new other after then calm (f, mid, p, h) (g, far, q, k) e e' ample ample' =
+      let one = (succeeds_quiet at part.fixlet part.fixlet.success old f mid p).later in
+      let two = after_judging_leads at a Later (going_later at a) part left exit rest lasts f past mid answer new after h in
+      let one' = (succeeds_quiet at part.fixlet part.fixlet.success old g far q).later in
+      let two' = after_judging_leads at a Later (going_later at a) part left exit rest lasts g past far would other then k in
+      let start = calm.count in
+      let same = succeeds_once plan faults low at part.fixlet part.fixlet.success old f g mid far calm p q (omega (arith, one, two, start, e)) (omega (arith, one', two', start, e'))
+      (λ m. ample (subst (λ x. AfterJudging a part left exit rest x past mid answer new after) m h).0) (λ m. ample' (subst (λ x. AfterJudging a part left exit rest x past far would other then) m k).0) in
+      after_judging_meets a part left exit rest meets f past mid answer would new other after then same.1.1 h
+      (subst (λ x. AfterJudging a part left exit rest x past mid would other then) (sym same.0) (subst (λ v. AfterJudging a part left exit rest g past v would other then) (sym same.1.0) k)) e e' ample ample'
+
+  after_run_meets : (a : PlainAttempt) (part : Part) (left : List Part) (rest : Goes) → Lasts rest → Meets rest rest → (came : Ran) (walk further : Walk) → AlikeWalks walk further → Meets (AfterRun at a part left rest came walk) (AfterRun at a part left rest came further)
+  after_run_meets a part left rest lasts meets (ran.Held line) walk further alike = stays_meet a (part ∷ left) (running walk None) (running further None) _ (alike, refl)
+  after_run_meets a part left rest lasts meets (ran.Wants line digest) walk further alike = stays_meet a (part ∷ left) (running walk (Some digest)) (running further (Some digest)) _ (alike, refl)
+  after_run_meets a part left rest lasts meets ran.Done walk further alike =
+      let exits : exit_at walk ≡ exit_at further = ap (λ stop. stop.known.exit) (alike []) in
+      subst (λ x. Meets (FromJudging at a part left (exit_at walk) rest) (FromJudging at a part left x rest)) exits (judging_meets a part left (exit_at walk) rest lasts meets)
+  after_run_meets a part left rest lasts meets (ran.Failed line cause) walk further alike =
+      let exits : exit_at walk ≡ exit_at further = ap (λ stop. stop.known.exit) (alike []) in
+      subst (λ x. Meets (AttemptFails a part line cause (exit_at walk) rest) (AttemptFails a part line cause x rest)) exits (fails_meet a part line cause (exit_at walk) rest meets)
+  after_run_meets a part left rest lasts meets ran.Memory walk further alike = stays_meet a (part ∷ left) (running walk None) (running further None) _ (alike, refl)
+
+  running_meets : (a : PlainAttempt) (part : Part) (left : List Part) (walk : Walk) (rest : Goes) → Lasts rest → Meets rest rest → Meets (FromRunning at a part left walk rest) (FromRunning at a part left walk rest)
+  running_meets a part left walk rest lasts meets past old answer would new other after then calm (x, mid, one_left, p, h) (y, far, other_left, q, k) e e' ample ample' =
+      let ample_x : x ≢ ran.Memory = λ m. ample (subst (λ z. AfterRun at a part left rest z one_left past mid answer new after) m h).0 in
+      let ample_y : y ≢ ran.Memory = λ m. ample' (subst (λ z. AfterRun at a part left rest z other_left past far would other then) m k).0 in
+      let one = later-RoseBy _ old.faults mid.faults p.faults in
+      let two = after_run_leads at a Later (going_later at a) part left rest lasts x one_left past mid answer new after h in
+      let one' = later-RoseBy _ old.faults far.faults q.faults in
+      let two' = after_run_leads at a Later (going_later at a) part left rest lasts y other_left past far would other then k in
+      let start = calm.count in
+      let same = advances_same walk old x y mid far one_left other_left calm p q (omega (arith, one, two, start, e)) (omega (arith, one', two', start, e')) ample_x ample_y in
+      after_run_meets a part left rest lasts meets x one_left other_left same.2 past mid answer would new other after then same.1.1 h
+      (subst (λ z. AfterRun at a part left rest z other_left past mid would other then) (sym same.0) (subst (λ v. AfterRun at a part left rest y other_left past v would other then) (sym same.1.0) k)) e e' ample ample'
+
+  starting_meets : (a : PlainAttempt) (part : Part) (left : List Part) (rest : Goes) → Lasts rest → Meets rest rest → Meets (FromStarting at a part left rest) (FromStarting at a part left rest)
+  starting_meets a part left rest lasts meets past old answer would new other after then calm (inl p) q e e' ample ample' = absurd (ample p.0)
+  starting_meets a part left rest lasts meets past old answer would new other after then calm (inr p) (inl q) e e' ample ample' = absurd (ample' q.0)
+  starting_meets a part left rest lasts meets past old answer would new other after then calm (inr (x, is, p)) (inr (y, is', q)) e e' ample ample' =
+      let same : x ≡ y = same_ok x y (Ok x) (Ok y) refl refl (verdict part.fixlet.script (Ok x) (Ok y) is is') in
+      running_meets a part left (standing x (issue_date a)) rest lasts meets past old answer would new other after then calm p
+      (subst (λ z. FromRunning at a part left (standing z (issue_date a)) rest past old would other then) (sym same) q) e e' ample ample'
+
+  after_coming_meets : (a : PlainAttempt) (part : Part) (left : List Part) (rest : Goes) → Lasts rest → Meets rest rest → (f : Found) → Meets (AfterComing at a part left rest f) (AfterComing at a part left rest f)
+  after_coming_meets a part left rest lasts meets found.Yes = starting_meets a part left rest lasts meets
+  after_coming_meets a part left rest lasts meets found.No = meets
+  after_coming_meets a part left rest lasts meets found.Failed = fails_meet a part 0 _ _ rest meets
+  after_coming_meets a part left rest lasts meets found.Memory = stays_meet a (part ∷ left) coming coming _ refl
+
+  coming_meets : (a : PlainAttempt) (part : Part) (left : List Part) (rest : Goes) → Lasts rest → Meets rest rest → Meets (FromComing at a part left rest) (FromComing at a part left rest)
+  coming_meets a part left rest lasts meets past old answer would new other after then calm (f, mid, p, h) (g, far, q, k) e e' ample ample' =
+      let one = (fixlet_quiet at part.fixlet old f mid p).later in
+      let two = after_coming_leads at a Later (going_later at a) part left rest lasts f past mid answer new after h in
+      let one' = (fixlet_quiet at part.fixlet old g far q).later in
+      let two' = after_coming_leads at a Later (going_later at a) part left rest lasts g past far would other then k in
+      let start = calm.count in
+      let same = fixlet_once plan faults low at part.fixlet old f g mid far calm p q (omega (arith, one, two, start, e)) (omega (arith, one', two', start, e'))
+      (λ m. ample (subst (λ x. AfterComing at a part left rest x past mid answer new after) m h).0) (λ m. ample' (subst (λ x. AfterComing at a part left rest x past far would other then) m k).0) in
+      after_coming_meets a part left rest lasts meets f past mid answer would new other after then same.1.1 h
+      (subst (λ x. AfterComing at a part left rest x past mid would other then) (sym same.0) (subst (λ v. AfterComing at a part left rest g past v would other then) (sym same.1.0) k)) e e' ample ample'
+
+  through_lasts : (a : PlainAttempt) (left : List Part) → Lasts (Through at a left)
+  through_lasts a left = through_leads at a Later (going_later at a) left
+
+  through_meets : (a : PlainAttempt) (left : List Part) → Meets (Through at a left) (Through at a left)
+  through_meets a [] = ends_meet
+  through_meets a (part ∷ left) = coming_meets a part left (Through at a left) (through_lasts a left) (through_meets a left)
+
+  stage_meets : (a : PlainAttempt) (part : Part) (left : List Part) (stage : PlainStage) → Meets (FromStage at a part left stage) (FromStage at a part left stage)
+  stage_meets a part left coming = coming_meets a part left (Through at a left) (through_lasts a left) (through_meets a left)
+  stage_meets a part left starting = starting_meets a part left (Through at a left) (through_lasts a left) (through_meets a left)
+  stage_meets a part left (running walk wanted) = running_meets a part left walk (Through at a left) (through_lasts a left) (through_meets a left)
+  stage_meets a part left (judging exit) = judging_meets a part left exit (Through at a left) (through_lasts a left) (through_meets a left)
+
+  left_meets : (a : PlainAttempt) (left : List Part) → Meets (FromLeft at a left) (FromLeft at a left)
+  left_meets a [] = ends_meet
+  left_meets a (part ∷ left) = stage_meets a part left a.stage
+
+  pub going_once : (a : PlainAttempt) (old : MachineView) (answer would : Went) (new other : MachineView) (after then : Option PlainAttempt) → Calm faults old → GoesOn at a old answer new after → GoesOn at a old would other then
+      → new.faults ≡ faults → other.faults ≡ faults → answer ≢ went.Memory → would ≢ went.Memory → SameWay answer would new other after then
+  going_once a old answer would new other after then calm p q e e' ample ample' = left_meets a a.left a.past old answer would new other after then calm p q e e' ample ample'

@@ -1,0 +1,9 @@
+use Rattle.agent_attempt.specs.Contents.{actions_of}
+use Rattle.agent_core.specs.declared.parts.Parts.{Parts}
+use Rattle.agent_core.proofs.TallyLists.{all_stand, all_stand_marked}
+use Rattle.agent_core.proofs.parts.Parts.tally_for.Goals as goal
+
+pub standing-requires : goal.standing-requires
+standing-requires c =
+    let a : Parts = c.args.self.now in
+    all_stand_marked a.tallies a.histories c.args.marked.now c.requires.marked (all_stand a.tallies (actions_of a.sites) a.histories c.requires.sound.tallies)

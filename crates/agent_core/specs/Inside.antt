@@ -1,0 +1,26 @@
+-- What contracts see of an agent, and what holds of each.
+use Rattle.agent_attempt.specs.Contents.{actions_of}
+use Rattle.agent_core.specs.declared.parts.Parts.{Parts}
+use Rattle.agent_core.specs.Agents.{AgentState, shown_state}
+use Rattle.agent_core.specs.States.{State, IsSound}
+use Rattle.agent_core.specs.Lookups.{TalliesStand}
+
+abbrev pub agent_state : Parts → AgentState
+agent_state a = record {
+  computer = a.name;
+  sites = a.sites;
+  next = a.next;
+  histories = a.histories;
+  reports = a.outbox.reports;
+  shown = a.outbox.shown;
+  held = a.held;
+  unsaved = a.unsaved;
+}
+
+abbrev pub state_of : Parts → State
+state_of a = shown_state (agent_state a)
+
+-- the state is sound, and the tallies are those of the gathered actions
+pub record IsSoundParts (a : Parts) : Type 0 where
+  pub sound : IsSound (state_of a)
+  pub tallies : TalliesStand a.tallies (actions_of a.sites) a.histories

@@ -1,0 +1,42 @@
+-- What opening an agent from its pocket answers.
+use Rattle.std.specs.Prelude.{◌≡◌, ℕ, List, [], length, false, Option, Some, None, ⊤, Ok, Err}
+use Rattle.agent_text.specs.declared.saved.Saved.{Saved}
+use Rattle.agent_text.specs.declared.error.SavedError.TheVariants as error
+use Rattle.agent_text.specs.Pockets.{Holds}
+use Rattle.agent_text.specs.SavedTexts.{ReadsSaved}
+use Rattle.agent_core.specs.declared.opening.Opened.{Opened}
+use Rattle.agent_core.specs.declared.opening.Opened.TheVariants as opened
+use Rattle.agent_core.specs.Agents.{shown_state}
+use Rattle.agent_core.specs.States.{State}
+
+-- the agent of what was saved: all of its reports are saved, and it has no site and holds no attempt
+abbrev pub opened_state : Saved → State
+opened_state saved = record {
+  computer = saved.computer;
+  sites = [];
+  next = saved.next;
+  histories = saved.histories;
+  reports = saved.reports;
+  shown = length saved.reports;
+  held = None;
+  unsaved = false;
+}
+
+-- an agent that has done nothing yet
+abbrev pub new_state : List ℕ → State
+new_state computer = opened_state (record { computer = computer; next = 1; histories = []; reports = [] })
+
+-- the agent of a pocket with this text, or without one
+abbrev pub IsAgentOf : List ℕ → Option (List ℕ) → State → Type 0
+IsAgentOf computer None s = s ≡ new_state computer
+IsAgentOf computer (Some text) s = (saved : Saved) × ReadsSaved computer text (Ok saved) × (s ≡ opened_state saved)
+
+-- The agent is that of the text in the pocket. The text has a first bad line, or names another computer, exactly where that is answered.
+-- `told` is what the pocket tells of its text.
+abbrev pub OpensAgent : List ℕ → Option (Option (List ℕ)) → Opened → Type 0
+OpensAgent computer told (opened.Agent agent) =
+    (saved : Option (List ℕ)) × Holds told (λ now. now ≡ saved) × IsAgentOf computer saved (shown_state agent)
+OpensAgent computer told (opened.BadPocket line) =
+    (text : List ℕ) × Holds told (λ now. now ≡ Some text) × ReadsSaved computer text (Err (error.BadLine line))
+OpensAgent computer told opened.PocketFault = ⊤
+OpensAgent computer told opened.Memory = ⊤

@@ -1,0 +1,147 @@
+-- What the private functions of a turn do. Only the code's contracts cite these definitions.
+use Rattle.std.specs.Prelude.{◌≡◌, ◌⊎◌, ℕ, ◌+◌, ◌*◌, ◌^◌, ◌<◌, ◌≤◌, min, List, [], ◌∷◌, length, map, vec_capacity, IfSome, Bool, true, false, Option, Some, None, Result, Ok, Err}
+use Rattle.act_rules.specs.declared.row.Row.{Row}
+use Rattle.line_forms.specs.Numbers.{IsId}
+use Rattle.act_rules.specs.Rows.{HasEnded, last_row}
+use Rattle.fix_site.specs.declared.action.Action.{Action}
+use Rattle.script_run.specs.Asking.{When}
+use Rattle.script_run.specs.Machines.{MachineView}
+use Rattle.agent_text.specs.declared.pocket.SaveResult.{SaveResult}
+use Rattle.agent_text.specs.declared.pocket.SaveResult.TheVariants as save
+use Rattle.agent_text.specs.Histories.{PlainHistory, rows_at}
+use Rattle.agent_text.specs.SavedTexts.{most_bytes}
+use Rattle.agent_attempt.specs.declared.found.Found.{Found}
+use Rattle.agent_attempt.specs.declared.found.Found.TheVariants.{Yes, No, Failed}
+use Rattle.agent_attempt.specs.Attempts.{PlainAttempt, StageWaitsBelow}
+use Rattle.agent_attempt.specs.Contents.{Content, content_of}
+use Rattle.agent_attempt.specs.Stages.{AttemptState, shown_attempt}
+use Rattle.agent_attempt.specs.Relevance.{ContentIs, IsDue}
+use Rattle.agent_core.specs.declared.parts.Parts.{Parts}
+use Rattle.agent_core.specs.declared.spare.Spare.{Spare}
+use Rattle.agent_core.specs.declared.turned.Turned.{Turned}
+use Rattle.agent_core.specs.declared.turned.Turned.TheVariants.{MachineFault, Memory, PocketFault}
+use Rattle.agent_core.specs.Counting.{pending_count}
+use Rattle.agent_core.specs.Saving.{Ending, SavesOn, SavesThen}
+use Rattle.agent_core.specs.States.{State, Devices, PocketView, as_saved, text_of, with_beginning, with_histories, with_unsaved}
+use Rattle.agent_core.specs.Turns.{AfterBeginning, Marks, beginning, may_clear, with_mark}
+
+-- the state after a save
+abbrev pub after_save : SaveResult → State → State
+after_save save.Done s = as_saved s
+after_save save.Failed s = s
+after_save save.Memory s = s
+
+-- ---- what is taken before anything that can't be undone
+-- It is enough for the end of a turn in which so many more actions become pending.
+pub record Suffices (more : ℕ) (spare : Spare) (parts : Parts) : Type 0 where
+  pub computer : spare.computer ≡ parts.name
+  pub empty : spare.rows.items ≡ []
+  pub rows : min 500 (pending_count parts.histories + more) ≤ vec_capacity spare.rows
+  pub text : most_bytes parts.histories parts.outbox.reports + (108 + 113 * min 500 (pending_count parts.histories + more)) ≤ spare.text.capacity
+  pub outbox : length parts.outbox.reports < parts.outbox.capacity
+
+-- ---- what stops a turn before a beginning
+abbrev pub stop_of : Found → Turned
+stop_of Failed = MachineFault
+stop_of _ = Memory
+
+-- ---- marks
+-- whether an action is marked by what was found of its content
+abbrev pub mark_by : Found → Result Bool Turned
+mark_by Yes = Ok false
+mark_by No = Ok true
+mark_by found = Err (stop_of found)
+
+-- an action is tested where its last row has ended and isn't cleared
+abbrev pub TestsMark : Bool → When → State → Action → MachineView → Result Bool Turned → MachineView → Type 0
+TestsMark false at s action old answer new = (answer ≡ Ok false) × (new ≡ old)
+TestsMark true at s action old answer new =
+    (found : Found) × ContentIs at (content_of action s.sites) old found new × (answer ≡ mark_by found)
+
+-- the marks after an action was tested
+abbrev pub marked_by : When → ℕ → Bool → Marks → Marks
+marked_by at id true marks = with_mark at id marks
+marked_by at id false marks = marks
+
+-- what comes after an action was tested for its mark
+abbrev pub MarksAfter : (Bool → MachineView → Result Bool Turned → List PlainHistory → MachineView → Type 0) → Result Bool Turned → MachineView → Result Bool Turned → List PlainHistory → MachineView → Type 0
+MarksAfter next (Ok mark) old answer hs new = next mark old answer hs new
+MarksAfter next (Err stop) old answer hs new = (answer ≡ Err stop) × (new ≡ old)
+
+-- The actions are tested one after another.
+abbrev pub MarksEach : When → State → List Action → Marks → MachineView → Result Bool Turned → List PlainHistory → MachineView → Type 0
+MarksEach at s [] marks old answer hs new = (answer ≡ Ok marks.any) × (hs ≡ marks.histories) × (new ≡ old)
+MarksEach at s (action ∷ actions) marks old answer hs new =
+    (mark : Result Bool Turned) × (between : MachineView)
+    × TestsMark (may_clear (last_row (rows_at action.id marks.histories))) at s action old mark between
+    × MarksAfter (λ (is : Bool). MarksEach at s actions (marked_by at action.id is marks)) mark between answer hs new
+
+-- the rows as they were before marks
+abbrev pub unmarked_row : Row → Row
+unmarked_row row = record row { cleared = None }
+
+abbrev pub unmarked : PlainHistory → PlainHistory
+unmarked h = record h { rows = map unmarked_row h.rows }
+
+-- these are those histories, but for marks
+abbrev pub AreMarked : List PlainHistory → List PlainHistory → Type 0
+AreMarked hs marked = map unmarked marked ≡ map unmarked hs
+
+-- ---- the first action that is due
+-- the attempt that begins, or want of memory for it
+abbrev pub BeginsOne : When → State → Action → Option Content → Result (Option AttemptState) Turned → Type 0
+BeginsOne at marked action None answer = ⊥
+BeginsOne at marked action (Some content) answer =
+    (answer ≡ Err Memory)
+    ⊎ ((attempt : AttemptState) × (answer ≡ Ok (Some attempt)) × (shown_attempt attempt ≡ beginning at action content marked))
+
+-- what an action comes to that was tried
+abbrev pub AnswersTry : When → State → State → Action → Found → Result (Option AttemptState) Turned → Type 0
+AnswersTry at s marked action Yes answer = BeginsOne at marked action (content_of action s.sites) answer
+AnswersTry at s marked action No answer = answer ≡ Ok None
+AnswersTry at s marked action found answer = answer ≡ Err (stop_of found)
+
+-- An action is tried.
+abbrev pub TriesOne : When → State → List PlainHistory → Action → MachineView → Result (Option AttemptState) Turned → MachineView → Type 0
+TriesOne at s marked action old answer new =
+    (found : Found) × IsDue at s.computer action (content_of action s.sites) (rows_at action.id marked) old found new
+    × AnswersTry at s (with_histories marked s) action found answer
+
+-- what comes after an action was tried
+abbrev pub FindsAfter : (MachineView → Result (Option AttemptState) Turned → MachineView → Type 0) → Result (Option AttemptState) Turned → MachineView → Result (Option AttemptState) Turned → MachineView → Type 0
+FindsAfter next (Ok None) old answer new = next old answer new
+FindsAfter next one old answer new = (answer ≡ one) × (new ≡ old)
+
+-- The actions are tried one after another, up to the first that is due.
+abbrev pub FindsDue : When → State → List PlainHistory → List Action → MachineView → Result (Option AttemptState) Turned → MachineView → Type 0
+FindsDue at s marked [] old answer new = (answer ≡ Ok None) × (new ≡ old)
+FindsDue at s marked (action ∷ actions) old answer new =
+    (one : Result (Option AttemptState) Turned) × (between : MachineView) × TriesOne at s marked action old one between
+    × FindsAfter (FindsDue at s marked actions) one between answer new
+
+-- the attempt is of the next row of its action, whose rows have ended and have a number left, and waits for no program
+pub record CanBegin (attempt : PlainAttempt) (marked : List PlainHistory) : Type 0 where
+  pub action : IsId attempt.action.id
+  pub few : length (rows_at attempt.action.id marked) + 1 < 2 ^ 32
+  pub number : attempt.row ≡ length (rows_at attempt.action.id marked) + 1
+  pub ended : IfSome (last_row (rows_at attempt.action.id marked)) HasEnded
+  pub waits : (started : ℕ) → StageWaitsBelow started attempt.stage
+
+-- This attempt begins.
+abbrev pub BeginsAs : When → State → State → PlainAttempt → Devices → Ending
+BeginsAs at s marked attempt d =
+    SavesThen (with_beginning attempt.action.id at.moment marked) d
+    (AfterBeginning at s marked (with_beginning attempt.action.id at.moment marked) attempt)
+
+-- how a turn stops where the row of a beginning isn't saved: no row is added; where the save fails the marks stand unsaved
+abbrev pub StopsBeginning : State → State → SaveResult → Turned → State → Type 0
+StopsBeginning s marked save.Done stop s2 = ⊥
+StopsBeginning s marked save.Failed stop s2 = (stop ≡ PocketFault) × (s2 ≡ with_unsaved marked)
+StopsBeginning s marked save.Memory stop s2 = (stop ≡ Memory) × (s2 ≡ s)
+
+-- The state with the row of a beginning is saved, or the turn stops, also where memory runs out before.
+abbrev pub SavesBeginning : State → State → State → PocketView → Result Spare Turned → State → PocketView → Type 0
+SavesBeginning s marked begun old (Ok spare) s2 new = SavesOn (text_of begun) old save.Done new × (s2 ≡ as_saved begun)
+SavesBeginning s marked begun old (Err stop) s2 new =
+    ((stop ≡ Memory) × (s2 ≡ s) × (new ≡ old))
+    ⊎ ((result : SaveResult) × SavesOn (text_of begun) old result new × StopsBeginning s marked result stop s2)

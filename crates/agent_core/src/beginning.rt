@@ -1,0 +1,132 @@
+// The beginning of an attempt.
+ghost use Rattle.std.specs.Prelude.{◌≡◌, ◌≤◌, IfOk, None, Some};
+ghost use Rattle.script_run.specs.Machines.{view};
+ghost use Rattle.agent_text.specs.Histories.{AreHistories, with_begun};
+ghost use Rattle.agent_attempt.specs.Stages.{shown_attempt};
+ghost use Rattle.agent_core.specs.Inside.{IsSoundParts, state_of};
+ghost use Rattle.agent_core.specs.Saving.{OrMemory};
+ghost use Rattle.agent_core.specs.States.{HeldRuns, devices, new_row, pocket_view, with_beginning, with_histories};
+ghost use Rattle.agent_core.specs.Steps.{AreMarked, BeginsAs, CanBegin, SavesBeginning, Suffices};
+ghost use Rattle.agent_core.specs.Stops.{HeldWaitsBelow};
+
+use crate::parts::Parts;
+use crate::spare::Spare;
+use crate::turned::Turned;
+use act_rules::{Note, Row};
+use agent_attempt::{Attempt, Time};
+use agent_text::{
+    Histories, Pocket, SaveResult, changed_histories_can_be_saved, saved_texts_are_short,
+};
+use bf_machine::Machine;
+use std::alloc::{AllocError, Global};
+use std::mem::{self, drop};
+
+/// The note of an attempt that has none.
+pub(crate) const NO_NOTE: Note = Note {
+    exit: None,
+    place: None,
+};
+
+impl Parts {
+    /// An attempt begins: its row is saved before its first command. Until then the state is as it was.
+    pub(crate) fn begin<M: Machine, P: Pocket>(
+        &mut self,
+        alloc: Global,
+        machine: &mut M,
+        pocket: &mut P,
+        marked: Histories,
+        attempt: Attempt,
+        time: &Time,
+    ) -> Turned
+        requires sound { IsSoundParts self.old }
+        requires free { self.old.held ≡ None }
+        requires marked { AreMarked self.old.histories marked }
+        requires good { AreHistories marked }
+        requires begins { CanBegin (shown_attempt attempt) marked }
+        ensures begins { OrMemory (state_of self.old)
+            (devices (view (M.world machine.old) (M.looked machine.old) (M.acted machine.old) (M.polled machine.old) (M.faults machine.old)) (pocket_view (P.saved pocket.old) (P.faults pocket.old)))
+            (BeginsAs time.now (state_of self.old) (with_histories marked (state_of self.old)) (shown_attempt attempt)
+            (devices (view (M.world machine.old) (M.looked machine.old) (M.acted machine.old) (M.polled machine.old) (M.faults machine.old)) (pocket_view (P.saved pocket.old) (P.faults pocket.old)))) result (state_of self.new)
+            (devices (view (M.world machine.new) (M.looked machine.new) (M.acted machine.new) (M.polled machine.new) (M.faults machine.new)) (pocket_view (P.saved pocket.new) (P.faults pocket.new))) }
+        ensures waits { HeldWaitsBelow (M.started machine.new) (state_of self.new).held }
+        ensures started { M.started machine.old ≤ M.started machine.new }
+        ensures sound { IsSoundParts self.new }
+    {
+        match self.save_beginning(alloc, pocket, marked, &attempt, time) {
+            Ok(spare) => self.go(alloc, machine, pocket, attempt, true, spare, time),
+            Err(stop) => {
+                drop(attempt);
+                stop
+            }
+        }
+    }
+
+    /// Saves the row of an attempt that begins, and answers what the end of its turn takes. Where it isn't saved no row is added.
+    fn save_beginning<P: Pocket>(
+        &mut self,
+        alloc: Global,
+        pocket: &mut P,
+        marked: Histories,
+        attempt: &Attempt,
+        time: &Time,
+    ) -> Result<Spare, Turned>
+        requires sound { IsSoundParts self.old }
+        requires free { self.old.held ≡ None }
+        requires marked { AreMarked self.old.histories marked }
+        requires good { AreHistories marked }
+        requires begins { CanBegin (shown_attempt attempt.now) marked }
+        ensures saves { SavesBeginning (state_of self.old) (with_histories marked (state_of self.old))
+            (with_beginning attempt.now.action.id time.now.moment (with_histories marked (state_of self.old)))
+            (pocket_view (P.saved pocket.old) (P.faults pocket.old)) result (state_of self.new) (pocket_view (P.saved pocket.new) (P.faults pocket.new)) }
+        ensures spare { IfOk result (λ spare. Suffices 1 spare self.new) }
+        ensures runs { IfOk result (λ spare. HeldRuns (Some (shown_attempt attempt.now)) self.new.histories) }
+        ensures free { self.new.held ≡ None }
+        ensures sound { IsSoundParts self.new }
+    {
+        let Ok(begun) = with_row(alloc, &marked, attempt, time) else {
+            return Err(Turned::Memory);
+        };
+        saved_texts_are_short();
+        let before = mem::replace(&mut self.histories, begun);
+        let Ok(mut spare) = self.take_spare(alloc) else {
+            self.histories = before;
+            return Err(Turned::Memory);
+        };
+        match self.save_in(pocket, &mut spare.text) {
+            SaveResult::Done => Ok(spare),
+            SaveResult::Failed => {
+                self.histories = marked;
+                self.unsaved = true;
+                Err(Turned::PocketFault)
+            }
+            SaveResult::Memory => {
+                self.histories = before;
+                Err(Turned::Memory)
+            }
+        }
+    }
+}
+
+/// The histories with the row of an attempt that begins. The error is want of memory.
+fn with_row(
+    alloc: Global,
+    marked: &Histories,
+    attempt: &Attempt,
+    time: &Time,
+) -> Result<Histories, AllocError>
+    requires { CanBegin (shown_attempt attempt.now) marked.now }
+    ensures begun { IfOk result (λ begun. begun ≡ with_begun attempt.now.action.id (new_row attempt.now.row time.now.moment) marked.now) }
+    ensures good { IfOk result AreHistories }
+{
+    changed_histories_can_be_saved();
+    let mut begun = marked.copy()?;
+    let row = Row {
+        number: attempt.row(),
+        begun: time.moment(),
+        end: None,
+        cleared: None,
+        note: NO_NOTE,
+    };
+    begun.begin(alloc, attempt.action_id(), row)?;
+    Ok(begun)
+}

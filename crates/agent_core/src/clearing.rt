@@ -1,0 +1,124 @@
+// Clearing marks.
+ghost use Rattle.std.specs.Prelude.{◌≡◌, ◌∷◌, [], false};
+ghost use Rattle.std.specs.List.{filter_map};
+ghost use Rattle.act_rules.specs.Rows.{IsRows, last_row};
+ghost use Rattle.script_run.specs.Machines.{view};
+ghost use Rattle.agent_text.specs.Histories.{AreHistories, rows_at};
+ghost use Rattle.agent_attempt.specs.Blocks.{shown_block};
+ghost use Rattle.agent_attempt.specs.Contents.{actions_of, as_action};
+ghost use Rattle.agent_core.specs.Inside.{IsSoundParts, state_of};
+ghost use Rattle.agent_core.specs.Lookups.{rows_if};
+ghost use Rattle.agent_core.specs.Steps.{AreMarked, MarksEach, TestsMark};
+ghost use Rattle.agent_core.specs.Turns.{may_clear};
+
+use crate::parts::Parts;
+use crate::turned::Turned;
+use act_rules::{Row, Rows};
+use agent_attempt::{Found, ReadAction, ReadBlock, Time, relevant};
+use agent_text::{Histories, changed_histories_can_be_saved};
+use bf_machine::Machine;
+use std::alloc::Global;
+
+impl Parts {
+    /// Marks the last row of each action that has ended, isn't cleared and isn't relevant. Answers whether there is any.
+    pub(crate) fn clear<M: Machine>(
+        &self,
+        alloc: Global,
+        machine: &mut M,
+        time: &Time,
+        marked: &mut Histories,
+    ) -> Result<bool, Turned>
+        requires sound { IsSoundParts self.now }
+        requires same { marked.old ≡ self.now.histories }
+        ensures marks { MarksEach time.now (state_of self.now) (actions_of self.now.sites) (record { histories = marked.old; any = false })
+            (view (M.world machine.old) (M.looked machine.old) (M.acted machine.old) (M.polled machine.old) (M.faults machine.old)) result marked.new
+            (view (M.world machine.new) (M.looked machine.new) (M.acted machine.new) (M.polled machine.new) (M.faults machine.new)) }
+        ensures marked { AreMarked marked.old marked.new }
+        ensures good { AreHistories marked.new }
+        ensures started { M.started machine.new ≡ M.started machine.old }
+    {
+        let mut any = false;
+        for block in self.sites.actions() {
+            if self.clear_block(alloc, machine, time, block, marked)? {
+                any = true;
+            }
+        }
+        Ok(any)
+    }
+
+    /// Marks the last row of the action of this block, if it is an action's and is to be marked. Answers whether it is.
+    fn clear_block<M: Machine>(
+        &self,
+        alloc: Global,
+        machine: &mut M,
+        time: &Time,
+        block: &ReadBlock,
+        marked: &mut Histories,
+    ) -> Result<bool, Turned>
+        requires sound { IsSoundParts self.now }
+        requires good { AreHistories marked.old }
+        ensures marks { MarksEach time.now (state_of self.now) (filter_map as_action (shown_block block.now ∷ [])) (record { histories = marked.old; any = false })
+            (view (M.world machine.old) (M.looked machine.old) (M.acted machine.old) (M.polled machine.old) (M.faults machine.old)) result marked.new
+            (view (M.world machine.new) (M.looked machine.new) (M.acted machine.new) (M.polled machine.new) (M.faults machine.new)) }
+        ensures marked { AreMarked marked.old marked.new }
+        ensures good { AreHistories marked.new }
+        ensures started { M.started machine.new ≡ M.started machine.old }
+    {
+        let ReadBlock::Action(action) = block else {
+            return Ok(false);
+        };
+        if !self.is_cleared_now(alloc, machine, time, action, marked)? {
+            return Ok(false);
+        }
+        changed_histories_can_be_saved();
+        marked.clear(action.action().id, time.moment());
+        Ok(true)
+    }
+
+    /// Whether the last row of an action is to be marked.
+    fn is_cleared_now<M: Machine>(
+        &self,
+        alloc: Global,
+        machine: &mut M,
+        time: &Time,
+        action: &ReadAction,
+        marked: &Histories,
+    ) -> Result<bool, Turned>
+        requires sound { IsSoundParts self.now }
+        ensures tests { TestsMark (may_clear (last_row (rows_at action.now.id marked.now))) time.now (state_of self.now) action.now
+            (view (M.world machine.old) (M.looked machine.old) (M.acted machine.old) (M.polled machine.old) (M.faults machine.old)) result
+            (view (M.world machine.new) (M.looked machine.new) (M.acted machine.new) (M.polled machine.new) (M.faults machine.new)) }
+        ensures started { M.started machine.new ≡ M.started machine.old }
+    {
+        if !may_clear(marked.rows(action.action().id)) {
+            return Ok(false);
+        }
+        match relevant(alloc, self.sites.content(action.action()), machine, time) {
+            Found::Yes => Ok(false),
+            Found::No => Ok(true),
+            Found::Failed => Err(Turned::MachineFault),
+            Found::Memory => Err(Turned::Memory),
+        }
+    }
+}
+
+/// Whether the last of these rows has ended and isn't cleared.
+fn may_clear(rows: Option<&Rows>) -> bool
+    ensures { result ≡ may_clear (last_row (rows_if rows.entry)) }
+{
+    match rows_of(rows).last() {
+        Some(row) => row.end.is_some() && row.cleared.is_none(),
+        None => false,
+    }
+}
+
+/// The rows of an action, which may have none.
+pub(crate) fn rows_of(rows: Option<&Rows>) -> &[Row]
+    ensures value { result.now ≡ rows_if rows.entry }
+    ensures rows { IsRows result.now }
+{
+    match rows {
+        Some(rows) => rows.as_slice(),
+        None => &[],
+    }
+}

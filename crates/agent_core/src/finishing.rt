@@ -1,0 +1,166 @@
+// The end of a turn: its report, and its last save.
+ghost use Rattle.std.specs.Prelude.{◌≡◌, ◌<◌, ◌≤◌, ◌∷◌, ◌++◌, min, [], length, take, true, vec_capacity};
+ghost use Rattle.script_run.specs.Machines.{MachineView};
+ghost use Rattle.agent_text.specs.Histories.{report_row, report_rows, reported_note, shown_history};
+ghost use Rattle.agent_core.specs.Inside.{IsSoundParts, state_of};
+ghost use Rattle.agent_core.specs.States.{can_report, devices, pocket_view, text_of, with_report};
+ghost use Rattle.agent_core.specs.Counting.{pending_count};
+ghost use Rattle.agent_core.specs.Steps.{Suffices};
+ghost use Rattle.agent_core.specs.Turns.{Finishes, LastSave};
+
+use crate::parts::Parts;
+use crate::spare::{MOST_ROWS, Spare};
+use crate::turned::Turned;
+use act_rules::{Note, Outcome, Row};
+use agent_text::{
+    Histories, History, Pocket, SaveResult, changed_histories_can_be_saved, saved_texts_are_short,
+};
+use desk_base::Room;
+use rel_lexer::Text;
+use report_text::{Form, Report, ReportRow, ReportRows};
+
+/// The most reports of an outbox.
+const MOST_REPORTS: usize = 1000;
+
+/// The last number of a report that isn't used: 2^53.
+const LAST_NUMBER: u64 = 9_007_199_254_740_992;
+
+impl Parts {
+    /// Makes a report where one can be made, saves what has changed, and answers `would` where that succeeds.
+    pub(crate) fn finish<P: Pocket>(
+        &mut self,
+        pocket: &mut P,
+        mut spare: Spare,
+        changed: bool,
+        would: Turned,
+    ) -> Turned
+        requires sound { IsSoundParts self.old }
+        requires spare { Suffices 0 spare self.old }
+        ensures finishes { (machine : MachineView) → Finishes changed would (state_of self.old) (devices machine (pocket_view (P.saved pocket.old) (P.faults pocket.old))) result
+            (state_of self.new) (devices machine (pocket_view (P.saved pocket.new) (P.faults pocket.new))) }
+        ensures sound { IsSoundParts self.new }
+        ensures held { (state_of self.new).held ≡ (state_of self.old).held }
+    {
+        saved_texts_are_short();
+        if self.can_report() {
+            self.report(spare.computer, spare.rows);
+            return self.save_last(pocket, &mut spare.text, would);
+        }
+        if changed {
+            return self.save_last(pocket, &mut spare.text, would);
+        }
+        would
+    }
+
+    /// Whether a report can be made: an action is pending, there is room in the outbox, and a number is left.
+    pub(crate) fn can_report(&self) -> bool
+        requires { IsSoundParts self.now }
+        ensures { result ≡ can_report (state_of self.now) }
+    {
+        if self.outbox.all().len() >= MOST_REPORTS || self.next >= LAST_NUMBER {
+            return false;
+        }
+        self.histories
+            .as_slice()
+            .iter()
+            .any(|history| history.pending)
+    }
+
+    /// Adds a report of the first pending actions.
+    fn report(&mut self, computer: Text, mut rows: Vec<ReportRow>)
+        requires sound { IsSoundParts self.old }
+        requires can { can_report (state_of self.old) ≡ true }
+        requires computer { computer ≡ self.old.name }
+        requires empty { rows.items ≡ [] }
+        requires rows { min 500 (pending_count self.old.histories) ≤ vec_capacity rows }
+        requires outbox { length self.old.outbox.reports < self.old.outbox.capacity }
+        ensures state { state_of self.new ≡ with_report (state_of self.old) }
+        ensures sound { IsSoundParts self.new }
+    {
+        changed_histories_can_be_saved();
+        add_rows(&self.histories, &mut rows);
+        self.histories.report(MOST_ROWS);
+        self.outbox.push(Report {
+            form: Form::Two,
+            computer,
+            seq: self.next,
+            rows: ReportRows::from_vec(rows),
+        });
+        self.next += 1;
+    }
+
+    /// The turn's last save. Where it isn't done the new state stands unsaved.
+    fn save_last<P: Pocket>(&mut self, pocket: &mut P, room: &mut Room, would: Turned) -> Turned
+        requires sound { IsSoundParts self.old }
+        requires within { length (text_of (state_of self.old)) ≤ room.old.capacity }
+        ensures saves { (machine : MachineView) → LastSave true would (state_of self.old) (devices machine (pocket_view (P.saved pocket.old) (P.faults pocket.old))) result
+            (state_of self.new) (devices machine (pocket_view (P.saved pocket.new) (P.faults pocket.new))) }
+        ensures sound { IsSoundParts self.new }
+        ensures held { (state_of self.new).held ≡ (state_of self.old).held }
+    {
+        match self.save_in(pocket, room) {
+            SaveResult::Done => would,
+            SaveResult::Failed => {
+                self.unsaved = true;
+                Turned::PocketFault
+            }
+            SaveResult::Memory => {
+                self.unsaved = true;
+                Turned::Memory
+            }
+        }
+    }
+}
+
+/// Adds what is reported of the first pending actions, for which there is room.
+fn add_rows(histories: &Histories, rows: &mut Vec<ReportRow>)
+    requires empty { rows.old.items ≡ [] }
+    requires room { min 500 (pending_count histories.now) ≤ vec_capacity rows.old }
+    ensures { rows.new.items ≡ take 500 (report_rows histories.now) }
+{
+    for history in histories.as_slice() {
+        if rows.len() >= MOST_ROWS {
+            return;
+        }
+        add_row(history, rows);
+    }
+}
+
+/// Adds what is reported of an action, for which there is room if it is pending.
+fn add_row(history: &History, rows: &mut Vec<ReportRow>)
+    requires { history.now.pending ≡ true → length rows.old.items < vec_capacity rows.old }
+    ensures rows { rows.new.items ≡ rows.old.items ++ report_rows (shown_history history.now ∷ []) }
+    ensures room { vec_capacity rows.old ≤ vec_capacity rows.new }
+{
+    if history.pending
+        && let Some(row) = history.rows.as_slice().last()
+    {
+        rows.push(report_row(history.action, row)).unwrap();
+    }
+}
+
+/// What is reported of an attempt.
+fn report_row(action: u64, row: &Row) -> ReportRow
+    ensures { result ≡ report_row action row.now }
+{
+    ReportRow {
+        action,
+        number: row.number,
+        begun: row.begun,
+        end: row.end,
+        note: reported_note(row.end, row.note),
+    }
+}
+
+/// What is reported of a note: a failure without a place is reported at 0 and 0.
+fn reported_note(end: Option<(i64, Outcome)>, note: Note) -> Note
+    ensures { result ≡ reported_note end note }
+{
+    match end {
+        Some((_, Outcome::Failed)) => Note {
+            place: Some(note.place.unwrap_or((0, 0))),
+            ..note
+        },
+        _ => note,
+    }
+}

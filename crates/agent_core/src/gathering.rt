@@ -1,0 +1,52 @@
+// Gathering sites.
+ghost use Rattle.std.specs.Prelude.{◌≡◌, OnOk, OnErr};
+ghost use Rattle.fix_site.specs.Sites.{IsSite};
+ghost use Rattle.agent_core.specs.Agents.{shown_state};
+ghost use Rattle.agent_core.specs.Changes.{GathersSite, with_site, with_sites};
+ghost use Rattle.agent_core.specs.Inside.{IsSoundParts, state_of};
+
+use crate::agent::Agent;
+use crate::parts::Parts;
+use crate::site_list::ACTION_SITE;
+use crate::tallies::Tallies;
+use agent_attempt::ReadSite;
+use fix_site::Site;
+use report_text::Gathered;
+use std::alloc::{AllocError, Global};
+
+impl Agent {
+    /// Keeps a site, if its version is greater than that of the kept site of its name. Its texts are read here, once.
+    pub fn gather(&mut self, alloc: Global, site: &Site) -> Gathered
+        requires { IsSite site.now }
+        ensures { GathersSite (shown_state self.old) site.now result (shown_state self.new) }
+    {
+        let kept = self.parts.sites.version(site.name.as_str());
+        if site.version <= kept {
+            return Gathered::Older(kept);
+        }
+        match self.parts.keep(alloc, site) {
+            Ok(()) => Gathered::New,
+            Err(_) => Gathered::Memory,
+        }
+    }
+}
+
+impl Parts {
+    /// Keeps a site in the place of one of its name. At an error, want of memory, nothing has changed.
+    fn keep(&mut self, alloc: Global, site: &Site) -> Result<(), AllocError>
+        requires site { IsSite site.now }
+        requires sound { IsSoundParts self.old }
+        ensures ok { OnOk result (state_of self.new ≡ with_sites (with_site site.now self.old.sites) (state_of self.old)) }
+        ensures err { OnErr result (state_of self.new ≡ state_of self.old) }
+        ensures sound { IsSoundParts self.new }
+    {
+        let read = ReadSite::read(alloc, site)?;
+        if site.name.as_str() != ACTION_SITE {
+            return self.sites.put(read);
+        }
+        let tallies = Tallies::of(alloc, read.blocks(), &self.histories, &self.tallies)?;
+        self.sites.put(read)?;
+        self.tallies = tallies;
+        Ok(())
+    }
+}

@@ -1,0 +1,124 @@
+ghost use Rattle.std.specs.Prelude.{◌≡◌, ◌≢◌, ◌⊎◌, ◌+◌, ◌<◌, ℕ, List, ◌∷◌, ◌++◌, [], All, Option, None, Some, IsSome, Result, Ok, Err, Bool, true, false};
+ghost use Rattle.act_rules.specs.Lawful.{AreBounded};
+ghost use Rattle.act_rules.specs.Series.{series};
+ghost use Rattle.report_text.specs.declared.report.Report.{Report};
+ghost use Rattle.script_run.specs.Asking.{When};
+ghost use Rattle.agent_text.specs.declared.saved.Saved.{Saved};
+ghost use Rattle.agent_text.specs.declared.error.SavedError.{SavedError};
+ghost use Rattle.agent_text.specs.declared.error.SavedError.TheVariants.{Memory as NoMemory};
+ghost use Rattle.agent_text.specs.Histories.{rows_at};
+ghost use Rattle.agent_text.specs.SavedTexts.{ReadsSaved};
+ghost use Rattle.agent_attempt.specs.Attempts.{PlainAttempt};
+ghost use Rattle.agent_attempt.specs.Contents.{actions_of};
+ghost use Rattle.line_forms.specs.Names.{IsName};
+ghost use Rattle.agent_core.specs.declared.turned.Turned.{Turned};
+ghost use Rattle.agent_core.specs.declared.turned.Turned.TheVariants.{Memory, PocketFault, Wants};
+ghost use Rattle.agent_core.specs.Agents.{AgentState, shown_state};
+ghost use Rattle.agent_core.specs.Calls.{Call, DoAll, IsCall};
+ghost use Rattle.agent_core.specs.Alike.{AlikeStates, AttemptWantsAtMost, NoFaults, TellsWorld};
+ghost use Rattle.report_text.specs.declared.answer.Verdict.{Verdict};
+ghost use Rattle.agent_core.specs.Changes.{SettlesState, SuppliesHeld};
+ghost use Rattle.agent_core.specs.Opens.{OpensAgent, new_state};
+ghost use Rattle.agent_core.specs.Schedules.{IsMailOf, IsStep, Mail, restarted, settled};
+ghost use Rattle.agent_core.specs.declared.opening.Opened.TheVariants as opening;
+ghost use Rattle.agent_core.specs.States.{Devices, IsSound, State, saved_of, text_of};
+ghost use Rattle.agent_core.specs.Stops.{Agrees, AreLawful, BothLawful, HaveRules, Table};
+ghost use Rattle.agent_core.specs.Turns.{Turn};
+
+use crate::agent::Agent;
+use act_rules::{lawful_rows, lawful_rows_stay_lawful};
+use agent_text::{a_saved_text_is_read_again, changed_histories_can_be_saved, one_saved};
+use line_forms::lines_are_read_again;
+use rel_eval::one_plan;
+use script_text::one_verdict;
+
+/// What an agent saves is read back as what it saved, or want of memory stands in its place.
+pub fn a_saved_state_is_read_again()
+    ensures { (s : State) (answer : Result Saved SavedError) → IsSound s → ReadsSaved s.computer (text_of s) answer
+        → (answer ≡ Ok (saved_of s)) ⊎ (answer ≡ Err NoMemory) }
+{
+    a_saved_text_is_read_again();
+}
+
+/// On a machine that tells its world a turn in which no device fails, and that doesn't end by a pocket's fault or want of memory, is a
+/// function of its time, the state and what the devices tell.
+pub fn one_turn()
+    ensures { (at : When) (s : State) (d : Devices) (answer other : Turned) (s2 s3 : State) (d2 d3 : Devices)
+        → TellsWorld d → Turn at s d answer s2 d2 → Turn at s d other s3 d3 → NoFaults d d2 → NoFaults d d3
+        → answer ≢ PocketFault → answer ≢ Memory → other ≢ PocketFault → other ≢ Memory
+        → (answer ≡ other) × AlikeStates s2 s3 × (d2 ≡ d3) }
+{
+    one_plan();
+    one_verdict();
+}
+
+/// A turn adds one report at most, which has the next number. What is saved at the end of a turn that doesn't end by a pocket's fault or
+/// want of memory is the outbox and the next number.
+pub fn a_turn_adds_one_report()
+    ensures reports { (at : When) (s s2 : State) (d d2 : Devices) (answer : Turned) → Turn at s d answer s2 d2
+        → ((s2.reports ≡ s.reports) × (s2.next ≡ s.next))
+        ⊎ ((report : Report) × (report.seq ≡ s.next) × (s2.reports ≡ s.reports ++ report ∷ []) × (s2.next ≡ s.next + 1)) }
+    ensures saved { (at : When) (s s2 : State) (d d2 : Devices) (answer : Turned) → Turn at s d answer s2 d2
+        → answer ≢ PocketFault → answer ≢ Memory → d.pocket.saved ≡ Some (Some (text_of s)) → s.unsaved ≡ false
+        → d2.pocket.saved ≡ Some (Some (text_of s2)) }
+{}
+
+/// To the delivery of reports a turn that doesn't end by a pocket's fault or want of memory is nothing, a save, or a report that is made
+/// and saved. Settling and opening are steps of their own.
+pub fn turns_are_steps()
+    ensures turn { (at : When) (s s2 : State) (d d2 : Devices) (answer : Turned) (m : Mail) → Turn at s d answer s2 d2
+        → IsSound s2 → answer ≢ PocketFault → answer ≢ Memory → IsMailOf m s d.pocket.saved
+        → (m2 : Mail) × IsStep m m2 × IsMailOf m2 s2 d2.pocket.saved }
+    ensures settled { (seq : ℕ) (verdict : Verdict) (s s2 : State) (m : Mail) (told : Option (Option (List ℕ)))
+        → SettlesState seq verdict s true s2 → IsMailOf m s told → IsMailOf (settled seq m) s2 told }
+    ensures opened { (computer : List ℕ) (told : Option (Option (List ℕ))) (s : State) (agent : AgentState) (m : Mail) → IsSome told
+        → OpensAgent computer told (opening.Agent agent) → IsMailOf m s told → s.computer ≡ computer
+        → IsMailOf (restarted m) (shown_state agent) told }
+{
+    one_saved();
+    lines_are_read_again();
+}
+
+/// An attempt that wants a file, is given it, and wants one again in its next turn, can want fewer files from then on.
+pub fn wants_come_to_an_end()
+    ensures { (at : When) (agent : AgentState) (given s2 : State) (d d2 : Devices) (attempt then : PlainAttempt) (bytes : Option (List ℕ))
+        (id : ℕ) (digest next : List ℕ) (began : Bool) (most : ℕ) → (shown_state agent).held ≡ Some attempt
+        → AttemptWantsAtMost attempt most → SuppliesHeld (shown_state agent).held digest bytes true given.held
+        → Turn at given d (Wants id began next) s2 d2 → s2.held ≡ Some then
+        → (fewer : ℕ) × (fewer < most) × AttemptWantsAtMost then fewer }
+{}
+
+/// Over any list of calls, stops among them, rows that each began when a run was owed stay so, the agent's and the saved ones, and an
+/// attempt that is held is backed by the saved text.
+pub fn stops_leave_rows_lawful()
+    ensures { (table : Table) (calls : List Call) (s s2 : State) (saved saved2 : Option (List ℕ)) → All (IsCall table) calls → IsSound s
+        → HaveRules table (actions_of s.sites) → BothLawful table s (Some saved) → Agrees s.held (Some saved)
+        → DoAll calls s saved s2 saved2 → BothLawful table s2 (Some saved2) × Agrees s2.held (Some saved2) }
+{
+    changed_histories_can_be_saved();
+    lawful_rows_stay_lawful();
+    one_saved();
+    lines_are_read_again();
+}
+
+/// Lawful rows of an action are of no more series of attempts, and no more attempts in a series, than its rules allow. So it is over
+/// any list of calls, stops among them, of an agent that begins with nothing.
+pub fn attempts_are_bounded()
+    ensures lawful { (table : Table) (s : State) (action : ℕ) → AreLawful table s.histories → IsSound s
+        → AreBounded (table action) (series (table action).retries (rows_at action s.histories)) }
+    ensures calls { (table : Table) (calls : List Call) (computer : List ℕ) (s : State) (saved : Option (List ℕ)) (action : ℕ)
+        → IsName computer → All (IsCall table) calls → DoAll calls (new_state computer) None s saved
+        → AreBounded (table action) (series (table action).retries (rows_at action s.histories)) }
+{
+    lawful_rows();
+    lawful_rows_stay_lawful();
+    stops_leave_rows_lawful();
+}
+
+/// What an agent shows is a sound state.
+pub fn agents_are_sound(agent: &Agent)
+    ensures { IsSound (shown_state agent.now) }
+{
+    // seen, so that the invariant of an agent is known
+    let _parts = &agent.parts;
+}

@@ -1,0 +1,31 @@
+//! An agent: it gathers sites, makes turns, and reports what it did.
+#![tactic(auto)]
+
+mod agent;
+mod beginning;
+mod clearing;
+mod finishing;
+mod gathering;
+mod law;
+mod opening;
+mod outbox;
+mod parts;
+mod resuming;
+mod saving;
+mod site_list;
+mod spare;
+mod tallies;
+mod trying;
+mod turned;
+mod turning;
+
+pub use agent::Agent;
+pub use agent_attempt::Fail;
+pub use agent_text::{Loaded, MemoryPocket, Pocket, SaveResult};
+pub use law::{
+    a_saved_state_is_read_again, a_turn_adds_one_report, agents_are_sound, attempts_are_bounded,
+    one_turn, stops_leave_rows_lawful, turns_are_steps, wants_come_to_an_end,
+};
+pub use opening::Opened;
+pub use report_text::{Gathered, Verdict};
+pub use turned::Turned;

@@ -1,0 +1,41 @@
+ghost use Rattle.agent_core.specs.Changes.{DropsState};
+ghost use Rattle.agent_core.specs.Inside.{IsSoundParts, state_of};
+
+use crate::outbox::Outbox;
+use crate::site_list::SiteList;
+use crate::tallies::Tallies;
+use agent_attempt::Attempt;
+use agent_text::Histories;
+use rel_lexer::Text;
+
+/// What an agent is made of.
+#[derive(Drop)]
+pub struct Parts {
+    /// The name of its computer.
+    pub(crate) name: Text,
+    pub(crate) sites: SiteList,
+    /// Those of the actions of the gathered `actionsite`.
+    pub(crate) tallies: Tallies,
+    /// The number of the next report.
+    pub(crate) next: u64,
+    pub(crate) histories: Histories,
+    pub(crate) outbox: Outbox,
+    pub(crate) held: Option<Attempt>,
+    /// Whether something is unsaved.
+    pub(crate) unsaved: bool,
+}
+
+impl Parts {
+    /// Drops the report with this number, and answers whether it was there. It takes no memory.
+    pub(crate) fn drop_report(&mut self, seq: u64) -> bool
+        requires { IsSoundParts self.old }
+        ensures state { DropsState seq (state_of self.old) result (state_of self.new) }
+        ensures sound { IsSoundParts self.new }
+    {
+        if !self.outbox.drop_report(seq) {
+            return false;
+        }
+        self.unsaved = true;
+        true
+    }
+}

@@ -1,0 +1,245 @@
+// Attempts that end, go on, or were broken off.
+ghost use Rattle.std.specs.Prelude.{◌≡◌, ◌≤◌, IfOk, IfSome, IsSomeAnd, IsTrue, None, Some, false};
+ghost use Rattle.std.specs.Option.{option_map};
+ghost use Rattle.act_rules.specs.Rows.{last_row};
+ghost use Rattle.script_run.specs.Machines.{MachineView, view};
+ghost use Rattle.agent_text.specs.SavedRows.{IsSavedNote};
+ghost use Rattle.agent_text.specs.Histories.{rows_at, with_ended};
+ghost use Rattle.report_text.specs.ReportRows.{IsExit};
+ghost use Rattle.agent_attempt.specs.declared.went.Went.TheVariants.{Ended};
+ghost use Rattle.agent_attempt.specs.Attempts.{StageWaitsBelow};
+ghost use Rattle.agent_attempt.specs.Going.{HasNote};
+ghost use Rattle.agent_attempt.specs.Stages.{shown_attempt};
+ghost use Rattle.agent_core.specs.Inside.{IsSoundParts, state_of};
+ghost use Rattle.agent_core.specs.Saving.{OrMemory};
+ghost use Rattle.agent_core.specs.States.{HeldRuns, State, broken_action, devices, is_of_another, last_runs, pocket_view, with_held, with_histories};
+ghost use Rattle.agent_core.specs.Steps.{Suffices};
+ghost use Rattle.agent_core.specs.Stops.{HeldWaitsBelow};
+ghost use Rattle.agent_core.specs.Turns.{Goes, Interrupts, outcome_of};
+
+use crate::beginning::NO_NOTE;
+use crate::parts::Parts;
+use crate::spare::Spare;
+use crate::turned::Turned;
+use act_rules::{Note, Outcome};
+use agent_attempt::{Attempt, Fail, Time, Went};
+use agent_text::{
+    History, Pocket, SaveResult, changed_histories_can_be_saved, saved_texts_are_short,
+};
+use bf_machine::Machine;
+use std::alloc::{AllocError, Global};
+use std::mem::drop;
+
+impl Parts {
+    /// What the end of a turn takes, with the histories as they are and one report more. The error is want of memory; the state is
+    /// then as it was.
+    pub(crate) fn take_spare(&mut self, alloc: Global) -> Result<Spare, AllocError>
+        requires sound { IsSoundParts self.old }
+        ensures spare { IfOk result (λ spare. Suffices 1 spare self.new) }
+        ensures state { state_of self.new ≡ state_of self.old }
+        ensures sound { IsSoundParts self.new }
+    {
+        self.outbox.reserve()?;
+        Spare::take(alloc, &self.name, &self.histories, self.outbox.all())
+    }
+
+    /// The least action whose last attempt was broken off: it runs, and isn't held.
+    pub(crate) fn broken(&self) -> Option<u64>
+        requires { IsSoundParts self.now }
+        ensures { result ≡ broken_action (state_of self.now) }
+    {
+        let held = &self.held;
+        let history = self.histories.as_slice().iter().find(|history| is_running(history)
+            && is_of_another(history.action, held))?;
+        Some(history.action)
+    }
+
+    /// A broken attempt ends as interrupted.
+    pub(crate) fn interrupt<P: Pocket>(
+        &mut self,
+        alloc: Global,
+        pocket: &mut P,
+        id: u64,
+        time: &Time,
+    ) -> Turned
+        requires sound { IsSoundParts self.old }
+        requires broken { broken_action (state_of self.old) ≡ Some id }
+        ensures interrupts { (machine : MachineView) → Interrupts time.now id (state_of self.old) (devices machine (pocket_view (P.saved pocket.old) (P.faults pocket.old))) result
+            (state_of self.new) (devices machine (pocket_view (P.saved pocket.new) (P.faults pocket.new))) }
+        ensures sound { IsSoundParts self.new }
+        ensures held { (state_of self.new).held ≡ (state_of self.old).held }
+    {
+        let Ok(mut spare) = self.take_spare(alloc) else {
+            return Turned::Memory;
+        };
+        self.end(id, time, Outcome::Interrupted, NO_NOTE);
+        saved_texts_are_short();
+        match self.save_in(pocket, &mut spare.text) {
+            SaveResult::Done => self.finish(pocket, spare, false, Turned::Interrupted { id }),
+            SaveResult::Failed => {
+                self.unsaved = true;
+                Turned::PocketFault
+            }
+            SaveResult::Memory => {
+                self.unsaved = true;
+                Turned::Memory
+            }
+        }
+    }
+
+    /// The attempt of an action that runs ends.
+    fn end(&mut self, id: u64, time: &Time, outcome: Outcome, note: Note)
+        requires sound { IsSoundParts self.old }
+        requires running { IsSomeAnd (last_row (rows_at id self.old.histories)) (λ row. row.end ≡ None) }
+        requires free { IsTrue (is_of_another id (state_of self.old).held) }
+        requires note { IsSavedNote outcome note }
+        ensures state { state_of self.new ≡ with_histories (with_ended id time.now.moment outcome note self.old.histories) (state_of self.old) }
+        ensures room { self.new.outbox ≡ self.old.outbox }
+        ensures sound { IsSoundParts self.new }
+    {
+        changed_histories_can_be_saved();
+        self.histories.end(id, time.moment(), outcome, note);
+        self.tallies.end(id, outcome);
+    }
+
+    /// The attempt that was held goes on.
+    pub(crate) fn resume<M: Machine, P: Pocket>(
+        &mut self,
+        alloc: Global,
+        machine: &mut M,
+        pocket: &mut P,
+        attempt: Attempt,
+        time: &Time,
+    ) -> Turned
+        requires sound { IsSoundParts self.old }
+        requires free { self.old.held ≡ None }
+        requires runs { HeldRuns (Some (shown_attempt attempt)) self.old.histories }
+        requires waits { StageWaitsBelow (M.started machine.old) (shown_attempt attempt).stage }
+        ensures goes { OrMemory (with_held (Some (shown_attempt attempt)) (state_of self.old))
+            (devices (view (M.world machine.old) (M.looked machine.old) (M.acted machine.old) (M.polled machine.old) (M.faults machine.old)) (pocket_view (P.saved pocket.old) (P.faults pocket.old)))
+            (Goes time.now false (shown_attempt attempt) (with_held (Some (shown_attempt attempt)) (state_of self.old))
+            (devices (view (M.world machine.old) (M.looked machine.old) (M.acted machine.old) (M.polled machine.old) (M.faults machine.old)) (pocket_view (P.saved pocket.old) (P.faults pocket.old)))) result (state_of self.new)
+            (devices (view (M.world machine.new) (M.looked machine.new) (M.acted machine.new) (M.polled machine.new) (M.faults machine.new)) (pocket_view (P.saved pocket.new) (P.faults pocket.new))) }
+        ensures waits { HeldWaitsBelow (M.started machine.new) (state_of self.new).held }
+        ensures started { M.started machine.old ≤ M.started machine.new }
+        ensures sound { IsSoundParts self.new }
+    {
+        match self.take_spare(alloc) {
+            Ok(spare) => self.go(alloc, machine, pocket, attempt, false, spare, time),
+            Err(_) => {
+                self.held = Some(attempt);
+                Turned::Memory
+            }
+        }
+    }
+
+    /// An attempt goes on, and the turn ends with it.
+    pub(crate) fn go<M: Machine, P: Pocket>(
+        &mut self,
+        alloc: Global,
+        machine: &mut M,
+        pocket: &mut P,
+        mut attempt: Attempt,
+        began: bool,
+        spare: Spare,
+        time: &Time,
+    ) -> Turned
+        requires sound { IsSoundParts self.old }
+        requires free { self.old.held ≡ None }
+        requires runs { HeldRuns (Some (shown_attempt attempt)) self.old.histories }
+        requires spare { Suffices 1 spare self.old }
+        requires waits { StageWaitsBelow (M.started machine.old) (shown_attempt attempt).stage }
+        ensures goes { (s : State) → with_held None s ≡ state_of self.old → Goes time.now began (shown_attempt attempt) s
+            (devices (view (M.world machine.old) (M.looked machine.old) (M.acted machine.old) (M.polled machine.old) (M.faults machine.old)) (pocket_view (P.saved pocket.old) (P.faults pocket.old))) result (state_of self.new)
+            (devices (view (M.world machine.new) (M.looked machine.new) (M.acted machine.new) (M.polled machine.new) (M.faults machine.new)) (pocket_view (P.saved pocket.new) (P.faults pocket.new))) }
+        ensures waits { HeldWaitsBelow (M.started machine.new) (state_of self.new).held }
+        ensures started { M.started machine.old ≤ M.started machine.new }
+        ensures sound { IsSoundParts self.new }
+    {
+        let id = attempt.action_id();
+        match attempt.go_on(alloc, machine, time) {
+            Went::Held { component, line } => {
+                self.held = Some(attempt);
+                let would = Turned::Held {
+                    id,
+                    began,
+                    component,
+                    line,
+                };
+                self.finish(pocket, spare, false, would)
+            }
+            Went::Wants { digest } => {
+                self.held = Some(attempt);
+                self.finish(pocket, spare, false, Turned::Wants { id, began, digest })
+            }
+            Went::Ended { fail, note } => {
+                drop(attempt);
+                let outcome = outcome_of(&fail);
+                note_fits(&fail, note);
+                self.end(id, time, outcome, note);
+                let would = Turned::Ended {
+                    id,
+                    began,
+                    outcome,
+                    fail,
+                };
+                self.finish(pocket, spare, true, would)
+            }
+            Went::Memory => {
+                self.held = Some(attempt);
+                Turned::Memory
+            }
+        }
+    }
+}
+
+/// Whether the last row runs.
+fn is_running(history: &History) -> bool
+    ensures { result ≡ last_runs (last_row history.now.rows.rows) }
+{
+    match history.rows.as_slice().last() {
+        Some(row) => row.end.is_none(),
+        None => false,
+    }
+}
+
+/// Whether the attempt that is held, if one is, is of another action.
+fn is_of_another(action: u64, held: &Option<Attempt>) -> bool
+    ensures { result ≡ is_of_another action (option_map shown_attempt held.now) }
+{
+    match held {
+        Some(attempt) => attempt.action_id() != action,
+        None => true,
+    }
+}
+
+/// The note of an attempt that has ended can be saved.
+fn note_fits(fail: &Option<Fail>, note: Note)
+    requires { HasNote (Ended fail.now note) }
+    ensures { IsSavedNote (outcome_of fail.now) note }
+{
+    exit_fits(note.exit);
+    // numbers are known to fit once they are read
+    if let Some(fail) = fail {
+        let _place = (fail.component, fail.line);
+    }
+}
+
+/// An exit code is a number of 64 bits.
+fn exit_fits(exit: Option<i64>)
+    ensures { IfSome exit IsExit }
+{
+    if let Some(exit) = exit {
+        let _exit = exit;
+    }
+}
+
+/// How an attempt ended.
+fn outcome_of(fail: &Option<Fail>) -> Outcome
+    ensures { result ≡ outcome_of fail.now }
+{
+    match fail {
+        None => Outcome::Fixed,
+        Some(_) => Outcome::Failed,
+    }
+}

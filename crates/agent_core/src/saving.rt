@@ -1,0 +1,59 @@
+// Saving an agent's state.
+ghost use Rattle.std.specs.Prelude.{◌≡◌, ◌≤◌, length};
+ghost use Rattle.agent_core.specs.Inside.{IsSoundParts, state_of};
+ghost use Rattle.agent_core.specs.States.{pocket_view, text_of};
+ghost use Rattle.agent_core.specs.Saving.{SavesOn};
+ghost use Rattle.agent_core.specs.Steps.{after_save};
+
+use crate::parts::Parts;
+use agent_text::{Pocket, SaveResult, fill_saved, saved_size, saved_texts_are_short};
+use desk_base::Room;
+use std::alloc::Global;
+
+impl Parts {
+    /// Saves the state.
+    pub(crate) fn save<P: Pocket>(&mut self, alloc: Global, pocket: &mut P) -> SaveResult
+        requires sound { IsSoundParts self.old }
+        ensures saves { SavesOn (text_of (state_of self.old)) (pocket_view (P.saved pocket.old) (P.faults pocket.old)) result
+            (pocket_view (P.saved pocket.new) (P.faults pocket.new)) }
+        ensures state { state_of self.new ≡ after_save result (state_of self.old) }
+        ensures sound { IsSoundParts self.new }
+        ensures room { self.new.outbox.capacity ≡ self.old.outbox.capacity }
+    {
+        let Some(size) = saved_size(&self.histories, self.outbox.all()) else {
+            return SaveResult::Memory;
+        };
+        saved_texts_are_short();
+        match Room::with_capacity(alloc, size) {
+            Ok(mut room) => self.save_in(pocket, &mut room),
+            Err(_) => SaveResult::Memory,
+        }
+    }
+
+    /// Saves the state, whose text there is room for.
+    pub(crate) fn save_in<P: Pocket>(&mut self, pocket: &mut P, room: &mut Room) -> SaveResult
+        requires sound { IsSoundParts self.old }
+        requires within { length (text_of (state_of self.old)) ≤ room.old.capacity }
+        ensures saves { SavesOn (text_of (state_of self.old)) (pocket_view (P.saved pocket.old) (P.faults pocket.old)) result
+            (pocket_view (P.saved pocket.new) (P.faults pocket.new)) }
+        ensures state { state_of self.new ≡ after_save result (state_of self.old) }
+        ensures sound { IsSoundParts self.new }
+        ensures room { self.new.outbox.capacity ≡ self.old.outbox.capacity }
+        ensures text { room.old.capacity ≤ room.new.capacity }
+    {
+        room.clear();
+        fill_saved(
+            &self.name,
+            self.next,
+            &self.histories,
+            self.outbox.all(),
+            room,
+        );
+        let result = pocket.save(room.as_slice());
+        if let SaveResult::Done = result {
+            self.unsaved = false;
+            self.outbox.show();
+        }
+        result
+    }
+}

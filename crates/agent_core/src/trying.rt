@@ -1,0 +1,182 @@
+// Trying the actions: the first that is due.
+ghost use Rattle.std.specs.Prelude.{◌≡◌, ◌≤◌, ◌∷◌, [], None, false};
+ghost use Rattle.std.specs.List.{filter_map};
+ghost use Rattle.act_rules.specs.Tallies.{StandsFor};
+ghost use Rattle.script_run.specs.Machines.{MachineView, view};
+ghost use Rattle.agent_text.specs.Histories.{AreHistories, rows_at};
+ghost use Rattle.agent_attempt.specs.Blocks.{shown_block};
+ghost use Rattle.agent_attempt.specs.Contents.{actions_of, as_action};
+ghost use Rattle.agent_core.specs.Inside.{IsSoundParts, state_of};
+ghost use Rattle.agent_core.specs.Saving.{OrMemory};
+ghost use Rattle.agent_core.specs.States.{broken_action, devices, pocket_view, with_histories};
+ghost use Rattle.agent_core.specs.Steps.{AreMarked, FindsDue, TriesOne};
+ghost use Rattle.agent_core.specs.Stops.{HeldWaitsBelow};
+ghost use Rattle.agent_core.specs.Turns.{Finishes, Tries};
+
+use crate::clearing::rows_of;
+use crate::parts::Parts;
+use crate::turned::Turned;
+use act_rules::Tally;
+use agent_attempt::{Attempt, Found, ReadAction, ReadBlock, Time, due};
+use agent_text::{Histories, Pocket};
+use bf_machine::Machine;
+use std::alloc::Global;
+
+impl Parts {
+    /// Marks what isn't relevant any more as cleared, and tries the actions. Before a beginning nothing of the state is changed.
+    pub(crate) fn try_actions<M: Machine, P: Pocket>(
+        &mut self,
+        alloc: Global,
+        machine: &mut M,
+        pocket: &mut P,
+        time: &Time,
+    ) -> Turned
+        requires sound { IsSoundParts self.old }
+        requires free { self.old.held ≡ None }
+        requires ended { broken_action (state_of self.old) ≡ None }
+        ensures tries { Tries time.now (state_of self.old) (actions_of self.old.sites)
+            (devices (view (M.world machine.old) (M.looked machine.old) (M.acted machine.old) (M.polled machine.old) (M.faults machine.old)) (pocket_view (P.saved pocket.old) (P.faults pocket.old))) result (state_of self.new)
+            (devices (view (M.world machine.new) (M.looked machine.new) (M.acted machine.new) (M.polled machine.new) (M.faults machine.new)) (pocket_view (P.saved pocket.new) (P.faults pocket.new))) }
+        ensures waits { HeldWaitsBelow (M.started machine.new) (state_of self.new).held }
+        ensures started { M.started machine.old ≤ M.started machine.new }
+        ensures sound { IsSoundParts self.new }
+    {
+        let Ok(mut marked) = self.histories.copy() else {
+            return Turned::Memory;
+        };
+        let any = match self.clear(alloc, machine, time, &mut marked) {
+            Ok(any) => any,
+            Err(stop) => return stop,
+        };
+        match self.find_due(alloc, machine, time, &marked) {
+            Ok(Some(attempt)) => self.begin(alloc, machine, pocket, marked, attempt, time),
+            Ok(None) => self.idle(alloc, pocket, marked, any),
+            Err(stop) => stop,
+        }
+    }
+
+    /// Tries the actions in ascending order of their ids: the attempt of the first that is due, as it begins.
+    fn find_due<M: Machine>(
+        &self,
+        alloc: Global,
+        machine: &mut M,
+        time: &Time,
+        marked: &Histories,
+    ) -> Result<Option<Attempt>, Turned>
+        requires sound { IsSoundParts self.now }
+        requires marked { AreMarked self.now.histories marked.now }
+        ensures finds { FindsDue time.now (state_of self.now) marked.now (actions_of self.now.sites)
+            (view (M.world machine.old) (M.looked machine.old) (M.acted machine.old) (M.polled machine.old) (M.faults machine.old)) result
+            (view (M.world machine.new) (M.looked machine.new) (M.acted machine.new) (M.polled machine.new) (M.faults machine.new)) }
+        ensures started { M.started machine.new ≡ M.started machine.old }
+    {
+        for block in self.sites.actions() {
+            if let Some(attempt) = self.try_block(alloc, machine, time, block, marked)? {
+                return Ok(Some(attempt));
+            }
+        }
+        Ok(None)
+    }
+
+    /// The attempt of the action of this block, as it begins, if it is an action's and is due.
+    fn try_block<M: Machine>(
+        &self,
+        alloc: Global,
+        machine: &mut M,
+        time: &Time,
+        block: &ReadBlock,
+        marked: &Histories,
+    ) -> Result<Option<Attempt>, Turned>
+        requires sound { IsSoundParts self.now }
+        requires marked { AreMarked self.now.histories marked.now }
+        ensures finds { FindsDue time.now (state_of self.now) marked.now (filter_map as_action (shown_block block.now ∷ []))
+            (view (M.world machine.old) (M.looked machine.old) (M.acted machine.old) (M.polled machine.old) (M.faults machine.old)) result
+            (view (M.world machine.new) (M.looked machine.new) (M.acted machine.new) (M.polled machine.new) (M.faults machine.new)) }
+        ensures started { M.started machine.new ≡ M.started machine.old }
+    {
+        match block {
+            ReadBlock::Action(action) => self.try_one(alloc, machine, time, action, marked),
+            ReadBlock::Fixlet(_) | ReadBlock::Baseline(_) => Ok(None),
+        }
+    }
+
+    /// The attempt of an action, as it begins, where it is due.
+    fn try_one<M: Machine>(
+        &self,
+        alloc: Global,
+        machine: &mut M,
+        time: &Time,
+        action: &ReadAction,
+        marked: &Histories,
+    ) -> Result<Option<Attempt>, Turned>
+        requires sound { IsSoundParts self.now }
+        requires marked { AreMarked self.now.histories marked.now }
+        ensures tries { TriesOne time.now (state_of self.now) marked.now action.now
+            (view (M.world machine.old) (M.looked machine.old) (M.acted machine.old) (M.polled machine.old) (M.faults machine.old)) result
+            (view (M.world machine.new) (M.looked machine.new) (M.acted machine.new) (M.polled machine.new) (M.faults machine.new)) }
+        ensures started { M.started machine.new ≡ M.started machine.old }
+    {
+        let content = self.sites.content(action.action());
+        let rows = rows_of(marked.rows(action.action().id));
+        let tally = self.tally_for(alloc, action, marked);
+        let found = due(
+            alloc, &self.name, action, content, rows, &tally, machine, time,
+        );
+        match found {
+            Found::Yes => {}
+            Found::No => return Ok(None),
+            Found::Failed => return Err(Turned::MachineFault),
+            Found::Memory => return Err(Turned::Memory),
+        }
+        let Some(content) = content else {
+            return Ok(None);
+        };
+        let number = rows.len() as u32 + 1;
+        match Attempt::begin(alloc, action, content, number, time.offset()) {
+            Ok(attempt) => Ok(Some(attempt)),
+            Err(_) => Err(Turned::Memory),
+        }
+    }
+
+    /// The tally that stands for the rows of an action, marked or not.
+    fn tally_for(&self, alloc: Global, action: &ReadAction, marked: &Histories) -> Tally
+        requires sound { IsSoundParts self.now }
+        requires marked { AreMarked self.now.histories marked.now }
+        ensures { StandsFor result action.now.rules.retries (rows_at action.now.id marked.now) }
+    {
+        let action = action.action();
+        self.tallies
+            .standing(alloc, action.id, action.rules.retries, marked)
+    }
+
+    /// No action is due: the marks stand.
+    fn idle<P: Pocket>(
+        &mut self,
+        alloc: Global,
+        pocket: &mut P,
+        marked: Histories,
+        any: bool,
+    ) -> Turned
+        requires sound { IsSoundParts self.old }
+        requires free { self.old.held ≡ None }
+        requires marked { AreMarked self.old.histories marked }
+        requires good { AreHistories marked }
+        requires same { any ≡ false → marked ≡ self.old.histories }
+        ensures finishes { (machine : MachineView) → OrMemory (state_of self.old)
+            (devices machine (pocket_view (P.saved pocket.old) (P.faults pocket.old)))
+            (Finishes any Turned.Idle (with_histories marked (state_of self.old))
+            (devices machine (pocket_view (P.saved pocket.old) (P.faults pocket.old)))) result
+            (state_of self.new) (devices machine (pocket_view (P.saved pocket.new) (P.faults pocket.new))) }
+        ensures held { (state_of self.new).held ≡ (state_of self.old).held }
+        ensures sound { IsSoundParts self.new }
+    {
+        if !any && !self.can_report() {
+            return Turned::Idle;
+        }
+        let Ok(spare) = self.take_spare(alloc) else {
+            return Turned::Memory;
+        };
+        self.histories = marked;
+        self.finish(pocket, spare, any, Turned::Idle)
+    }
+}

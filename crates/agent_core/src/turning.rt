@@ -1,0 +1,118 @@
+// One turn.
+ghost use Rattle.std.specs.Prelude.{◌≢◌, ◌≤◌};
+ghost use Rattle.desk_base.specs.Moments.{IsMoment};
+ghost use Rattle.line_forms.specs.Numbers.{IsOffset};
+ghost use Rattle.script_run.specs.Machines.{view};
+ghost use Rattle.agent_core.specs.Agents.{shown_state};
+ghost use Rattle.agent_core.specs.States.{devices, pocket_view};
+ghost use Rattle.agent_core.specs.Inside.{IsSoundParts, state_of};
+ghost use Rattle.agent_core.specs.Turns.{Steps, Turn};
+ghost use Rattle.agent_attempt.specs.Contents.{actions_of};
+ghost use Rattle.agent_core.specs.Stops.{Agrees, BothLawful, HaveRules, HeldWaitsBelow, Table, TurnHasCause, TurnIsBacked};
+
+use crate::agent::Agent;
+use crate::parts::Parts;
+use crate::turned::Turned;
+use act_rules::lawful_rows_stay_lawful;
+use agent_attempt::Time;
+use agent_text::{Pocket, SaveResult, changed_histories_can_be_saved, one_saved};
+use bf_machine::Machine;
+use line_forms::lines_are_read_again;
+use std::alloc::Global;
+
+impl Agent {
+    /// One turn. What stands unsaved is saved, and then a broken attempt ends, or the held one goes on, or the actions are tried and
+    /// the first that is due begins. The moment is in seconds since 1970-01-01 00:00:00 UTC, from 0 to 2^37, and the offset in minutes
+    /// east of UTC, from -840 to 840. The program that the held attempt waits for is one that the machine started.
+    pub fn turn<M: Machine, P: Pocket>(
+        &mut self,
+        alloc: Global,
+        machine: &mut M,
+        pocket: &mut P,
+        moment: i64,
+        offset: i64,
+    ) -> Turned
+        requires moment { IsMoment moment }
+        requires offset { IsOffset offset }
+        requires waits { HeldWaitsBelow (M.started machine.old) (shown_state self.old).held }
+        ensures turns { Turn (record { moment = moment; offset = offset }) (shown_state self.old)
+            (devices (view (M.world machine.old) (M.looked machine.old) (M.acted machine.old) (M.polled machine.old) (M.faults machine.old))
+            (pocket_view (P.saved pocket.old) (P.faults pocket.old))) result (shown_state self.new)
+            (devices (view (M.world machine.new) (M.looked machine.new) (M.acted machine.new) (M.polled machine.new) (M.faults machine.new))
+            (pocket_view (P.saved pocket.new) (P.faults pocket.new))) }
+        // The program that the held attempt waits for then is one that the machine started.
+        ensures waits { HeldWaitsBelow (M.started machine.new) (shown_state self.new).held }
+        ensures started { M.started machine.old ≤ M.started machine.new }
+        // An agent and a pocket that agreed agree, at every answer.
+        ensures agrees { Agrees (shown_state self.old).held (P.saved pocket.old) → Agrees (shown_state self.new).held (P.saved pocket.new) }
+        // Lawful rows stay lawful, the agent's and the saved ones, under rules that the gathered actions have.
+        ensures lawful { (table : Table) → HaveRules table (actions_of self.old.sites) → BothLawful table (shown_state self.old) (P.saved pocket.old)
+            → BothLawful table (shown_state self.new) (P.saved pocket.new) }
+        // An attempt of which a command was done in this turn is backed by the saved text.
+        ensures backed { Agrees (shown_state self.old).held (P.saved pocket.old) → M.acted machine.new ≢ M.acted machine.old
+            → TurnIsBacked (shown_state self.old) (shown_state self.new) (P.saved pocket.new) }
+        ensures cause { TurnHasCause (M.faults machine.old) (M.faults machine.new) (P.faults pocket.old) (P.faults pocket.new) result }
+    {
+        changed_histories_can_be_saved();
+        lawful_rows_stay_lawful();
+        one_saved();
+        lines_are_read_again();
+        let time = Time::new(alloc, moment, offset);
+        self.parts.turn(alloc, machine, pocket, &time)
+    }
+}
+
+impl Parts {
+    /// One turn: what stands unsaved is saved, and then the steps come.
+    fn turn<M: Machine, P: Pocket>(
+        &mut self,
+        alloc: Global,
+        machine: &mut M,
+        pocket: &mut P,
+        time: &Time,
+    ) -> Turned
+        requires sound { IsSoundParts self.old }
+        requires waits { HeldWaitsBelow (M.started machine.old) (state_of self.old).held }
+        ensures turns { Turn time.now (state_of self.old)
+            (devices (view (M.world machine.old) (M.looked machine.old) (M.acted machine.old) (M.polled machine.old) (M.faults machine.old)) (pocket_view (P.saved pocket.old) (P.faults pocket.old))) result (state_of self.new)
+            (devices (view (M.world machine.new) (M.looked machine.new) (M.acted machine.new) (M.polled machine.new) (M.faults machine.new)) (pocket_view (P.saved pocket.new) (P.faults pocket.new))) }
+        ensures waits { HeldWaitsBelow (M.started machine.new) (state_of self.new).held }
+        ensures started { M.started machine.old ≤ M.started machine.new }
+        ensures sound { IsSoundParts self.new }
+    {
+        if !self.unsaved {
+            return self.step(alloc, machine, pocket, time);
+        }
+        match self.save(alloc, pocket) {
+            SaveResult::Done => self.step(alloc, machine, pocket, time),
+            SaveResult::Failed => Turned::PocketFault,
+            SaveResult::Memory => Turned::Memory,
+        }
+    }
+
+    /// The first of the steps that applies.
+    fn step<M: Machine, P: Pocket>(
+        &mut self,
+        alloc: Global,
+        machine: &mut M,
+        pocket: &mut P,
+        time: &Time,
+    ) -> Turned
+        requires sound { IsSoundParts self.old }
+        requires waits { HeldWaitsBelow (M.started machine.old) (state_of self.old).held }
+        ensures steps { Steps time.now (state_of self.old)
+            (devices (view (M.world machine.old) (M.looked machine.old) (M.acted machine.old) (M.polled machine.old) (M.faults machine.old)) (pocket_view (P.saved pocket.old) (P.faults pocket.old))) result (state_of self.new)
+            (devices (view (M.world machine.new) (M.looked machine.new) (M.acted machine.new) (M.polled machine.new) (M.faults machine.new)) (pocket_view (P.saved pocket.new) (P.faults pocket.new))) }
+        ensures waits { HeldWaitsBelow (M.started machine.new) (state_of self.new).held }
+        ensures started { M.started machine.old ≤ M.started machine.new }
+        ensures sound { IsSoundParts self.new }
+    {
+        if let Some(id) = self.broken() {
+            return self.interrupt(alloc, pocket, id, time);
+        }
+        match self.held.take() {
+            Some(attempt) => self.resume(alloc, machine, pocket, attempt, time),
+            None => self.try_actions(alloc, machine, pocket, time),
+        }
+    }
+}
