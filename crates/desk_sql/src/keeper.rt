@@ -23,7 +23,9 @@ pub struct SqlKeeper<'a> {
 
 impl<'a> SqlKeeper<'a> {
     /// A keeper of no file yet. Its faults are told on standard error.
-    pub fn new(rt: &'a HostRuntime) -> SqlKeeper<'a> {
+    pub fn new(rt: &'a HostRuntime) -> SqlKeeper<'a>
+        ensures { result.faults ≡ 0 }
+    {
         SqlKeeper {
             rt,
             place: None,
