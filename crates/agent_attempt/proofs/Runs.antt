@@ -41,6 +41,7 @@ advances_from at script given settled run old answer new left stands h =
       stops = subst (λ (w : Walk). Stops at h.between w answer new) there h.stops;
       same = λ more. sym (h.stands more) ∙ further more;
       faults = h.faults;
+      before = λ e. subst (λ (s : Stop). is_midway s.next ≡ false) (h.stands []) (h.before e);
       commands = subst (λ (w : Walk). Grows old.acted new.acted (commands_in w h.results)) same h.commands;
     }
 

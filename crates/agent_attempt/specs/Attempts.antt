@@ -67,12 +67,12 @@ abbrev pub issue_date : PlainAttempt → List Pair
 issue_date a =
     record { name = codes "action issue date"; value = text_of a.offset (time a.action.issued) } ∷ []
 
--- the program that comes to be polled next is one of so many
+-- the number of the program that comes to be polled next, if one does, is below that of the programs started so far
 abbrev pub NextIsBelow : ℕ → Next → Type 0
 NextIsBelow started (Polls line process) = process < started
 NextIsBelow started _ = ⊤
 
--- the program that an attempt waits for is one of so many that the machine started
+-- the number of the program that an attempt waits for, if it waits for one, is below that of the programs started so far
 abbrev pub StageWaitsBelow : ℕ → PlainStage → Type 0
 StageWaitsBelow started (running rest wanted) = NextIsBelow started (rest []).next
 StageWaitsBelow started _ = ⊤

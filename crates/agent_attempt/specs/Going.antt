@@ -8,7 +8,7 @@ use Rattle.script_run.specs.declared.cause.Cause.{Cause}
 use Rattle.script_run.specs.declared.cause.Cause.TheVariants.{MachineFault, NotMet}
 use Rattle.script_run.specs.declared.ran.Ran.{Ran}
 use Rattle.script_run.specs.declared.ran.Ran.TheVariants as ran
-use Rattle.script_run.specs.Walks.{Settled, Walk, faults_in}
+use Rattle.script_run.specs.Walks.{Settled, Walk, faults_in, is_midway}
 use Rattle.script_run.specs.Scripts.{commands_in, standing}
 use Rattle.script_run.specs.Machines.{MachineView}
 use Rattle.script_run.specs.Asking.{When}
@@ -100,6 +100,8 @@ pub record Advances (at : When) (old : MachineView) (walk : Walk) (answer : Ran)
   pub stops : Stops at between (λ more. walk (results ++ more)) answer new
   pub same : (more : List Settled) → left more ≡ walk (results ++ more)
   pub faults : RoseBy (faults_in results) old.faults new.faults
+  -- memory ran out where nothing of the line at hand is settled
+  pub before : answer ≡ ran.Memory → is_midway (left []).next ≡ false
   pub commands : Grows old.acted new.acted (commands_in walk results)
 
 -- the exit code that is known where a script stands

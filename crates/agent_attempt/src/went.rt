@@ -9,7 +9,7 @@ use std::alloc::AllocError;
 pub struct Fail {
     /// The position of the component, from 1, or 0 for a fixlet by itself.
     pub component: u32,
-    /// The line of its script, from 1, or 0 where its relevance or its success couldn't be judged or isn't so.
+    /// The line of its script, from 1, or 0 where its relevance or its success couldn't be judged, or its success rule isn't met.
     pub line: u32,
     pub cause: Cause,
 }
