@@ -1,6 +1,6 @@
 -- What a turn adds to the reports, and what is saved at its end.
 use Rattle.std.proofs.Common.{ℕ, ◌≡◌, ◌+◌, ◌++◌, List, [], ◌∷◌, Bool, true, false, inl, inr, Option, Some, None, refl, sym, ap, ◌∙◌}
-use Rattle.std.specs.Prelude.{◌⊎◌, ◌≢◌}
+use Rattle.std.specs.Prelude.{◌⊎◌, ◌≢◌, IsSome}
 use Rattle.report_text.specs.declared.report.Report.{Report}
 use Rattle.script_run.specs.Asking.{When}
 use Rattle.agent_text.specs.declared.pocket.SaveResult.TheVariants as save
@@ -128,8 +128,12 @@ keeps_saved at = record {
   unchanged = λ would s d b fault none. b.1 refl;
 }
 
-pub saves_last : (at : When) (s s2 : State) (d d2 : Devices) (answer : Turned) → Turn at s d answer s2 d2 → answer ≢ PocketFault → answer ≢ Memory → d.pocket.saved ≡ Some (Some (text_of s)) → s.unsaved ≡ false
+told_some : (o : Option (Option (List ℕ))) → IsSome o → (now : Option (List ℕ)) × (o ≡ Some now)
+told_some None some = absurd (cc)
+told_some (Some now) some = (now, refl)
+
+pub saves_last : (at : When) (s s2 : State) (d d2 : Devices) (answer : Turned) → Turn at s d answer s2 d2 → answer ≢ PocketFault → answer ≢ Memory → IsSome d.pocket.saved → (s.unsaved ≡ false → d.pocket.saved ≡ Some (Some (text_of s)))
     → d2.pocket.saved ≡ Some (Some (text_of s2))
-saves_last at s s2 d d2 answer turn fault none stands clean =
+saves_last at s s2 d d2 answer turn fault none some clean =
     turn_keeps at (λ s d. Stands s d) (λ marks s d. Tried marks s d) (λ began attempt s d. Stands s d) (λ changed would s d. Ending_ changed s d) (λ a s d. Succeeded a s d) (keeps_saved at) answer s2 d2 s d
-    (λ e. stands) (λ pocket saves. done _ d _ (_, stands) saves.saves) (λ pocket saves fault none. absurd (fault refl)) (λ pocket saves fault none. absurd (none refl)) turn fault none
+    clean (λ pocket saves. done _ d _ (told_some d.pocket.saved some) saves.saves) (λ pocket saves fault none. absurd (fault refl)) (λ pocket saves fault none. absurd (none refl)) turn fault none

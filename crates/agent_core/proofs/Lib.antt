@@ -43,3 +43,4 @@ pub mod Standing
 pub mod SoundReport
 pub mod HeldAttempt
 pub mod Broken
+pub mod Reopening

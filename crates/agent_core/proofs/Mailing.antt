@@ -1,6 +1,8 @@
 -- What turns and openings are to the delivery of reports.
 use Rattle.std.proofs.Common.{ℕ, ◌≡◌, ◌+◌, ◌^◌, ◌++◌, List, [], ◌∷◌, length, Bool, true, false, cond, inl, inr, Option, Some, None, refl, sym, ap, subst, ◌∙◌, take}
-use Rattle.std.specs.Prelude.{◌⊎◌, ◌≢◌, ◌&&◌, IsSome, nat_lt}
+use Rattle.std.proofs.lemmas.List.Elements.{All-head, All-tail}
+use Rattle.report_text.specs.Reports.{IsReport}
+use Rattle.std.specs.Prelude.{All, ◌⊎◌, ◌≢◌, ◌&&◌, IsSome, nat_lt}
 use Rattle.report_text.specs.declared.form.Form.TheVariants.{Two}
 use Rattle.report_text.specs.declared.report.Report.{Report}
 use Rattle.script_run.specs.Asking.{When}
@@ -71,6 +73,10 @@ both_right false b e = absurd (cc)
 number_left : (s : State) → can_report s ≡ true → nat_lt s.next (2 ^ 53) ≡ true
 number_left s can = both_right (nat_lt 0 (length (report_rows s.histories)) && nat_lt (length s.reports) 1000) (nat_lt s.next (2 ^ 53)) can
 
+last_good : (reports : List Report) (report : Report) → All IsReport (reports ++ report ∷ []) → IsReport report
+last_good [] report good = All-head IsReport report [] good
+last_good (first ∷ reports) report good = last_good reports report (All-tail IsReport first (reports ++ report ∷ []) good)
+
 reported : (m : Mail) (answer : Turned) (s now : State) (d : Devices) → Fits m s → can_report s ≡ true → now.computer ≡ s.computer → now.next ≡ s.next + 1
     → now.reports ≡ s.reports ++ next_report s ∷ [] → Stands now d → Steps m answer now d
 reported m answer s now d fits can computer next outbox stands is fault none =
@@ -85,7 +91,7 @@ reported m answer s now d fits can computer next outbox stands is fault none =
     ap (λ l. l ++ report_of rows m ∷ []) fits.outbox ∙ ap (λ r. s.reports ++ r ∷ []) report ∙ sym outbox in
     let number : m.next + 1 ≡ now.next = ap (λ n. n + 1) fits.next ∙ sym next in (
       after,
-      inr (inr (rows, sym is_made)),
+      inr (inr (rows, (last_good s.reports (next_report s) (subst (All IsReport) outbox is.saved.reports.good)).rows, sym is_made)),
       mail_saved after now d.pocket.saved is (record { computer = fits.computer ∙ sym computer; next = number; outbox = all }) number all stands,
     )
 

@@ -36,7 +36,7 @@ answered P would s d a s2 d2 p h =
     subst (λ x. P x s2 d2) (sym h.0) (subst (λ x. P would x d2) (sym h.1) (subst (λ x. P would s x) (sym h.2) p))
 
 -- ---- the points
--- A: step 1 is behind. M: actions are tested and tried, with these marks. G: an attempt goes on, that began in this turn or before.
+-- A: the first save is behind. M: actions are tested and tried, with these marks. G: an attempt goes on, that began in this turn or before.
 -- B: the turn comes to its end, with or without a change since its last save. P: what it comes to.
 pub record Keeps (at : When) (A : State → Devices → Type 0) (M : Marks → State → Devices → Type 0) (G : Bool → PlainAttempt → State → Devices → Type 0) (B : Bool → Turned → State → Devices → Type 0) (P : Turned → State → Devices → Type 0) : Type 0 where
   pub memory : (s : State) (d : Devices) → A s d → P Memory s d

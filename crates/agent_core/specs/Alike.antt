@@ -49,7 +49,7 @@ abbrev pub wants_in : Walk → List Settled → ℕ
 wants_in walk [] = want_in (walk []).next
 wants_in walk (result ∷ results) = want_in (walk []).next + wants_in (λ more. walk (result ∷ more)) results
 
--- over no results are more files wanted than so many
+-- whatever the results, at most so many files are wanted
 abbrev pub WantsAtMost : Walk → ℕ → Type 0
 WantsAtMost walk most = (results : List Settled) → wants_in walk results ≤ most
 

@@ -49,7 +49,7 @@ has_report seq reports = list_any (λ (report : Report). report.seq == seq) repo
 abbrev pub without_report : ℕ → List Report → List Report
 without_report seq reports = filter (λ (report : Report). not (report.seq == seq)) reports
 
--- how many reports before a place are left then
+-- of the first `shown` reports, how many are left without the one of this number
 abbrev pub shown_without : ℕ → ℕ → List Report → ℕ
 shown_without seq shown [] = shown
 shown_without seq zero (report ∷ reports) = zero

@@ -31,8 +31,9 @@ abbrev pub IsAgentOf : List ℕ → Option (List ℕ) → State → Type 0
 IsAgentOf computer None s = s ≡ new_state computer
 IsAgentOf computer (Some text) s = (saved : Saved) × ReadsSaved computer text (Ok saved) × (s ≡ opened_state saved)
 
--- The agent is that of the text in the pocket. The text has a first bad line, or names another computer, exactly where that is answered.
--- `told` is what the pocket tells of its text.
+-- An agent is that of the pocket's text, and a bad line is the first one of it, which is the one that names another computer where one
+-- does. A fault and want of memory say nothing of it. `told` is what the pocket tells of its text; where it tells nothing, the agent is
+-- that of some text.
 abbrev pub OpensAgent : List ℕ → Option (Option (List ℕ)) → Opened → Type 0
 OpensAgent computer told (opened.Agent agent) =
     (saved : Option (List ℕ)) × Holds told (λ now. now ≡ saved) × IsAgentOf computer saved (shown_state agent)

@@ -18,7 +18,7 @@ Ending = Turned → State → Devices → Type 0
 abbrev pub Answers : Turned → State → Devices → Ending
 Answers would s d answer s2 d2 = (answer ≡ would) × (s2 ≡ s) × (d2 ≡ d)
 
--- want of memory may end the turn here
+-- want of memory may end the turn here, and then nothing has changed
 abbrev pub OrMemory : State → Devices → Ending → Ending
 OrMemory s d rest answer s2 d2 = Answers turned.Memory s d answer s2 d2 ⊎ rest answer s2 d2
 

@@ -3,6 +3,7 @@ use Rattle.std.specs.Prelude.{◌≡◌, ◌⊎◌, ℕ, ◌+◌, ◌^◌, nat_l
 use Rattle.report_text.specs.declared.form.Form.TheVariants.{Two}
 use Rattle.report_text.specs.declared.report.Report.{Report}
 use Rattle.report_text.specs.declared.report_row.ReportRow.{ReportRow}
+use Rattle.report_text.specs.Reports.{AreReportRows}
 use Rattle.agent_text.specs.declared.saved.Saved.{Saved}
 use Rattle.agent_text.specs.Pockets.{Holds}
 use Rattle.agent_core.specs.Changes.{without_report}
@@ -53,6 +54,6 @@ pub record IsMailOf (m : Mail) (s : State) (told : Option (Option (List ℕ))) :
   pub outbox : m.outbox ≡ s.reports
   pub kept : Holds told (HasSaved m)
 
--- a step of a turn: nothing, a save, or a report
+-- a step of a turn: nothing, a save, or a report of rows that can be spelled
 abbrev pub IsStep : Mail → Mail → Type 0
-IsStep m m2 = (m2 ≡ m) ⊎ ((m2 ≡ saved m) ⊎ ((rows : List ReportRow) × (m2 ≡ made rows m)))
+IsStep m m2 = (m2 ≡ m) ⊎ ((m2 ≡ saved m) ⊎ ((rows : List ReportRow) × AreReportRows Two rows × (m2 ≡ made rows m)))

@@ -55,7 +55,7 @@ abbrev pub devices : MachineView → PocketView → Devices
 devices machine pocket = record { machine = machine; pocket = pocket }
 
 -- ---- running rows
--- the last row of these runs
+-- there is a last row, and it has no end
 abbrev pub last_runs : Option Row → Bool
 last_runs None = false
 last_runs (Some row) = is_none row.end

@@ -1,15 +1,13 @@
--- What a stop at any moment leaves: attempts that are saved, and rows that were owed.
-use Rattle.std.specs.Prelude.{◌≡◌, ◌⊎◌, ℕ, ◌≤◌, List, length, All, Option, Some, None, ⊤}
+-- What a stop at any moment leaves: attempts whose rows are saved, and rows each of which began when a run was owed.
+use Rattle.std.specs.Prelude.{◌≡◌, ◌⊎◌, ℕ, ◌≤◌, List, length, All, Option, Some, None, Ok, ⊤}
 use Rattle.desk_base.specs.Counts.{Rose}
-use Rattle.line_forms.specs.Lines.{lines_text}
 use Rattle.act_rules.specs.declared.rule.Rules.{Rules}
 use Rattle.act_rules.specs.Lawful as rows
-use Rattle.report_text.specs.declared.form.Form.{Form}
 use Rattle.fix_site.specs.declared.action.Action.{Action}
 use Rattle.agent_text.specs.declared.saved.Saved.{Saved}
 use Rattle.agent_text.specs.Histories.{PlainHistory, rows_at}
 use Rattle.agent_text.specs.Pockets.{Holds}
-use Rattle.agent_text.specs.SavedTexts.{IsSavedBy, saved_lines}
+use Rattle.agent_text.specs.SavedTexts.{ReadsSaved}
 use Rattle.agent_attempt.specs.Attempts.{PlainAttempt, StageWaitsBelow}
 use Rattle.agent_core.specs.declared.turned.Turned.{Turned}
 use Rattle.agent_core.specs.declared.turned.Turned.TheVariants as turned
@@ -17,8 +15,7 @@ use Rattle.agent_core.specs.States.{State, next_row}
 
 -- the text is what was saved of this, in either form
 abbrev pub IsTextOfSaved : List ℕ → Saved → Type 0
-IsTextOfSaved text saved =
-    (form : Form) × IsSavedBy saved.computer form saved × (text ≡ lines_text (saved_lines form saved))
+IsTextOfSaved text saved = ReadsSaved saved.computer text (Ok saved)
 
 -- ---- backed attempts
 -- the saved text has the row of this action and number
@@ -35,7 +32,8 @@ abbrev pub Agrees : Option PlainAttempt → Option (Option (List ℕ)) → Type 
 Agrees None told = ⊤
 Agrees (Some attempt) told = IsBacked attempt told
 
--- The attempt of a turn, of this action and number: the one that was held before it, or one that began in it.
+-- The attempt of a turn, of this action and number: the one that was held before it, or one that began in it,
+-- whose row is the next of its action, which has that many rows now.
 abbrev pub IsOfTurn : ℕ → ℕ → State → State → Type 0
 IsOfTurn action number old new =
     ((attempt : PlainAttempt) × (old.held ≡ Some attempt) × (attempt.action.id ≡ action) × (attempt.row ≡ number))
@@ -69,7 +67,7 @@ abbrev pub BothLawful : Table → State → Option (Option (List ℕ)) → Type 
 BothLawful table s told = AreLawful table s.histories × Holds told (AreLawfulIn table)
 
 -- ---- causes
--- the program that the held attempt waits for, if it waits for one, is one of so many
+-- the number of the program that the held attempt waits for, if it waits for one, is below that of the programs started so far
 abbrev pub HeldWaitsBelow : ℕ → Option PlainAttempt → Type 0
 HeldWaitsBelow started None = ⊤
 HeldWaitsBelow started (Some attempt) = StageWaitsBelow started attempt.stage

@@ -42,7 +42,7 @@ abbrev pub ReportsAndSaves : Bool → Bool → Turned → State → Devices → 
 ReportsAndSaves true changed would s d = LastSave true would (with_report s) d
 ReportsAndSaves false changed would s d = LastSave changed would s d
 
--- the turn comes to its end, and something has changed since the last save, or nothing
+-- The turn comes to its end. `changed`: whether something that is saved has changed since the last save.
 abbrev pub Finishes : Bool → Turned → State → Devices → Ending
 Finishes changed would s d = ReportsAndSaves (can_report s) changed would s d
 
@@ -52,7 +52,8 @@ abbrev pub outcome_of : Option Fail → Outcome
 outcome_of None = outcome.Fixed
 outcome_of (Some fail) = outcome.Failed
 
--- what comes after an attempt of this action went on, which began in this turn or before
+-- What comes after an attempt of this action went on, which began in this turn or before. What is held isn't saved, so a held attempt
+-- leaves nothing to save; its end does.
 abbrev pub AfterGoing : When → ℕ → Bool → Went → Option PlainAttempt → State → Devices → Ending
 AfterGoing at id began (went.Held component line) after s d = Finishes false (Held id began component line) (with_held after s) d
 AfterGoing at id began (went.Wants digest) after s d = Finishes false (Wants id began digest) (with_held after s) d
@@ -66,7 +67,7 @@ Goes at began attempt s d answer s2 d2 =
     (w : Went) × (machine : MachineView) × (after : Option PlainAttempt) × GoesOn at attempt d.machine w machine after
     × AfterGoing at attempt.action.id began w after s (record d { machine = machine }) answer s2 d2
 
--- ---- step 2: a broken attempt ends
+-- ---- a broken attempt ends
 -- what comes after the end of a broken attempt was saved
 abbrev pub AfterInterrupting : ℕ → State → SaveResult → Devices → Ending
 AfterInterrupting id s save.Done d = Finishes false (Interrupted id) (as_saved s) d
@@ -78,7 +79,7 @@ abbrev pub Interrupts : When → ℕ → State → Devices → Ending
 Interrupts at id s d =
     OrMemory s d (SavesThen (interrupted id at.moment s) d (AfterInterrupting id (interrupted id at.moment s)))
 
--- ---- step 4: clearing marks
+-- ---- clearing marks
 -- a last row that has ended and isn't cleared
 abbrev pub may_clear : Option Row → Bool
 may_clear None = false
@@ -93,7 +94,7 @@ pub record Marks : Type 0 where
 abbrev pub with_mark : When → ℕ → Marks → Marks
 with_mark at id marks = record { histories = with_cleared id at.moment marks.histories; any = true }
 
--- what comes after an action was tested for its mark, `s` being the state as step 1 left it
+-- what comes after an action was tested for its mark, `s` being the state as the first save left it
 abbrev pub AfterTest : When → State → ℕ → Marks → (Marks → Devices → Ending) → Found → Devices → Ending
 AfterTest at s id marks next found.Yes d = next marks d
 AfterTest at s id marks next found.No d = next (with_mark at id marks) d
@@ -113,9 +114,9 @@ Clears at s (action ∷ actions) marks next d =
     TestsOne (may_clear (last_row (rows_at action.id marks.histories))) at s action marks
     (λ (then : Marks). Clears at s actions then next) d
 
--- ---- step 4: a beginning
+-- ---- a beginning
 -- what comes after the row of a beginning was saved: where the save fails no row is added, and the marks stand unsaved; where it has no
--- memory the state is as step 1 left it
+-- memory, which stands for want of memory before it too, the state is as the first save left it
 abbrev pub AfterBeginning : When → State → State → State → PlainAttempt → SaveResult → Devices → Ending
 AfterBeginning at s marked begun attempt save.Done d = Goes at true attempt (as_saved begun) d
 AfterBeginning at s marked begun attempt save.Failed d = Answers PocketFault (with_unsaved marked) d
@@ -132,7 +133,7 @@ Begins at s marked action (Some content) d answer s2 d2 =
     SavesThen (with_beginning action.id at.moment marked) d
     (AfterBeginning at s marked (with_beginning action.id at.moment marked) (beginning at action content marked)) answer s2 d2
 
--- ---- step 4: the first action that is due begins
+-- ---- the first action that is due begins
 -- what comes after an action was tried, `marked` being the state with its marks
 abbrev pub AfterTrying : When → State → State → Action → (Devices → Ending) → Found → Devices → Ending
 AfterTrying at s marked action next found.Yes d = Begins at s marked action (content_of action s.sites) d
@@ -141,7 +142,7 @@ AfterTrying at s marked action next found.Failed d = Answers MachineFault s d
 AfterTrying at s marked action next found.Memory d = Answers Memory s d
 
 -- The actions are tried in their order, and the first that is due begins. Where none is, the turn is idle, unless there is no memory for
--- its end, which leaves the state as step 1 left it.
+-- its end, which leaves the state as the first save left it.
 abbrev pub TriesEach : When → State → State → Bool → List Action → Devices → Ending
 TriesEach at s marked any [] d = OrMemory s d (Finishes any Idle marked d)
 TriesEach at s marked any (action ∷ actions) d =
@@ -156,12 +157,12 @@ TriesMarked at s actions marks d = TriesEach at s (with_histories marks.historie
 abbrev pub no_marks : State → Marks
 no_marks s = record { histories = s.histories; any = false }
 
--- Marks are made, and then the actions are tried. Want of memory before a beginning leaves the state as step 1 left it.
+-- Marks are made, and then the actions are tried. Want of memory before a beginning leaves the state as the first save left it.
 abbrev pub Tries : When → State → List Action → Devices → Ending
 Tries at s actions d = OrMemory s d (Clears at s actions (no_marks s) (TriesMarked at s actions) d)
 
 -- ---- the steps
--- the first of the steps 2, 3 and 4 that applies
+-- the first of these that applies: a broken attempt ends, the held one goes on, the actions are tried
 abbrev pub StepFor : When → Option ℕ → Option PlainAttempt → State → Devices → Ending
 StepFor at (Some id) held s d = Interrupts at id s d
 StepFor at None (Some attempt) s d = OrMemory s d (Goes at false attempt s d)
@@ -176,7 +177,7 @@ AfterFirstSave at s save.Done d = Steps at (as_saved s) d
 AfterFirstSave at s save.Failed d = Answers PocketFault s d
 AfterFirstSave at s save.Memory d = Answers Memory s d
 
--- Step 1: what stands unsaved is saved.
+-- First, what stands unsaved is saved.
 abbrev pub FirstSave : Bool → When → State → Devices → Ending
 FirstSave false at s d = Steps at s d
 FirstSave true at s d = SavesThen s d (AfterFirstSave at s)

@@ -34,7 +34,8 @@ impl Model for Agent {
 }
 
 impl Agent {
-    /// The saved reports that aren't known to have arrived, the oldest first. It takes no memory, as all below.
+    /// The saved reports that aren't known to have arrived, the oldest first. It takes no memory, nor do the
+    /// calls below.
     pub fn outbox(&self) -> &[Report]
         ensures { result.now ≡ take self.now.shown self.now.reports }
     {

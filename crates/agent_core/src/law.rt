@@ -18,7 +18,7 @@ ghost use Rattle.agent_core.specs.Calls.{Call, DoAll, IsCall};
 ghost use Rattle.agent_core.specs.Alike.{AlikeStates, AttemptWantsAtMost, NoFaults, TellsWorld};
 ghost use Rattle.report_text.specs.declared.answer.Verdict.{Verdict};
 ghost use Rattle.agent_core.specs.Changes.{SettlesState, SuppliesHeld};
-ghost use Rattle.agent_core.specs.Opens.{OpensAgent, new_state};
+ghost use Rattle.agent_core.specs.Opens.{OpensAgent, new_state, opened_state};
 ghost use Rattle.agent_core.specs.Schedules.{IsMailOf, IsStep, Mail, restarted, settled};
 ghost use Rattle.agent_core.specs.declared.opening.Opened.TheVariants as opening;
 ghost use Rattle.agent_core.specs.States.{Devices, IsSound, State, saved_of, text_of};
@@ -32,16 +32,18 @@ use line_forms::lines_are_read_again;
 use rel_eval::one_plan;
 use script_text::one_verdict;
 
-/// What an agent saves is read back as what it saved, or want of memory stands in its place.
+/// What an agent saves is read back as what it saved, or want of memory stands in its place. An agent that is opened from it has that.
 pub fn a_saved_state_is_read_again()
-    ensures { (s : State) (answer : Result Saved SavedError) → IsSound s → ReadsSaved s.computer (text_of s) answer
+    ensures opened { (s : State) (agent : AgentState) → IsSound s → OpensAgent s.computer (Some (Some (text_of s))) (opening.Agent agent)
+        → shown_state agent ≡ opened_state (saved_of s) }
+    ensures read { (s : State) (answer : Result Saved SavedError) → IsSound s → ReadsSaved s.computer (text_of s) answer
         → (answer ≡ Ok (saved_of s)) ⊎ (answer ≡ Err NoMemory) }
 {
     a_saved_text_is_read_again();
 }
 
 /// On a machine that tells its world a turn in which no device fails, and that doesn't end by a pocket's fault or want of memory, is a
-/// function of its time, the state and what the devices tell.
+/// function of its time, the state and what the devices tell, but for how it is said what a held attempt does.
 pub fn one_turn()
     ensures { (at : When) (s : State) (d : Devices) (answer other : Turned) (s2 s3 : State) (d2 d3 : Devices)
         → TellsWorld d → Turn at s d answer s2 d2 → Turn at s d other s3 d3 → NoFaults d d2 → NoFaults d d3
@@ -52,14 +54,14 @@ pub fn one_turn()
     one_verdict();
 }
 
-/// A turn adds one report at most, which has the next number. What is saved at the end of a turn that doesn't end by a pocket's fault or
-/// want of memory is the outbox and the next number.
+/// A turn adds one report at most, which has the next number. Where the pocket has the text of a state that isn't said to be unsaved, it
+/// has that of the state at the end of a turn that doesn't end by a pocket's fault or want of memory: its outbox and its next number too.
 pub fn a_turn_adds_one_report()
     ensures reports { (at : When) (s s2 : State) (d d2 : Devices) (answer : Turned) → Turn at s d answer s2 d2
         → ((s2.reports ≡ s.reports) × (s2.next ≡ s.next))
         ⊎ ((report : Report) × (report.seq ≡ s.next) × (s2.reports ≡ s.reports ++ report ∷ []) × (s2.next ≡ s.next + 1)) }
     ensures saved { (at : When) (s s2 : State) (d d2 : Devices) (answer : Turned) → Turn at s d answer s2 d2
-        → answer ≢ PocketFault → answer ≢ Memory → d.pocket.saved ≡ Some (Some (text_of s)) → s.unsaved ≡ false
+        → answer ≢ PocketFault → answer ≢ Memory → IsSome d.pocket.saved → (s.unsaved ≡ false → d.pocket.saved ≡ Some (Some (text_of s)))
         → d2.pocket.saved ≡ Some (Some (text_of s2)) }
 {}
 
