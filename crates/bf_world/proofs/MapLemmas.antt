@@ -1,4 +1,4 @@
--- Maps from texts.
+-- Maps from texts. Other crates may cite these lemmas.
 use Rattle.std.proofs.Common.{◌≡◌, ℕ, true, false, cond, List, [], ◌∷◌, ◌++◌, String, Some, None, refl, ap, ◌∙◌, sym, subst, append_assoc}
 use Rattle.std.specs.declared.cmp.Ordering.{Ordering}
 use Rattle.std.specs.declared.cmp.Ordering.TheVariants.{Less, Equal, Greater}

@@ -11,6 +11,7 @@ ghost use Rattle.bf_world.specs.Done.{CountsStarted, FitsCommand, StartsByStart,
 use crate::path::joined;
 use crate::{Acted, Command, Node, ProcessNo, Run, SettingValue, World};
 use desk_base::Bytes;
+use line_forms::a_path_is_its_parts;
 use rel_lexer::Text;
 use std::alloc::AllocError;
 
@@ -49,6 +50,8 @@ impl World {
         ensures ok { OnOk result (self.new ≡ after self.old command.now moment) }
         ensures err { OnErr result (self.new ≡ self.old) }
     {
+        // Proof: the target of a command that isn't refused is a path.
+        a_path_is_its_parts();
         match command {
             Command::Write(path, content) => self.set_file(path.as_str(), content.copy()?, moment),
             Command::Append(path, content) => self.append(
@@ -144,6 +147,8 @@ impl World {
         ensures ok { OnOk result (self.new ≡ with_file (joined download name.now) content moment (with_folder download self.old)) }
         ensures err { OnErr result (self.new ≡ self.old) }
     {
+        // Proof: the folder is at a path.
+        a_path_is_its_parts();
         let path = joined(self.alloc, DOWNLOAD, name)?;
         if self.is_folder(DOWNLOAD) {
             return self.set_file(path.as_str(), content, moment);

@@ -1,7 +1,7 @@
 ghost use Rattle.std.specs.Prelude.{◌≡◌, IfOk};
 ghost use Rattle.bf_world.specs.Paths.{is_part, is_path, is_free, last_name, parent_path, slash_behind, joined};
 
-use line_forms::{last_part, read_part, read_path};
+use line_forms::{a_path_is_its_parts, last_part, read_part, read_path};
 use rel_lexer::Text;
 use std::alloc::{AllocError, Global};
 
@@ -16,6 +16,8 @@ pub fn is_part(text: &str) -> bool
 pub fn is_path(text: &str) -> bool
     ensures { result ≡ is_path text.now }
 {
+    // Proof: the test asks for the pieces of the text, a path has parts.
+    a_path_is_its_parts();
     read_path(text.as_bytes()).is_some()
 }
 

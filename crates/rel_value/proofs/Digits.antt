@@ -4,9 +4,8 @@ use Rattle.std.specs.Char.{is_ascii_digit, digit_value}
 use Rattle.std.specs.List.{list_all}
 use Rattle.std.specs.Str.Parse.{AllDigits}
 use Rattle.std.proofs.lemmas.Bool.Decides.{nat_tests}
-use Rattle.std.proofs.lemmas.List.Sums.{list_all-from_AllPass}
+use Rattle.std.proofs.lemmas.Str.Parse.{digit_from_value}
 use Rattle.std.proofs.lemmas.Fmt.{decimal_digit, decimal_step}
-use Rattle.line_forms.proofs.Texts.{digits-numeral}
 use Rattle.rel_value.specs.Spellings.{two}
 
 pub and-both : (b c : Bool) → (b && c) ≡ true → (b ≡ true) × (c ≡ true)
@@ -22,8 +21,15 @@ all-digits (byte ∷ bytes) h =
     let both = and-both (is_ascii_digit byte) (list_all is_ascii_digit bytes) h in
     (digit-small byte both.0, all-digits bytes both.1)
 
+digit-is : (byte : ℕ) → digit_value byte < 10 → is_ascii_digit byte ≡ true
+digit-is byte small = let range = digit_from_value byte small in grind (arith, nat_tests)
+
+digits-all : (digits : List ℕ) → AllDigits 10 digits → list_all is_ascii_digit digits ≡ true
+digits-all [] all = refl
+digits-all (byte ∷ bytes) all = rw (digit-is byte all.0) (digits-all bytes all.1)
+
 pub Decides-digits : (digits : List ℕ) → Decides (list_all is_ascii_digit digits) (AllDigits 10 digits)
-Decides-digits digits = (all-digits digits, λ all. list_all-from_AllPass is_ascii_digit digits (digits-numeral digits all))
+Decides-digits digits = (all-digits digits, digits-all digits)
 
 -- a number below 10 after a 0, and one of two digits
 pub two-small : (n : ℕ) → n < 10 → 48 ∷ decimal n ≡ two n

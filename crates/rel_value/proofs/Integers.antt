@@ -48,14 +48,21 @@ numeral-from text h =
     let both = and-both (nat_lt 0 (length text)) (list_all is_ascii_digit text) h in
     ((Decides-ltb 0 (length text)).0 both.0, (Decides-digits text).0 both.1)
 
+-- what is parsed from a text fits
+pub fits-parsed : {E : Type 0} (text : List ℕ) (r : Result ℤ E) (z : ℤ) → ParsesSigned w64 10 text r → r ≡ Ok z → FitsSigned w64 z
+fits-parsed {E} text r z parses is =
+    let P : Result ℤ E → Type 0 = λ s. ParsesSigned w64 10 text s in
+    let h : ParsesSigned {E = E} w64 10 text (Ok z) = subst P is parses in
+    let F : ℤ → Type 0 = λ y. FitsSigned w64 y in
+    subst F (sym h.1) h.0.1
+
 pub read-ok : {E : Type 0} (text : List ℕ) (r : Result ℤ E) (z : ℤ) → is_numeral (behind_minus text) ≡ true → ParsesSigned w64 10 text r → r ≡ Ok z → Answers (integer_read (signed_of text)) (Ok (Integer z))
 read-ok {E} text r z numeral parses is =
     let P : Result ℤ E → Type 0 = λ s. ParsesSigned w64 10 text s in
     let h : ParsesSigned {E = E} w64 10 text (Ok z) = subst P is parses in
     let same = reading text numeral in
     let e : signed_of text ≡ Some z = rw numeral (ap Some (sym (h.1 ∙ same.value))) in
-    let F : ℤ → Type 0 = λ y. FitsSigned w64 y in
-    let fits : FitsSigned w64 z = subst F (sym h.1) h.0.1 in
+    let fits : FitsSigned w64 z = fits-parsed text r z parses is in
     let Q : Option ℤ → Type 0 = λ o. Answers (integer_read o) (Ok (Integer z)) in
     subst Q (sym e) (answers z ((fits-decides z).1 fits))
 

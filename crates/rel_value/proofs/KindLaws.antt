@@ -1,4 +1,4 @@
--- Rows and their kinds.
+-- Rows and their kinds. Other crates may cite these lemmas.
 use Rattle.std.proofs.Common.{◌≡◌, ℕ, zero, suc, ℤ, pos, negsuc, ◌+ℤ◌, ◌-ℤ◌, ◌*ℤ◌, int_div, int_rem, Bool, true, false, ◌&&◌, ◌||◌, not, cond, List, ◌++◌, length, nat_le, Option, Some, None, refl, sym, subst}
 use Rattle.rel_lexer.specs.declared.operator.BinarySign.{BinarySign}
 use Rattle.rel_lexer.specs.declared.operator.BinarySign.TheVariants as sign

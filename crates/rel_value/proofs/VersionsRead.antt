@@ -1,11 +1,10 @@
 -- Versions as they are read and compared.
-use Rattle.std.proofs.Common.{◌≡◌, ℕ, ◌-◌, ◌^◌, ◌<◌, ◌≤◌, Bool, true, false, ◌&&◌, nat_le, cond, List, [], ◌∷◌, length, map, take, drop, replicate, zero, suc, All, Some, None, refl, sym, ap, arith, Decides}
+use Rattle.std.proofs.Common.{◌≡◌, ℕ, ◌-◌, ◌^◌, ◌<◌, ◌≤◌, Bool, true, false, ◌&&◌, nat_le, cond, List, [], ◌∷◌, ◌↔◌, length, map, take, drop, replicate, zero, suc, All, Some, None, refl, sym, ap, arith, Decides}
 use Rattle.std.specs.List.{list_all}
 use Rattle.std.specs.Str.Parse.{digits_value}
 use Rattle.std.proofs.lemmas.Bool.Decides.{Decides-and, Decides-ltb, Decides-by_and, nat_tests}
 use Rattle.line_forms.specs.Cuts.{pieces}
 use Rattle.line_forms.specs.Versions.{IsVersionNumber, IsVersionOf}
-use Rattle.line_forms.proofs.VersionLemmas.{pieces-version, version-pieces}
 use Rattle.rel_value.specs.Versions.{is_version_number, version_of, four}
 use Rattle.rel_value.proofs.Digits.{Decides-digits}
 
@@ -23,19 +22,24 @@ good-decides : (text : List ℕ) → Decides (nat_le (length (pieces 46 text)) 4
 good-decides text =
     Decides-and _ _ (le-decides (length (pieces 46 text))) (Decides-by_and is_version_number IsVersionNumber (list_all is_version_number) number-decides refl (λ _ _. refl) (pieces 46 text))
 
-pub version-some : (text numbers : List ℕ) → IsVersionOf text numbers → version_of text ≡ Some numbers
-version-some text numbers is =
-    let by = pieces-version text numbers is in
-    let test = (good-decides text).1 (by.few, by.each) in
-    rw test (ap Some (sym by.values))
+-- what line_forms says of a version's numbers, in its law on them
+abbrev pub AreOfPieces : Type 0
+AreOfPieces = (text numbers : List ℕ) → IsVersionOf text numbers ↔ ((length (pieces 46 text) ≤ 4) × All IsVersionNumber (pieces 46 text) × (numbers ≡ map (digits_value 10) (pieces 46 text)))
+
+pub version-some : AreOfPieces → (text numbers : List ℕ) → IsVersionOf text numbers → version_of text ≡ Some numbers
+version-some of_pieces text numbers is =
+    let by = (of_pieces text numbers).0 is in
+    let test = (good-decides text).1 (by.0, by.1) in
+    rw test (ap Some (sym by.2))
 
 none-cond : (b : Bool) (numbers : List ℕ) → (b ≡ true → ⊥) → cond b (Some numbers) None ≡ None
 none-cond true numbers h = absurd (h refl)
 none-cond false numbers h = refl
 
-pub version-none : (text : List ℕ) → ((numbers : List ℕ) → ¬ IsVersionOf text numbers) → version_of text ≡ None
-version-none text none =
-    none-cond _ (map (digits_value 10) (pieces 46 text)) (λ test. let good = (good-decides text).0 test in none (map (digits_value 10) (pieces 46 text)) (version-pieces text _ (record { few = good.0; each = good.1; values = refl })))
+pub version-none : AreOfPieces → (text : List ℕ) → ((numbers : List ℕ) → ¬ IsVersionOf text numbers) → version_of text ≡ None
+version-none of_pieces text none =
+    let values = map (digits_value 10) (pieces 46 text) in
+    none-cond _ values (λ test. let good = (good-decides text).0 test in none values ((of_pieces text values).1 (good.0, good.1, refl)))
 
 -- four numbers of which those behind the first k are 0
 pub four-padded : (ns : List ℕ) (k : ℕ) → length ns ≡ 4 → 0 < k → k ≤ 4 → drop k ns ≡ replicate (4 - k) 0 → four (take k ns) ≡ ns

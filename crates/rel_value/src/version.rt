@@ -1,7 +1,7 @@
 ghost use Rattle.std.specs.Prelude.{◌≡◌, ◌≤◌, ◌<◌, length};
 ghost use Rattle.rel_value.specs.Versions.{version_cmp, version_of};
 
-use line_forms::version_numbers;
+use line_forms::{a_version_is_its_numbers, version_numbers};
 use rel_lexer::Text;
 use std::cmp::Ordering;
 use std::marker::Model;
@@ -44,6 +44,8 @@ impl Version {
     pub(crate) fn of_str(text: &str) -> Option<Version>
         ensures { result ≡ version_of text.now }
     {
+        // Proof: a version is read part by part, and `version_of` asks for the pieces of its text.
+        a_version_is_its_numbers();
         match version_numbers(text.as_bytes()) {
             Some(numbers) => Some(Version::of_numbers(numbers.as_slice())),
             None => None,

@@ -1,8 +1,7 @@
 use Rattle.std.proofs.Common.{◌≡◌, true, sym, ap, ◌∙◌, FitsSigned, w64}
 use Rattle.std.proofs.lemmas.Int.{to_z-of_z}
-use Rattle.line_forms.proofs.Texts.{fits-parsed}
 use Rattle.rel_value.specs.Casts.{is_numeral, behind_minus}
-use Rattle.rel_value.proofs.Integers.{read-ok, read-err}
+use Rattle.rel_value.proofs.Integers.{fits-parsed, read-ok, read-err}
 use Rattle.rel_value.proofs.casts.read_integer.Goals as goal
 
 pub returns-in-Ok : goal.returns-in-Ok

@@ -11,4 +11,4 @@ returns-clause-err c =
     ∙ undo c.args.self.now (sym c.is_folder.ensures ∙ c.if-is_folder.false) c.requires.no_file
 
 pub set_node-requires-clause-path : goal.set_node-requires-clause-path
-set_node-requires-clause-path c = download-path
+set_node-requires-clause-path c = download-path c.a_path_is_its_parts.ensures.parts c.a_path_is_its_parts.ensures.rootless
