@@ -1,5 +1,5 @@
 -- Clauses, fixlets and contents that are asked one after another.
-use Rattle.std.proofs.Common.{◌≡◌, ◌≢◌, ℕ, ◌+◌, ◌<◌, ◌≤◌, inl, inr, List, [], ◌∷◌, length, get_or, drop, Option, Some, None, Ok, Err, refl, sym, ap, subst, ◌∙◌, arith}
+use Rattle.std.proofs.Common.{◌≡◌, ◌≢◌, ℕ, ◌+◌, ◌<◌, ◌≤◌, inl, inr, List, [], ◌∷◌, length, get_or, drop, Option, Some, None, Result, Ok, Err, refl, sym, ap, subst, ◌∙◌, arith}
 use Rattle.std.specs.List.{cons_option}
 use Rattle.std.specs.Option.{option_and_then}
 use Rattle.std.proofs.lemmas.List.{drop_more, drop_all}
@@ -12,7 +12,8 @@ use Rattle.rel_eval.specs.Singles.{TruthHasCause}
 use Rattle.rel_trace.specs.declared.kind.RelKind.TheVariants.{NotDefined}
 use Rattle.fix_site.specs.declared.block.Block.{Block}
 use Rattle.fix_site.specs.declared.fixlet.Fixlet.{Fixlet}
-use Rattle.script_text.proofs.OneVerdict.{verdict_one}
+use Rattle.script_text.specs.declared.error.ScriptError.{ScriptError}
+use Rattle.script_text.specs.Scripts.{PlainScript, IsVerdict}
 use Rattle.script_run.specs.Machines.{MachineView}
 use Rattle.script_run.specs.Asking.{When, JudgesOn, JudgesQuestion, scene_of}
 use Rattle.script_run.specs.Scripts.{given_known}
@@ -71,8 +72,12 @@ pub asks_end : (at : When) (texts : List (List ℕ)) (i : ℕ) (now : MachineVie
 asks_end at texts i now whole start end goes = goes Yes now (subst (λ l. AllAre at l now Yes now) (sym (drop_all i texts end)) (refl, refl))
 
 -- ---- scripts
-pub no_script : (lines : List (List ℕ)) → IsScriptOf lines None → ¬ HasScript lines
-no_script lines (error, h) (script, k) = let e = verdict_one lines (Ok script) (Err error) k h in absurd (cc)
+-- what script_text says of lines, in its law on them
+abbrev pub OneVerdict : Type 0
+OneVerdict = (lines : List (List ℕ)) (x y : Result PlainScript ScriptError) → IsVerdict lines x → IsVerdict lines y → x ≡ y
+
+pub no_script : OneVerdict → (lines : List (List ℕ)) → IsScriptOf lines None → ¬ HasScript lines
+no_script one_verdict lines (error, h) (script, k) = let e = one_verdict lines (Ok script) (Err error) k h in absurd (cc)
 
 -- ---- fixlets
 -- one that is relevant has a script

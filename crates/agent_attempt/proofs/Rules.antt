@@ -14,7 +14,7 @@ use Rattle.agent_attempt.specs.declared.found.Found.{Found}
 use Rattle.agent_attempt.specs.declared.found.Found.TheVariants.{Yes, No}
 use Rattle.agent_attempt.specs.Reads.{IsScriptOf, success_clause, target_clause}
 use Rattle.agent_attempt.specs.Relevance.{AllAre, Asks, FixletIs, HasScript, Succeeds, Targets, opposite}
-use Rattle.agent_attempt.proofs.Asked.{no_script}
+use Rattle.agent_attempt.proofs.Asked.{OneVerdict, no_script}
 
 -- the clause that is asked
 pub asked_some : (at : When) (text own : List ℕ) (clause : Option (List ℕ)) (old : MachineView) (found : Found) (new : MachineView) → clause ≡ Some own → clause ≡ Some text →
@@ -68,10 +68,10 @@ script_some : (lines : List (List ℕ)) (script : Option Script) → is_some scr
 script_some lines None some h = absurd (cc)
 script_some lines (Some script) some h = (shown_script script, h)
 
-pub relevant_refused : (at : When) (own f : Fixlet) (script : Option Script) (v : MachineView) (none : Bool) → f ≡ own → none ≡ true → is_some script ≡ not none → IsScriptOf f.script script → FixletIs at own v No v
-relevant_refused at own f script v none same so is h =
+pub relevant_refused : OneVerdict → (at : When) (own f : Fixlet) (script : Option Script) (v : MachineView) (none : Bool) → f ≡ own → none ≡ true → is_some script ≡ not none → IsScriptOf f.script script → FixletIs at own v No v
+relevant_refused one_verdict at own f script v none same so is h =
     let gone : script ≡ None = script_none script (is ∙ ap not so) in
-    subst (λ (x : Fixlet). FixletIs at x v No v) same (inr (no_script f.script (subst (IsScriptOf f.script) gone h), (refl, refl)))
+    subst (λ (x : Fixlet). FixletIs at x v No v) same (inr (no_script one_verdict f.script (subst (IsScriptOf f.script) gone h), (refl, refl)))
 
 pub relevant_asked : (at : When) (own f : Fixlet) (script : Option Script) (texts : List (List ℕ)) (old : MachineView) (found : Found) (new : MachineView) (none : Bool) → f ≡ own → none ≡ false → is_some script ≡ not none →
     IsScriptOf f.script script → texts ≡ f.relevance → AllAre at texts old found new → FixletIs at own old found new

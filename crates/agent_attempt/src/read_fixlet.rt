@@ -10,7 +10,7 @@ use crate::time::Time;
 use bf_machine::Machine;
 use fix_site::{Fixlet, Success};
 use rel_lexer::Text;
-use script_text::{Script, ScriptError, read_script};
+use script_text::{Script, ScriptError, one_verdict, read_script};
 use std::alloc::{AllocError, Global};
 use std::marker::Model;
 
@@ -78,6 +78,8 @@ impl ReadFixlet {
         requires { HasScript self.now.script }
         ensures { IfOk result (λ script. IsScriptOf self.now.script (Some script)) }
     {
+        // Proof: lines that are a script aren't refused.
+        one_verdict();
         match &self.script {
             Some(script) => script.copy(),
             None => unreachable!(),
@@ -97,6 +99,8 @@ impl ReadFixlet {
         ensures started { M.started machine.new ≡ M.started machine.old }
     {
         if self.script.is_none() {
+            // Proof: lines that are refused are no script.
+            one_verdict();
             return Found::No;
         }
         ask_all(alloc, self.relevance.as_slice(), machine, time)

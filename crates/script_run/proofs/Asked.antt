@@ -1,4 +1,4 @@
--- What a question that was read is answered.
+-- What a question that was read is answered. Other crates may cite these lemmas.
 use Rattle.std.proofs.Common.{◌≡◌, Bool, true, false, List, refl, Option, Some}
 use Rattle.bf_world.specs.declared.key.Key.{Key}
 use Rattle.bf_world.specs.Worlds.{WorldState}

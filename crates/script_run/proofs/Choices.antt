@@ -24,7 +24,7 @@ use Rattle.script_run.specs.Fills.{StepsTo}
 use Rattle.script_run.proofs.Chains.{reach_none, reach_one, starve_from}
 use Rattle.script_run.proofs.Texts.{tested_memory}
 use Rattle.script_run.proofs.Moves.{goes_none, ready_walk}
-use Rattle.script_run.proofs.Trees.{walk_statements, weight_statements}
+use Rattle.script_run.proofs.Trees.{StatementsShowEach, walk_statements, weight_statements}
 
 -- what arms do, and what an arm before them does
 abbrev pub choosing : Todo → List Todo → List Arm → StatementList → Rest
@@ -88,22 +88,22 @@ arm_steps scene arm rest other v truth.Memory w result left j h =
 pub pushed_first : {T : Type 0} (b : Bool) (value : T) (old new : List T) → new ≡ (if b then value ∷ old else old) → b ≡ true → new ≡ value ∷ old
 pushed_first b value old new e ok = e ∙ ap (λ (c : Bool). if c then value ∷ old else old) ok
 
-pub entered_walk : (place : Place) (current value dest : Todo) (items : List Statement) (later new : List Todo) (body : StatementList) (known : Known) (more : List Settled) →
+pub entered_walk : StatementsShowEach → (place : Place) (current value dest : Todo) (items : List Statement) (later new : List Todo) (body : StatementList) (known : Known) (more : List Settled) →
     place ≡ Ready → ((rest : Rest) → todo_walk dest rest ≡ statements_walk items rest) → items ≡ statement_items body → new ≡ value ∷ later → value ≡ current →
     walk_all (shown_statements body) (todo_walk current (todos_walk later)) known more ≡ place_walk place (todo_walk dest (todos_walk new)) known more
-entered_walk place current value dest items later new body known more ready d e is v =
-    ap (λ (r : Rest). r known more) (walk_statements body items (todo_walk current (todos_walk later)) e)
+entered_walk show_each place current value dest items later new body known more ready d e is v =
+    ap (λ (r : Rest). r known more) (walk_statements show_each body items (todo_walk current (todos_walk later)) e)
     ∙ ap (λ t. statements_walk items (todo_walk t (todos_walk later)) known more) (sym v)
     ∙ ap (λ l. statements_walk items (todos_walk l) known more) (sym is)
     ∙ ap (λ (r : Rest). r known more) (sym (d (todos_walk new)))
     ∙ ready_walk place (todo_walk dest (todos_walk new)) known more ready
 
-pub entered_weight : (place : Place) (current value dest : Todo) (items : List Statement) (later new : List Todo) (body : StatementList) →
+pub entered_weight : StatementsShowEach → (place : Place) (current value dest : Todo) (items : List Statement) (later new : List Todo) (body : StatementList) →
     place ≡ Ready → todo_weight dest ≡ list_weight items → items ≡ statement_items body → new ≡ value ∷ later → value ≡ current →
     place_weight place + (todo_weight dest + todos_weight new) ≡ 2 + (all_weight (shown_statements body) + (todo_weight current + todos_weight later))
-entered_weight place current value dest items later new body ready d e is v =
+entered_weight show_each place current value dest items later new body ready d e is v =
     let p : place_weight place ≡ 1 = ap place_weight ready in
-    let b : list_weight items ≡ all_weight (shown_statements body) = weight_statements body items e in
+    let b : list_weight items ≡ all_weight (shown_statements body) = weight_statements show_each body items e in
     let l : todos_weight new ≡ (1 + todo_weight value) + todos_weight later = ap todos_weight is in
     let w : todo_weight value ≡ todo_weight current = ap todo_weight v in
     omega (arith, p, d, b, l, w)

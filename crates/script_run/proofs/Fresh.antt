@@ -1,4 +1,4 @@
--- From a place before a line nothing of the line that comes next is settled.
+-- From a place before a line nothing of the line that comes next is settled. Other crates may cite these lemmas.
 use Rattle.std.proofs.Common.{◌≡◌, ◌==◌, ℕ, ℤ, pos, Bool, true, false, if◌then◌else◌, is_some, List, [], ◌∷◌, ◌++◌, length, Option, Some, None, refl}
 use Rattle.std.specs.Str.{bytes_eq}
 use Rattle.hex.specs.Hex.{encode_lower}

@@ -20,7 +20,7 @@ use crate::todo::Todo;
 use crate::{Cause, Ran, Run};
 use bf_machine::Machine;
 use rel_eval::Truth;
-use script_text::{Arm, StatementList};
+use script_text::{Arm, StatementList, statements_show_each};
 use std::alloc::Global;
 use std::collections::VecDeque;
 use std::mem;
@@ -162,6 +162,8 @@ impl Run {
         ensures ready { self.new.place ≡ Place.Ready }
         ensures kept { self.new.kept ≡ self.old.kept }
     {
+        // Proof: statements that were taken out of their list are walked through as the list is.
+        statements_show_each();
         let list = VecDeque::from(body.into_vec());
         let todo = mem::replace(&mut self.current, Todo::Statements { list });
         match self.later.push_front(todo) {

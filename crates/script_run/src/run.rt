@@ -14,7 +14,7 @@ use crate::place::Place;
 use crate::todo::Todo;
 use desk_base::Bytes;
 use rel_inspect::Pairs;
-use script_text::{Prefetch, Script};
+use script_text::{Prefetch, Script, statements_show_each};
 use std::alloc::{AllocError, Global};
 use std::collections::VecDeque;
 use std::mem;
@@ -37,6 +37,8 @@ impl Run {
         ensures waits { IfOk result (λ run. (started : ℕ) → WaitsBelow started run.place) }
         ensures wanted { IfOk result (λ run. wanted_at run.place ≡ None) }
     {
+        // Proof: statements that were taken out of their list are walked through as the list is.
+        statements_show_each();
         let kept = Kept::new(alloc, parameters)?;
         let mut later = VecDeque::new(alloc);
         later.push_front(Todo::Statements {

@@ -7,7 +7,7 @@ ghost use Rattle.script_run.specs.Weights.{place_weight, weight};
 ghost use Rattle.script_run.specs.Fills.{BeginsAt};
 
 use crate::place::Place;
-use script_text::{Prefetch, Statement};
+use script_text::{Prefetch, Statement, a_statement_shows_its_parts, arms_show_each};
 use std::collections::VecDeque;
 
 /// Lines that are still to be done, one after another.
@@ -44,6 +44,9 @@ fn before(statement: Statement) -> Place
     ensures weight { place_weight result ≡ weight (shown_statement statement) }
     ensures waits { (started : ℕ) → WaitsBelow started result }
 {
+    // Proof: arms that were taken out of their list are walked through as the list is.
+    arms_show_each();
+    a_statement_shows_its_parts();
     match statement {
         Statement::Do { line, what } => Place::Doing { line, what },
         Statement::If { arms, other } => Place::Testing {

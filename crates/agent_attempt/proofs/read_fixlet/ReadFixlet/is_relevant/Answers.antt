@@ -3,7 +3,7 @@ use Rattle.agent_attempt.proofs.Rules.{relevant_refused, relevant_asked}
 use Rattle.agent_attempt.proofs.read_fixlet.ReadFixlet.is_relevant.Goals as goal
 
 pub returns-then-is_none-clause-asks : goal.returns-then-is_none-clause-asks
-returns-then-is_none-clause-asks g c = relevant_refused _ c.args.self.now c.self.inside.fixlet c.self.inside.script _ c.is_none.result c.self.view_is c.if-is_none.true c.is_none.ensures c.self.invariant.3
+returns-then-is_none-clause-asks g c = relevant_refused c.one_verdict.ensures _ c.args.self.now c.self.inside.fixlet c.self.inside.script _ c.is_none.result c.self.view_is c.if-is_none.true c.is_none.ensures c.self.invariant.3
 
 pub returns-clause-asks : goal.returns-clause-asks
 returns-clause-asks g c =
