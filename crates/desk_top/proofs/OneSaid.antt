@@ -15,7 +15,6 @@ use Rattle.bf_machine.specs.Rises.{RoseBy}
 use Rattle.rel_session.specs.Devices.{DidAll}
 use Rattle.rel_session.specs.Lines.{lines_of}
 use Rattle.rel_session.specs.Sessions.{Answers, Asks, Run, Runs, Session, begins_with_colon, fresh}
-use Rattle.rel_session.proofs.OneRun.{runs_once}
 use Rattle.desk_top.specs.declared.command.Command.{Command}
 use Rattle.desk_top.specs.declared.command.Command.TheVariants.{Qna, QnaWorld, Check, Make, Help}
 use Rattle.site_check.specs.declared.finding.Finding.TheVariants.{Good}
@@ -24,6 +23,10 @@ use Rattle.desk_top.proofs.Ends.{OneFinding, OneFront, refusal_known}
 use Rattle.desk_top.specs.Said.{Did, DidDescribed, Refuses}
 use Rattle.desk_top.specs.Tellings.{telling}
 use Rattle.desk_top.specs.WorldInputs.{IsBadInput, IsWorldInput, bad_line}
+
+-- what rel_session says of every run, in its law on them
+abbrev pub OneRun : Type 0
+OneRun = (w : WorldState) (offset : ℤ) (s : Session) (lines : List (List ℕ)) (moments : List ℤ) (a b : Run) → Runs (Some w) offset s lines moments a → Runs (Some w) offset s lines moments b → a.faults ≡ 0 → b.faults ≡ 0 → a ≡ b
 
 -- how many of the lines are questions: each of these uses a moment
 abbrev asked : List ℕ → ℕ
@@ -63,23 +66,23 @@ no_faults zero faults below rose = refl
 no_faults (suc n) faults below rose = absurd (omega arith)
 
 -- what questions to a machine whose world is told write and look up
-qna_once : (w : WorldState) (input held a b : List ℕ) (looked keys others : List Key) (faults : ℕ) (given after : List ℤ) → faults < 2 ^ 64 - 1
+qna_once : OneRun → (w : WorldState) (input held a b : List ℕ) (looked keys others : List Key) (faults : ℕ) (given after : List ℤ) → faults < 2 ^ 64 - 1
     → DidAll (Some w) (pos 0) fresh (lines_of input) None (telling held looked faults given) (telling a keys faults after)
     → DidAll (Some w) (pos 0) fresh (lines_of input) None (telling held looked faults given) (telling b others faults after) → (a ≡ b) × (keys ≡ others)
-qna_once w input held a b looked keys others faults given after below (moments, run, runs, did) (moments', run', runs', did') =
+qna_once one_run w input held a b looked keys others faults given after below (moments, run, runs, did) (moments', run', runs', did') =
     let Ran : List ℤ → Type 0 = λ m. Runs (Some w) (pos 0) fresh (lines_of input) m run in
     let same : moments ≡ moments' = append_cancel_left given moments moments' (sym did.dated ∙ did'.dated) in
-    let one : run ≡ run' = runs_once w (pos 0) fresh (lines_of input) moments' run run' (subst Ran same runs) runs' (no_faults run.faults faults below did.faults) (no_faults run'.faults faults below did'.faults) in
+    let one : run ≡ run' = one_run w (pos 0) fresh (lines_of input) moments' run run' (subst Ran same runs) runs' (no_faults run.faults faults below did.faults) (no_faults run'.faults faults below did'.faults) in
     (did.written ∙ ap (λ r. held ++ r.bytes) one ∙ sym did'.written, did.looked ∙ ap (λ r. looked ++ r.looks) one ∙ sym did'.looked)
 
 -- what questions to a described world write
-described_once : (w : WorldState) (rest held a b : List ℕ) (looked keys others : List Key) (faults : ℕ) (given after : List ℤ)
+described_once : OneRun → (w : WorldState) (rest held a b : List ℕ) (looked keys others : List Key) (faults : ℕ) (given after : List ℤ)
     → DidDescribed w rest (telling held looked faults given) (telling a keys faults after)
     → DidDescribed w rest (telling held looked faults given) (telling b others faults after) → a ≡ b
-described_once w rest held a b looked keys others faults given after (moments, run, runs, all, none, is) (moments', run', runs', all', none', is') =
+described_once one_run w rest held a b looked keys others faults given after (moments, run, runs, all, none, is) (moments', run', runs', all', none', is') =
     let Ran : List ℤ → Type 0 = λ m. Runs (Some w) w.offset fresh (lines_of rest) m run in
     let same : moments ≡ moments' = all_same w.moment moments moments' all all' (count_runs (Some w) w.offset fresh (lines_of rest) moments run runs ∙ sym (count_runs (Some w) w.offset fresh (lines_of rest) moments' run' runs')) in
-    let one : run ≡ run' = runs_once w w.offset fresh (lines_of rest) moments' run run' (subst Ran same runs) runs' none none' in
+    let one : run ≡ run' = one_run w w.offset fresh (lines_of rest) moments' run run' (subst Ran same runs) runs' none none' in
     is ∙ ap (λ r. held ++ r.bytes) one ∙ sym is'
 
 -- an input has one world's text and one rest
@@ -91,33 +94,33 @@ one_rest front input w w' rest rest' (text, splits, reads) (text', splits', read
       append_cancel_left text rest' rest (ap (λ t. t ++ rest') (sym same) ∙ sym splits'.0 ∙ splits.0),
     )
 
-world_once : OneFront → (input held a b : List ℕ) (looked keys others : List Key) (faults : ℕ) (given after : List ℤ)
+world_once : OneRun → OneFront → (input held a b : List ℕ) (looked keys others : List Key) (faults : ℕ) (given after : List ℤ)
     → (w : WorldState) (rest : List ℕ) → IsWorldInput input w rest → DidDescribed w rest (telling held looked faults given) (telling a keys faults after)
     → (w' : WorldState) (rest' : List ℕ) → IsWorldInput input w' rest' → DidDescribed w' rest' (telling held looked faults given) (telling b others faults after) → a ≡ b
-world_once front input held a b looked keys others faults given after w rest is did w' rest' is' did' =
+world_once one_run front input held a b looked keys others faults given after w rest is did w' rest' is' did' =
     let same = one_rest front input w w' rest rest' is is' in
     let InWorld : WorldState → Type 0 = λ v. DidDescribed v rest' (telling held looked faults given) (telling b others faults after) in
     let OfRest : List ℕ → Type 0 = λ l. DidDescribed w l (telling held looked faults given) (telling b others faults after) in
-    described_once w rest held a b looked keys others faults given after did (subst OfRest same.1 (subst InWorld same.0 did'))
+    described_once one_run w rest held a b looked keys others faults given after did (subst OfRest same.1 (subst InWorld same.0 did'))
 
-pub bytes_once : OneFinding → OneFront → (command : Command) (w : WorldState) (input held a b : List ℕ) (looked keys others : List Key) (faults : ℕ) (given after : List ℤ) → faults < 2 ^ 64 - 1
+pub bytes_once : OneRun → OneFinding → OneFront → (command : Command) (w : WorldState) (input held a b : List ℕ) (looked keys others : List Key) (faults : ℕ) (given after : List ℤ) → faults < 2 ^ 64 - 1
     → Did command (Some w) input (telling held looked faults given) (telling a keys faults after)
     → Did command (Some w) input (telling held looked faults given) (telling b others faults after) → a ≡ b
-bytes_once one front Qna w input held a b looked keys others faults given after below did did' =
-    (qna_once w input held a b looked keys others faults given after below did did').0
-bytes_once one front QnaWorld w input held a b looked keys others faults given after below (v, rest, is, did) (v', rest', is', did') =
-    world_once front input held a b looked keys others faults given after v rest is did v' rest' is' did'
-bytes_once one front Check w input held a b looked keys others faults given after below (fixlets, baselines, found, is) (fixlets', baselines', found', is') =
+bytes_once one_run one front Qna w input held a b looked keys others faults given after below did did' =
+    (qna_once one_run w input held a b looked keys others faults given after below did did').0
+bytes_once one_run one front QnaWorld w input held a b looked keys others faults given after below (v, rest, is, did) (v', rest', is', did') =
+    world_once one_run front input held a b looked keys others faults given after v rest is did v' rest' is' did'
+bytes_once one_run one front Check w input held a b looked keys others faults given after below (fixlets, baselines, found, is) (fixlets', baselines', found', is') =
     let same = one input (Good fixlets baselines) (Good fixlets' baselines') found found' (λ e. cc) (λ e. cc) in
     is ∙ ap (λ f. held ++ finding_line f) same ∙ sym is'
-bytes_once one front (Make number) w input held a b looked keys others faults given after below did did' = did ∙ sym did'
-bytes_once one front Help w input held a b looked keys others faults given after below did did' = did ∙ sym did'
+bytes_once one_run one front (Make number) w input held a b looked keys others faults given after below did did' = did ∙ sym did'
+bytes_once one_run one front Help w input held a b looked keys others faults given after below did did' = did ∙ sym did'
 
-pub looks_once : (w : WorldState) (input held a b : List ℕ) (looked keys others : List Key) (faults : ℕ) (given after : List ℤ) → faults < 2 ^ 64 - 1
+pub looks_once : OneRun → (w : WorldState) (input held a b : List ℕ) (looked keys others : List Key) (faults : ℕ) (given after : List ℤ) → faults < 2 ^ 64 - 1
     → Did Qna (Some w) input (telling held looked faults given) (telling a keys faults after)
     → Did Qna (Some w) input (telling held looked faults given) (telling b others faults after) → keys ≡ others
-looks_once w input held a b looked keys others faults given after below did did' =
-    (qna_once w input held a b looked keys others faults given after below did did').1
+looks_once one_run w input held a b looked keys others faults given after below did did' =
+    (qna_once one_run w input held a b looked keys others faults given after below did did').1
 
 -- an input has one first bad line
 one_bad_line : OneFront → (input : List ℕ) (m n : ℕ) → IsBadInput input m → IsBadInput input n → m ≡ n

@@ -7,6 +7,7 @@ ghost use Rattle.desk_top.specs.declared.command.Command.TheVariants.{Qna};
 ghost use Rattle.desk_top.specs.Said.{Did, IsGoodInput, Refuses};
 ghost use Rattle.desk_top.specs.Tellings.{telling};
 
+use rel_session::one_run;
 use site_check::one_finding;
 use world_text::{a_world_is_read, one_front};
 
@@ -24,7 +25,8 @@ pub fn one_said()
     ensures refusals { (command : Command) (input a b : List ℕ) → Refuses command input a → Refuses command input b → a ≡ b }
     ensures apart { (command : Command) (input line : List ℕ) → IsGoodInput command input → ¬ Refuses command input line }
 {
-    // the laws of the parts, which this one is made of
+    // Proof: this is made of the laws of the parts.
+    one_run();
     one_finding();
     one_front();
     a_world_is_read();

@@ -10,6 +10,8 @@ ghost use Rattle.rel_sources.specs.declared.scene.Scene.{Scene};
 ghost use Rattle.rel_nodes.specs.Meaning.{mean};
 ghost use Rattle.rel_kinds.specs.Giving.{GivesKind, GivesOne, IsThere};
 
+use rel_types::plans_agree;
+
 /// Each value of a plan has the plan's kind, where `it` stands for a value of the kind that the plan was checked with. So it is of
 /// each part of a plan, and of what checking gives of a tree.
 pub fn evaluations_keep_kinds()
@@ -17,7 +19,10 @@ pub fn evaluations_keep_kinds()
         → (w : WorldState) (s : Scene) → GivesKind (kind_of plan) (mean w s plan it) }
     ensures plans { (around : Option PlainKind) (t : tree.Plain) (plan : PlainNode) → typed around t ≡ Ok plan → (it : Option Plain) → IsThere around it
         → (w : WorldState) (s : Scene) → GivesKind (kind_of plan) (mean w s plan it) }
-{}
+{
+    // Proof: a plan that checking makes is well typed.
+    plans_agree();
+}
 
 /// A plan that is not plural gives exactly one value, which is the last event, or an error. So every sign, cast and `it` in it comes
 /// to a value or a fault.
@@ -26,4 +31,7 @@ pub fn singular_plans_give_one()
         → (w : WorldState) (s : Scene) → GivesOne (mean w s plan it) }
     ensures plans { (around : Option PlainKind) (t : tree.Plain) (plan : PlainNode) → typed around t ≡ Ok plan → is_plural plan ≡ false → (it : Option Plain)
         → IsThere around it → (w : WorldState) (s : Scene) → GivesOne (mean w s plan it) }
-{}
+{
+    // Proof: a plan that checking makes is well typed.
+    plans_agree();
+}

@@ -6,9 +6,10 @@ pub returns : goal.returns
 returns c =
     let one = c.one_finding.ensures in
     let front = c.one_front.ensures in
+    let run = c.one_run.ensures in
     record {
-      bytes = bytes_once one front;
-      looks = looks_once;
+      bytes = bytes_once run one front;
+      looks = looks_once run;
       refusals = refusal_once one front;
       apart = good_not_refused one front c.a_world_is_read.ensures;
     }

@@ -6,4 +6,4 @@ pub returns-clause-parts : goal.returns-clause-parts
 returns-clause-parts c = parts-keep
 
 pub returns-clause-plans : goal.returns-clause-plans
-returns-clause-plans c = plans-keep
+returns-clause-plans c = plans-keep c.plans_agree.ensures

@@ -6,4 +6,4 @@ pub returns-clause-parts : goal.returns-clause-parts
 returns-clause-parts c = parts-give
 
 pub returns-clause-plans : goal.returns-clause-plans
-returns-clause-plans c = plans-give
+returns-clause-plans c = plans-give c.plans_agree.ensures
