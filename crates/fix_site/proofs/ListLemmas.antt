@@ -4,6 +4,7 @@ use Rattle.std.proofs.lemmas.List.Elements.{All-nil, All-cons, All-head, All-tai
 use Rattle.line_forms.specs.Lines.{lines_text, ended_line}
 use Rattle.line_forms.specs.Names.{IsLineText}
 use Rattle.line_forms.specs.Readers.{EachCan}
+use Rattle.line_forms.proofs.LineLemmas.{lines_text-append}
 use Rattle.fix_site.specs.Contents.{IsScript}
 use Rattle.fix_site.specs.Readings.{Anywhere, FitsScript, FitsRoom}
 
@@ -30,10 +31,6 @@ last_or_none (v ∷ vs) = elim (last_or_none vs) [
   | inl e ↦ inr ([], v, ap (λ l. v ∷ l) e)
   | inr e ↦ inr (v ∷ e.0, e.1, ap (λ l. v ∷ l) e.2)
 ]
-
-pub lines_text-append : (a b : List (List ℕ)) → lines_text (a ++ b) ≡ lines_text a ++ lines_text b
-lines_text-append [] b = refl
-lines_text-append (x ∷ a) b = ap (λ l. ended_line x ++ l) (lines_text-append a b) ∙ sym (append_assoc (ended_line x) (lines_text a) (lines_text b))
 
 -- the bytes of lines, one of which is this
 pub size_at : (before after : List (List ℕ)) (line : List ℕ) → length (lines_text (before ++ line ∷ after)) ≡ length (lines_text before) + length line + 1 + length (lines_text after)

@@ -11,7 +11,7 @@ use Rattle.fix_site.specs.Actions.{action_line, issued_line, content_line, membe
 use Rattle.fix_site.specs.Blocks.{block_lines}
 use Rattle.fix_site.specs.Sites.{site_line}
 use Rattle.fix_site.specs.Readings.{first_lines}
-use Rattle.fix_site.proofs.ListLemmas.{lines_text-append}
+use Rattle.line_forms.proofs.LineLemmas.{lines_text-append}
 
 -- one text behind another
 pub and_then : (x y new a b : List ℕ) → y ≡ x ++ a → new ≡ y ++ b → new ≡ x ++ (a ++ b)

@@ -31,7 +31,11 @@ lines_of-none text lacks = ap front_of (pieces-none 10 text lacks)
 pub unended_of-none : (text : List ℕ) → Lacks 10 text → unended_of text ≡ text
 unended_of-none text lacks = ap last_of (pieces-none 10 text lacks)
 
--- the text of lines, and of one more
+-- the text of lines and of others behind them, and of one more
+pub lines_text-append : (a b : List (List ℕ)) → lines_text (a ++ b) ≡ lines_text a ++ lines_text b
+lines_text-append [] b = refl
+lines_text-append (x ∷ a) b = ap (λ l. ended_line x ++ l) (lines_text-append a b) ∙ sym (append_assoc (ended_line x) (lines_text a) (lines_text b))
+
 pub lines_text-snoc : (lines : List (List ℕ)) (line : List ℕ) → lines_text (lines ++ line ∷ []) ≡ lines_text lines ++ ended_line line
 lines_text-snoc [] line = append-nil (ended_line line)
 lines_text-snoc (x ∷ lines) line = ap (λ l. ended_line x ++ l) (lines_text-snoc lines line) ∙ sym (append_assoc (ended_line x) (lines_text lines) (ended_line line))

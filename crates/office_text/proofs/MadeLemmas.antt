@@ -7,9 +7,9 @@ use Rattle.hex.specs.Hex.{encode_lower}
 use Rattle.sha2.specs.Sha256.{sha256}
 use Rattle.line_forms.specs.Fields.{field_text}
 use Rattle.line_forms.specs.Lines.{lines_text}
+use Rattle.line_forms.proofs.LineLemmas.{lines_text-append}
 use Rattle.office_text.specs.Made.{action_lines, computer_lines, computers_lines, draw_at, next_draw, office_of, places, site_body, site_digest, site_lines, turn_lines, turns_lines}
 use Rattle.office_text.proofs.Fronts.{Lines}
-use Rattle.office_text.proofs.TextLemmas.{lines_text-append}
 
 places_more : (n : ℕ) → places (n + 1) ≡ places n ++ (n + 1) ∷ []
 places_more n =

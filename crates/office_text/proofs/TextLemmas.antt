@@ -9,6 +9,7 @@ use Rattle.line_forms.specs.LineStates.{LineState}
 use Rattle.line_forms.specs.Lines.{ended_line, lines_text}
 use Rattle.line_forms.specs.Names.{IsLineText}
 use Rattle.line_forms.specs.Readers.{IsNotAhead, Passes, StopsAt}
+use Rattle.line_forms.proofs.LineLemmas.{lines_text-append}
 use Rattle.line_forms.proofs.Passing.{cons_head, cons_tail, passes_none, passes_then}
 use Rattle.world_text.proofs.FieldLemmas.{end_not_content}
 use Rattle.office_text.specs.declared.text_reader.Last.{Last}
@@ -17,10 +18,6 @@ use Rattle.office_text.specs.OrderLines.{AreTextTo, HoldContent, IsEnd}
 use Rattle.office_text.specs.Readings.{IsLast, TakesBody, TakesContent, TakesTo}
 use Rattle.office_text.proofs.Fronts.{Lines, nothing, ends_not_among}
 use Rattle.office_text.proofs.BodyLemmas.{content_ends, not_end_contents}
-
-pub lines_text-append : (a b : Lines) → lines_text (a ++ b) ≡ lines_text a ++ lines_text b
-lines_text-append [] b = refl
-lines_text-append (x ∷ a) b = ap (λ l. ended_line x ++ l) (lines_text-append a b) ∙ sym (append_assoc (ended_line x) (lines_text a) (lines_text b))
 
 -- the text with a line more
 pub text_more : (taken : Lines) (line before after new : List ℕ) → before ≡ lines_text taken → after ≡ before ++ line → new ≡ after ++ 10 ∷ [] → new ≡ lines_text (taken ++ line ∷ [])

@@ -7,11 +7,10 @@ use Rattle.rel_grammar.specs.declared.tree.LinkList.{LinkList, out-LinkList}
 use Rattle.rel_grammar.specs.declared.tree.TreeList.{TreeList, out-TreeList}
 use Rattle.rel_print.specs.declared.pen.Pen.{Pen}
 use Rattle.rel_grammar.specs.Trees.{Plain, Linked, no_links, more_links, Parts, no_parts, more_parts}
-use Rattle.rel_grammar.specs.declared.tree.Tree.TheFolds.{fold_out-Link2}
+use Rattle.rel_grammar.specs.declared.tree.Tree.TheFolds.{fold_out-Link2, fold_out-LinkList, fold_out-TreeList}
 use Rattle.rel_grammar.specs.Views.{PlainLink, tree_step, link_step, links_step, trees_step, linked, parted, shown, shown_link, shown_links, shown_parts}
 use Rattle.rel_print.specs.Pages.{put_sign}
 use Rattle.rel_print.specs.Written.{written, written_binary, written_links, written_parts, separated}
-use Rattle.rel_grammar.proofs.Shown.{links-out, parts-out}
 
 abbrev pub links_on : List Link2 → Pen → Pen
 links_on [] pen = pen
@@ -22,7 +21,7 @@ links_on-linked [] ls pen = refl
 links_on-linked (x ∷ xs) ls pen = links_on-linked xs (more_links ls (shown_link x).0 (shown_link x).1 (shown_link x).2) pen
 
 pub links_begin : (l : LinkList) (pen : Pen) → links_on (out-LinkList l).items.items pen ≡ written_links (shown_links l) pen
-links_begin l pen = links_on-linked (out-LinkList l).items.items no_links pen ∙ ap (λ ls. written_links ls pen) (sym (links-out l))
+links_begin l pen = links_on-linked (out-LinkList l).items.items no_links pen ∙ ap (λ ls. written_links ls pen) (sym (fold_out-LinkList Plain PlainLink Linked Parts tree_step link_step links_step trees_step l))
 
 abbrev pub parts_on : Bool → Sign → List Tree → Pen → Pen
 parts_on between s [] pen = pen
@@ -43,7 +42,7 @@ parts_on-parted s (t ∷ ts) ps pen =
     ∙ parts_on-parted s ts (more_parts ps (shown t)) pen
 
 pub parts_begin : (s : Sign) (l : TreeList) (pen : Pen) → parts_on false s (out-TreeList l).items.items pen ≡ written_parts s (shown_parts l) pen
-parts_begin s l pen = parts_on-parted s (out-TreeList l).items.items no_parts pen ∙ ap (λ ps. written_parts s ps pen) (sym (parts-out l))
+parts_begin s l pen = parts_on-parted s (out-TreeList l).items.items no_parts pen ∙ ap (λ ps. written_parts s ps pen) (sym (fold_out-TreeList Plain PlainLink Linked Parts tree_step link_step links_step trees_step l))
 
 pub links_more : (xs : List Link2) (i : ℕ) (x : Link2) (pen mid new : Pen) → i < length xs → x ≡ get_or xs i x → mid ≡ written_binary (out-Link2 x).sign pen → new ≡ written (shown (out-Link2 x).right) mid → links_on (drop (i + 1) xs) new ≡ links_on (drop i xs) pen
 links_more xs i x pen mid new h e m n =

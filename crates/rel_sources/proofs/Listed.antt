@@ -1,5 +1,5 @@
 -- A list that is gone through.
-use Rattle.std.proofs.Common.{◌≡◌, ℕ, ◌+◌, ◌<◌, List, ◌∷◌, length, get_or, drop, map, Ok, Err, IfOk, OnOk, sym, ap, ◌∙◌}
+use Rattle.std.proofs.Common.{◌≡◌, ℕ, ◌+◌, ◌<◌, List, ◌∷◌, length, get_or, drop, map, Ok, Err, IfOk, sym, ap, ◌∙◌}
 use Rattle.std.specs.declared.result.Result.{Result}
 use Rattle.std.proofs.lemmas.List.{at_drop_more, drop-map}
 use Rattle.rel_sources.specs.Traces.{Item}
@@ -17,7 +17,3 @@ pub member-at : {A : Type 0} (items : List Item) (f : A → Item) (xs : List A) 
 member-at items f xs i x item all below is same =
     ap (drop i) all ∙ drop-map f i xs ∙ ap (map f) (taken-at xs i x below is) ∙ ap (λ y. y ∷ map f (drop (i + 1) xs)) (sym same)
     ∙ ap (λ l. item ∷ l) (sym (drop-map f (i + 1) xs) ∙ ap (drop (i + 1)) (sym all))
-
-pub on_ok-more : {T E : Type 0} (r : Result T E) (P Q : Type 0) → (P → Q) → OnOk r P → OnOk r Q
-on_ok-more (Ok v) P Q more h = more h
-on_ok-more (Err e) P Q more h = tt

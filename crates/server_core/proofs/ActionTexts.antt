@@ -8,7 +8,7 @@ use Rattle.line_forms.specs.Lines.{lines_text}
 use Rattle.fix_site.specs.declared.action.Action.{Action}
 use Rattle.fix_site.specs.Actions.{IsAction, action_line, action_lines, action_text, content_line, end_line, issued_line, members_line, state_line, target_lines}
 use Rattle.fix_site.specs.RuleLines.{rules_lines}
-use Rattle.fix_site.proofs.ListLemmas.{lines_text-append}
+use Rattle.line_forms.proofs.LineLemmas.{lines_text-append}
 use Rattle.server_core.specs.ActionStates.{before_state, is_stopped, state_end, stopped_text}
 
 -- the lines of an action before its state

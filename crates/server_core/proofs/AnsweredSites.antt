@@ -11,7 +11,7 @@ use Rattle.sha2.specs.Sha256.{sha256}
 use Rattle.sha2.proofs.Facts256.{length-sha256}
 use Rattle.line_forms.specs.Lines.{ended_line, lines_text}
 use Rattle.line_forms.specs.Numbers.{IsId}
-use Rattle.line_forms.proofs.LineLemmas.{lines_text-snoc}
+use Rattle.line_forms.proofs.LineLemmas.{lines_text-append, lines_text-snoc}
 use Rattle.fix_site.specs.declared.site.Site.{Site}
 use Rattle.fix_site.specs.declared.action.Action.{Action}
 use Rattle.fix_site.specs.declared.block.Block.{Block}
@@ -20,7 +20,6 @@ use Rattle.fix_site.specs.Actions.{IsAction, action_text}
 use Rattle.fix_site.specs.Answers.{IsShort, ReadsSite}
 use Rattle.fix_site.specs.Blocks.{block_lines}
 use Rattle.fix_site.specs.Sites.{IsSite, body_lines, digest_line, site_line, site_text}
-use Rattle.fix_site.proofs.ListLemmas.{lines_text-append}
 use Rattle.desk_keep.specs.declared.change.Change.{Change}
 use Rattle.desk_keep.specs.declared.change.Change.TheVariants as change
 use Rattle.desk_keep.specs.declared.find.Find.TheVariants as find
