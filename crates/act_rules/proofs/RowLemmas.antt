@@ -1,4 +1,4 @@
--- Rows and their last one.
+-- Rows and their last one. Other crates may cite these lemmas.
 use Rattle.std.proofs.Common.{ℕ, zero, suc, ◌≡◌, ◌+◌, ◌-◌, ◌<◌, ◌^◌, List, [], ◌∷◌, ◌++◌, length, refl, sym, ap, ◌∙◌, subst, arith, Option, Some, None, get_or, length-append}
 use Rattle.std.specs.Prelude.{slice_set, slice_get, All, IfSome, IsSomeAnd}
 use Rattle.std.proofs.lemmas.Option.{slice_get-get_or}

@@ -1,4 +1,4 @@
--- A row above the last one follows, and no other does.
+-- A row above the last one follows, and no other does. Other crates may cite these lemmas.
 use Rattle.std.proofs.Common.{◌≡◌, ◌-◌, List, [], ◌∷◌, ◌++◌, map, length, slice_get, Some, All, IfSome, refl, sym, ap, ◌∙◌, subst, arith}
 use Rattle.std.specs.declared.cmp.Ordering.TheVariants.{Less}
 use Rattle.std.specs.List.{AllByRecursion}

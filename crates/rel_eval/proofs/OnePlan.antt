@@ -1,4 +1,4 @@
--- A text is one thing.
+-- A text is one thing. Other crates may cite these lemmas.
 use Rattle.std.proofs.Common.{◌≡◌, ◌≢◌, ℕ, List, Result, None, Ok, Err, inl, inr, sym, ap, ◌∙◌, subst}
 use Rattle.rel_lexer.specs.declared.place.Place.{Place}
 use Rattle.rel_lexer.specs.declared.token_list.Tokens.{Tokens}

@@ -1,4 +1,4 @@
--- A text has one tree.
+-- A text has one tree. Other crates may cite these lemmas.
 use Rattle.std.proofs.Common.{◌≡◌, ◌≢◌, ℕ, List, Result, Ok, Err, sym, subst}
 use Rattle.rel_lexer.specs.declared.token_list.Tokens.{Tokens}
 use Rattle.rel_lexer.specs.Tokens.{Lexed}

@@ -1,4 +1,4 @@
--- The known words are words in lower case; and what a token is behind the word `is`.
+-- The known words are words in lower case; and what a token is behind the word `is`. Other crates may cite these lemmas.
 use Rattle.std.proofs.Common.{◌≡◌, ◌⊎◌, inl, inr, ℕ, Bool, true, List, [], ◌∷◌, map, refl}
 use Rattle.std.specs.Char.{to_ascii_lowercase}
 use Rattle.rel_lexer.specs.Bytes.{begins_word, is_in_word}

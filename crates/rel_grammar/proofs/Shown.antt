@@ -1,4 +1,4 @@
--- What a tree shows that is made of parts.
+-- What a tree shows that is made of parts. Other crates may cite these lemmas.
 use Rattle.std.proofs.Common.{◌≡◌, ℕ, ℤ, subst, List, [], ◌∷◌, ◌++◌, map, refl, sym, ap, ◌∙◌, Option, Some, None}
 use Rattle.std.proofs.lemmas.List.{map-append}
 use Rattle.std.specs.declared.alloc.Global.{Global}

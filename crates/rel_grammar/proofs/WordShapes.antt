@@ -1,4 +1,4 @@
--- The words that the grammar knows, and the shapes that they give.
+-- The words that the grammar knows, and the shapes that they give. Other crates may cite these lemmas.
 use Rattle.std.proofs.Common.{◌≡◌, ℕ, List, [], ◌∷◌, Bool, true, false, ◌||◌, cond, refl, sym, ◌∙◌, ap, subst}
 use Rattle.std.specs.Bool.{Decides}
 use Rattle.std.specs.List.{list_any}

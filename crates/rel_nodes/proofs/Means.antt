@@ -1,4 +1,4 @@
--- The few forms mean what the plan means.
+-- The few forms mean what the plan means. Other crates may cite these lemmas.
 use Rattle.std.proofs.Common.{◌≡◌, List, [], ◌∷◌, Bool, true, false, refl, ap, ◌∙◌, Option, Some, None}
 use Rattle.rel_lexer.specs.declared.place.Place.{Place}
 use Rattle.rel_lexer.specs.declared.operator.BinarySign.{BinarySign}

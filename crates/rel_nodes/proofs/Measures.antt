@@ -1,4 +1,4 @@
--- A node never has more quiet steps before it than its plan allows.
+-- A node never has more quiet steps before it than its plan allows. Other crates may cite these lemmas.
 use Rattle.std.proofs.Common.{ℕ, ◌≡◌, ◌∙◌, ◌+◌, ◌*◌, ◌≤◌, ◌<◌, ap, arith, refl, sym, subst, Bool, true, false, Option, Some, None}
 use Rattle.rel_trace.specs.declared.choice.Choice.{Choice}
 use Rattle.rel_trace.specs.declared.choice.Choice.TheVariants as choice

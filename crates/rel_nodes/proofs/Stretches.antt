@@ -1,4 +1,4 @@
--- Stretches of a trace, one after another, and looks that grow.
+-- Stretches of a trace, one after another, and looks that grow. Other crates may cite these lemmas.
 use Rattle.std.proofs.Common.{◌≡◌, List, [], ◌∷◌, ◌++◌, refl, sym, ap, subst, ◌∙◌}
 use Rattle.std.proofs.lemmas.List.{append-nil, append_assoc}
 use Rattle.std.specs.declared.option.Option.{Option}

@@ -1,4 +1,4 @@
--- The lines of a content, one by one.
+-- The lines of a content, one by one. Other crates may cite these lemmas.
 use Rattle.std.proofs.Common.{◌≡◌, ℕ, suc, zero, ◌<◌, ℤ, pos, negsuc, List, [], ◌∷◌, ◌++◌, ◌+◌, ◌-◌, ◌≤◌, min, ◌≤ℤ◌, length, drop, map, Some, None, refl, sym, ap, ◌∙◌, arith, length-append, add-one, ◌⊎◌, inl, inr}
 use Rattle.std.specs.declared.option.Option.{Option}
 use Rattle.std.specs.Option.{option_map}

@@ -1,4 +1,4 @@
--- What some lines add, one after another.
+-- What some lines add, one after another. Other crates may cite these lemmas.
 use Rattle.std.proofs.Common.{◌≡◌, ℕ, List, [], ◌∷◌, ◌++◌, ◌⊎◌, inl, inr, refl, sym, subst, ◌∙◌}
 use Rattle.line_forms.proofs.Passing.{cons_head, cons_tail}
 use Rattle.world_text.specs.declared.draft.Draft.{Draft}

@@ -1,4 +1,4 @@
--- Lines that begin a world, and where none goes on.
+-- Lines that begin a world, and where none goes on. Other crates may cite these lemmas.
 use Rattle.std.proofs.Common.{◌≡◌, ◌≢◌, ℕ, ℤ, pos, List, [], ◌∷◌, ◌++◌, refl, sym, ap, subst, ◌∙◌, inl, inr, append_assoc, append-nil, ◌⊎◌}
 use Rattle.std.specs.Prelude.{codes}
 use Rattle.desk_base.specs.Moments.{IsMoment}
