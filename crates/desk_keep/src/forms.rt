@@ -8,12 +8,9 @@ ghost use Rattle.desk_keep.specs.Forms.{Fits, IsResult, IsRowOfReport};
 use crate::{Change, ResultRow};
 use act_rules::{Note, Outcome};
 use desk_base::LAST_MOMENT;
-use line_forms::read_name;
+use line_forms::{LAST_ID, read_name};
 use rel_lexer::Text;
 use report_text::ReportRow;
-
-/// The last id, the last version of a site and the last number of a report: 2^53.
-const LAST_ID: u64 = 9_007_199_254_740_992;
 
 impl Change {
     /// Whether its names, numbers and moments have their forms.

@@ -29,8 +29,8 @@ pub use lines::{
 };
 pub use name::{read_name, read_rest};
 pub use number::{
-    one_number, one_signed_number, read_i64, read_id, read_moment, read_number, read_offset,
-    read_u32, write_number, write_signed_number,
+    LAST_ID, one_number, one_signed_number, read_i64, read_id, read_moment, read_number,
+    read_offset, read_u32, write_number, write_signed_number,
 };
 pub use path::{a_path_is_its_parts, last_part, read_part, read_path};
 pub use version::{VersionNumbers, a_version_is_its_numbers, read_version, version_numbers};

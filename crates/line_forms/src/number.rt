@@ -10,8 +10,8 @@ pub use desk_base::decimal as write_number;
 use itoa::{Buffer, Integer};
 use std::alloc::AllocError;
 
-/// The last id, and the last version of a site: 2^53.
-const LAST_ID: u64 = 9_007_199_254_740_992;
+/// The last id, the last version of a site and the last number of a report: 2^53.
+pub const LAST_ID: u64 = 9_007_199_254_740_992;
 
 /// The farthest offset from UTC, in minutes, to the east and to the west.
 const FARTHEST_OFFSET: i64 = 840;

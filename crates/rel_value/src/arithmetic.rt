@@ -8,9 +8,7 @@ ghost use Rattle.rel_value.specs.Signs.{difference, divided, negated, product, q
 
 use crate::operand::Operand;
 use crate::{Value, ValueFault};
-
-/// The last moment, in seconds since 1970-01-01 00:00:00 UTC.
-pub(crate) const LAST_MOMENT: i64 = 137_438_953_472;
+use desk_base::LAST_MOMENT;
 
 fn integer(number: Option<i64>) -> Result<Value, ValueFault>
     ensures value { (z : ℤ) → SomeIff number (FitsSigned w64 z) z → Answers (whole z) result }

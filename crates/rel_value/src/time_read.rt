@@ -4,9 +4,9 @@ ghost use Rattle.line_forms.specs.Numbers.{IsOffset};
 ghost use Rattle.rel_value.specs.Spellings.{month_name, shown_seconds, time_text};
 ghost use Rattle.rel_value.specs.TimesRead.{time_of};
 
-use crate::arithmetic::LAST_MOMENT;
 use crate::calendar::days_to;
 use crate::time_text::{SECONDS_OF_1969, write_time};
+use desk_base::LAST_MOMENT;
 use rel_lexer::Text;
 use std::alloc::{AllocError, Global};
 

@@ -10,7 +10,7 @@ ghost use Rattle.server_core.specs.Inside.{AnswersEntry, is_plain};
 
 use crate::action_state::{before_state, is_stopped, stopped_text};
 use crate::actionsite::longest_actionsite;
-use crate::keeping::{LAST_VERSION, next_version, put, version_row};
+use crate::keeping::{next_version, put, version_row};
 use crate::limits::Limits;
 use crate::looking::{actions_of, count_of, row_of};
 use crate::reply::Reply;
@@ -18,6 +18,7 @@ use crate::stop::Stop;
 use desk_base::Bytes;
 use desk_keep::{Change, Find, Keeper, Table};
 use fix_site::Action;
+use line_forms::LAST_ID;
 use sha2::{Digest, Sha256};
 use std::alloc::Global;
 
@@ -77,7 +78,7 @@ fn issue_new_action<K: Keeper>(
         return Ok(full);
     }
     let Some(version) = next_version(alloc, keeper)? else {
-        return Ok(Reply::Full(LAST_VERSION));
+        return Ok(Reply::Full(LAST_ID));
     };
     let row = Change::Action {
         id: action.id,
@@ -138,7 +139,7 @@ pub(crate) fn stop_action<K: Keeper>(alloc: Global, keeper: &mut K, id: u64) -> 
         return Ok(Reply::Again);
     }
     let Some(version) = next_version(alloc, keeper)? else {
-        return Ok(Reply::Full(LAST_VERSION));
+        return Ok(Reply::Full(LAST_ID));
     };
     let row = Change::Action {
         id,

@@ -11,11 +11,9 @@ use crate::looking::actions_version;
 use crate::stop::Stop;
 use desk_base::Bytes;
 use desk_keep::{Applied, Change, Keeper};
+use line_forms::LAST_ID;
 use rel_lexer::Text;
 use std::alloc::{AllocError, Global};
-
-/// The last version of a site: 2^53.
-pub(crate) const LAST_VERSION: u64 = 9_007_199_254_740_992;
 
 /// Puts rows, all of them or none.
 pub(crate) fn put<K: Keeper>(keeper: &mut K, batch: &[Change]) -> Result<(), Stop>
@@ -45,7 +43,7 @@ pub(crate) fn next_version<K: Keeper>(alloc: Global, keeper: &mut K) -> Result<O
         (λ rows. IfNone next (2 ^ 53 ≤ actions_version rows))) }
 {
     let version = actions_version(alloc, keeper)?;
-    if version >= LAST_VERSION {
+    if version >= LAST_ID {
         return Ok(None);
     }
     Ok(Some(version + 1))
