@@ -4,8 +4,8 @@ ghost use Rattle.rel_lexer.specs.Bytes.{NotNext, begins_word, is_blank};
 ghost use Rattle.rel_lexer.specs.Runs.{passes};
 ghost use Rattle.rel_lexer.specs.Reads.{SplitsRun};
 
-/// Space, tab, CR or LF.
-pub(crate) fn is_blank(byte: u8) -> bool
+/// Whether a byte is a blank of questions: space, tab, CR or LF.
+pub fn is_blank(byte: u8) -> bool
     ensures { result ≡ is_blank byte }
 {
     byte == b' ' || byte == b'\t' || byte == b'\r' || byte == b'\n'

@@ -17,6 +17,7 @@ mod token;
 mod token_list;
 mod word;
 
+pub use bytes::is_blank;
 pub use error::LexError;
 pub use law::lexed_in_one_way;
 pub use lexer::tokens;

@@ -3,7 +3,8 @@ use Rattle.std.proofs.Common.{◌≡◌, ℕ, ◌+◌, ◌-◌, ◌<◌, ◌≤�
 use Rattle.std.specs.List.{list_all}
 use Rattle.std.proofs.lemmas.Bool.Decides.{nat_tests}
 use Rattle.std.proofs.lemmas.List.{take_more, take_all}
-use Rattle.rel_value.specs.Casts.{is_blank, without_front, without_back}
+use Rattle.rel_lexer.specs.Bytes.{is_blank}
+use Rattle.rel_value.specs.Casts.{without_front, without_back}
 
 pub blank-ascii : (b : ℕ) → is_blank b ≡ true → b < 128
 blank-ascii b h = grind (arith, nat_tests)

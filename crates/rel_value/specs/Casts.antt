@@ -1,9 +1,10 @@
 -- The casts: what each gives for its operand.
-use Rattle.std.specs.Prelude.{ℕ, ◌==◌, ℤ, pos, neg_ℤ, Bool, true, false, ◌&&◌, ◌||◌, nat_lt, nat_eq, if◌then◌else◌, List, [], ◌∷◌, length, map, Option, Some, None, codes}
+use Rattle.std.specs.Prelude.{ℕ, ◌==◌, ℤ, pos, neg_ℤ, Bool, true, false, ◌&&◌, nat_lt, nat_eq, if◌then◌else◌, List, [], ◌∷◌, length, map, Option, Some, None, codes}
 use Rattle.std.specs.Char.{is_ascii_digit, to_ascii_lowercase, to_ascii_uppercase}
 use Rattle.std.specs.List.{list_all}
 use Rattle.std.specs.Str.Parse.{digits_value}
 use Rattle.std.specs.Cmp.Lexicographic.{pointwise}
+use Rattle.rel_lexer.specs.Bytes.{is_blank}
 use Rattle.rel_value.specs.declared.cast_name.Cast.{Cast}
 use Rattle.rel_value.specs.declared.cast_name.Cast.TheVariants as to
 use Rattle.rel_value.specs.declared.fault.ValueFault.TheVariants.{Absent}
@@ -55,10 +56,6 @@ boolean_read lowered =
 abbrev pub time_read : Option ℕ → Outcome
 time_read None = fails Absent
 time_read (Some moment) = gives (time (pos moment))
-
--- space, tab, CR and LF
-abbrev pub is_blank : ℕ → Bool
-is_blank byte = (byte == 32) || (byte == 9) || (byte == 13) || (byte == 10)
 
 -- the text from its first byte on that is no blank
 abbrev pub without_front : List ℕ → List ℕ

@@ -1,17 +1,13 @@
 ghost use Rattle.std.specs.Prelude.{◌≡◌};
-ghost use Rattle.rel_value.specs.Casts.{is_blank, without_back, without_front};
+ghost use Rattle.rel_value.specs.Casts.{without_back, without_front};
+
+use rel_lexer::is_blank;
 
 /// The text without blanks at both ends: space, tab, CR and LF.
 pub(crate) fn trimmed(text: &str) -> &str
     ensures { result.now ≡ without_back (without_front text.now) }
 {
     without_back(without_front(text))
-}
-
-fn is_blank(byte: u8) -> bool
-    ensures { result ≡ is_blank byte }
-{
-    byte == b' ' || byte == b'\t' || byte == b'\r' || byte == b'\n'
 }
 
 fn without_front(text: &str) -> &str

@@ -1,6 +1,7 @@
 use Rattle.std.proofs.Common.{◌≡◌, ◌-◌, true, false, get_or, take, length, sym, ap, ◌∙◌, arith}
 use Rattle.std.specs.List.{slice_range}
-use Rattle.rel_value.specs.Casts.{is_blank, without_back}
+use Rattle.rel_lexer.specs.Bytes.{is_blank}
+use Rattle.rel_value.specs.Casts.{without_back}
 use Rattle.rel_value.proofs.Trims.{back-step, back-stop}
 use Rattle.rel_value.proofs.trim.without_back.Goals as goal
 

@@ -1,6 +1,6 @@
 use Rattle.std.proofs.Common.{◌≡◌, true, get_or, sym, ap, ◌∙◌}
 use Rattle.std.proofs.lemmas.Str.{IsCharBoundary-after_ascii}
-use Rattle.rel_value.specs.Casts.{is_blank}
+use Rattle.rel_lexer.specs.Bytes.{is_blank}
 use Rattle.rel_value.proofs.Trims.{blank-ascii}
 use Rattle.rel_value.proofs.trim.without_front.Goals as goal
 
