@@ -1,3 +1,6 @@
+ghost use Rattle.std.specs.Prelude.{◌≡◌};
+ghost use Rattle.rel_lexer.specs.OperatorWords.{sign_words, unary_words};
+
 /// An operator between two operands, one for each spelling.
 #[derive(Clone, Copy, Debug, PartialEq, Eq)]
 pub enum BinarySign {
@@ -53,6 +56,41 @@ pub enum BinarySign {
     Mod,
 }
 
+impl BinarySign {
+    /// The words of the sign, in lower case and joined by one space.
+    pub fn words(self) -> &'static str
+        ensures { result.now ≡ sign_words self }
+    {
+        match self {
+            BinarySign::Bar => "|",
+            BinarySign::Or => "or",
+            BinarySign::And => "and",
+            BinarySign::Equal => "=",
+            BinarySign::NotEqual => "!=",
+            BinarySign::Less => "<",
+            BinarySign::LessOrEqual => "<=",
+            BinarySign::Greater => ">",
+            BinarySign::GreaterOrEqual => ">=",
+            BinarySign::Is => "is",
+            BinarySign::IsNot => "is not",
+            BinarySign::IsContainedBy => "is contained by",
+            BinarySign::IsNotContainedBy => "is not contained by",
+            BinarySign::Contains => "contains",
+            BinarySign::StartsWith => "starts with",
+            BinarySign::EndsWith => "ends with",
+            BinarySign::DoesNotContain => "does not contain",
+            BinarySign::DoesNotStartWith => "does not start with",
+            BinarySign::DoesNotEndWith => "does not end with",
+            BinarySign::Plus => "+",
+            BinarySign::Minus => "-",
+            BinarySign::Join => "&",
+            BinarySign::Times => "*",
+            BinarySign::Over => "/",
+            BinarySign::Mod => "mod",
+        }
+    }
+}
+
 /// An operator before its one operand, one for each spelling.
 #[derive(Clone, Copy, Debug, PartialEq, Eq)]
 pub enum UnarySign {
@@ -64,4 +102,18 @@ pub enum UnarySign {
     Exist,
     /// `-`
     Minus,
+}
+
+impl UnarySign {
+    /// The word of the sign.
+    pub fn words(self) -> &'static str
+        ensures { result.now ≡ unary_words self }
+    {
+        match self {
+            UnarySign::Not => "not",
+            UnarySign::Exists => "exists",
+            UnarySign::Exist => "exist",
+            UnarySign::Minus => "-",
+        }
+    }
 }

@@ -19,7 +19,8 @@ use Rattle.rel_types.specs.Outcomes.{Checked, after, defined, fitting}
 use Rattle.rel_types.specs.Alike.{same_kind}
 use Rattle.rel_types.specs.Heads.{head_of}
 use Rattle.rel_types.specs.Casts.{cast_of}
-use Rattle.rel_types.specs.Signs.{unary_words, unary_kind}
+use Rattle.rel_lexer.specs.OperatorWords.{unary_words}
+use Rattle.rel_types.specs.Signs.{unary_kind}
 use Rattle.rel_types.specs.Typing.{ask_singular, ask_kind, ask_like, singular, truth, same_branch, operand, linked_kind, Chained, one_more_link, Casted, with_cast, one_more_cast, typed_casts, it_inside, one_more, one_more_like, named_node, body_node, choice_node, held, typed, typed_argument, typed_object, typed_filter, typed_links, typed_parts, typed_alike}
 use Rattle.rel_nodes.specs.Spans.{begin_of, casts_end, end_of, held_end, links_end, nodes_begin, nodes_end, span_of_node}
 

@@ -180,10 +180,8 @@ fn write_unary(sign: UnarySign, pen: &mut Pen) -> Result<(), AllocError>
     ensures { IfOk result (λ _. pen.new ≡ written_unary sign pen.old) }
 {
     match sign {
-        UnarySign::Not => pen.words("not"),
-        UnarySign::Exists => pen.words("exists"),
-        UnarySign::Exist => pen.words("exist"),
         UnarySign::Minus => pen.sign(Sign::Minus),
+        _ => pen.words(sign.words()),
     }
 }
 
@@ -192,29 +190,17 @@ fn write_binary(sign: BinarySign, pen: &mut Pen) -> Result<(), AllocError>
 {
     match sign {
         BinarySign::Bar => pen.sign(Sign::Bar),
-        BinarySign::Or => pen.words("or"),
-        BinarySign::And => pen.words("and"),
         BinarySign::Equal => pen.sign(Sign::Equal),
         BinarySign::NotEqual => pen.sign(Sign::NotEqual),
         BinarySign::Less => pen.sign(Sign::Less),
         BinarySign::LessOrEqual => pen.sign(Sign::LessOrEqual),
         BinarySign::Greater => pen.sign(Sign::Greater),
         BinarySign::GreaterOrEqual => pen.sign(Sign::GreaterOrEqual),
-        BinarySign::Is => pen.words("is"),
-        BinarySign::IsNot => pen.words("is not"),
-        BinarySign::IsContainedBy => pen.words("is contained by"),
-        BinarySign::IsNotContainedBy => pen.words("is not contained by"),
-        BinarySign::Contains => pen.words("contains"),
-        BinarySign::StartsWith => pen.words("starts with"),
-        BinarySign::EndsWith => pen.words("ends with"),
-        BinarySign::DoesNotContain => pen.words("does not contain"),
-        BinarySign::DoesNotStartWith => pen.words("does not start with"),
-        BinarySign::DoesNotEndWith => pen.words("does not end with"),
         BinarySign::Plus => pen.sign(Sign::Plus),
         BinarySign::Minus => pen.sign(Sign::Minus),
         BinarySign::Join => pen.sign(Sign::Ampersand),
         BinarySign::Times => pen.sign(Sign::Times),
         BinarySign::Over => pen.sign(Sign::Slash),
-        BinarySign::Mod => pen.words("mod"),
+        _ => pen.words(sign.words()),
     }
 }

@@ -21,7 +21,8 @@ use Rattle.rel_types.specs.Outcomes.{Checked, after, defined, fitting}
 use Rattle.rel_types.specs.Alike.{same_kind, same_kinds}
 use Rattle.rel_types.specs.Heads.{head_of}
 use Rattle.rel_types.specs.Casts.{CastTaken, cast_named, cast_taken, cast_of}
-use Rattle.rel_types.specs.Signs.{sign_words, unary_words, unary_kind}
+use Rattle.rel_lexer.specs.OperatorWords.{sign_words, unary_words}
+use Rattle.rel_types.specs.Signs.{unary_kind}
 use Rattle.rel_types.specs.Typing.{ask_singular, ask_kind, ask_like, singular, truth, same_branch, operand, linked_kind, Chained, one_more_link, Casted, with_cast, one_more_cast, typed_casts, it_inside, one_more, one_more_like, named_node, body_node, choice_node, held, typed, typed_argument, typed_object, typed_filter, typed_links, typed_parts, typed_alike}
 use Rattle.rel_types.specs.Agreement.{IsSingular, CastsAgree, SignAgrees, OperandAgrees, AreOf, Agrees, ArgumentAgrees, ObjectAgrees, FilterAgrees, LinksAgree, NodesAgree}
 

@@ -5,7 +5,8 @@ use Rattle.rel_lexer.specs.declared.operator.UnarySign.{UnarySign}
 use Rattle.rel_grammar.specs.declared.casts.CastTo.{CastTo}
 use Rattle.rel_types.specs.Plans.{PlainNode, node, kind_of, cast, unary, tuple, collection, Nodes, first_kind, tuple_kind, any_plural}
 use Rattle.rel_types.specs.Outcomes.{Checked, after, defined, fitting}
-use Rattle.rel_types.specs.Signs.{unary_words, unary_kind}
+use Rattle.rel_lexer.specs.OperatorWords.{unary_words}
+use Rattle.rel_types.specs.Signs.{unary_kind}
 use Rattle.rel_types.specs.Typing.{typed_casts}
 
 abbrev pub casted : PlainNode → List CastTo → Checked PlainNode

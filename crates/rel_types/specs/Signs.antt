@@ -1,45 +1,11 @@
--- The signs: their words, and the kinds that those before one operand give. What the others give is a table of values (Kinds).
-use Rattle.std.specs.Prelude.{ℕ, List, Option, Some, None, codes}
-use Rattle.rel_lexer.specs.declared.operator.BinarySign.{BinarySign}
-use Rattle.rel_lexer.specs.declared.operator.BinarySign.TheVariants as sign
+-- The kinds that the signs before one operand give. What the others give is a table of values (Kinds).
+use Rattle.std.specs.Prelude.{Option, Some, None}
 use Rattle.rel_lexer.specs.declared.operator.UnarySign.{UnarySign}
 use Rattle.rel_lexer.specs.declared.operator.UnarySign.TheVariants as one_operand
 use Rattle.rel_value.specs.Plain.{PlainKind, booleans}
 use Rattle.rel_value.specs.Kinds.{Sort, truths, sort_of, negated_kind}
 
-abbrev pub sign_words : BinarySign → List ℕ
-sign_words sign.Bar = codes "|"
-sign_words sign.Or = codes "or"
-sign_words sign.And = codes "and"
-sign_words sign.Equal = codes "="
-sign_words sign.NotEqual = codes "!="
-sign_words sign.Less = codes "<"
-sign_words sign.LessOrEqual = codes "<="
-sign_words sign.Greater = codes ">"
-sign_words sign.GreaterOrEqual = codes ">="
-sign_words sign.Is = codes "is"
-sign_words sign.IsNot = codes "is not"
-sign_words sign.IsContainedBy = codes "is contained by"
-sign_words sign.IsNotContainedBy = codes "is not contained by"
-sign_words sign.Contains = codes "contains"
-sign_words sign.StartsWith = codes "starts with"
-sign_words sign.EndsWith = codes "ends with"
-sign_words sign.DoesNotContain = codes "does not contain"
-sign_words sign.DoesNotStartWith = codes "does not start with"
-sign_words sign.DoesNotEndWith = codes "does not end with"
-sign_words sign.Plus = codes "+"
-sign_words sign.Minus = codes "-"
-sign_words sign.Join = codes "&"
-sign_words sign.Times = codes "*"
-sign_words sign.Over = codes "/"
-sign_words sign.Mod = codes "mod"
-
-abbrev pub unary_words : UnarySign → List ℕ
-unary_words one_operand.Not = codes "not"
-unary_words one_operand.Exists = codes "exists"
-unary_words one_operand.Exist = codes "exist"
-unary_words one_operand.Minus = codes "-"
-
+-- the kind that `not` gives, if it has a row for its operand's
 abbrev pub denied_kind : Sort → Option PlainKind
 denied_kind truths = Some booleans
 denied_kind _ = None

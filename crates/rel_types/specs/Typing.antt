@@ -19,7 +19,8 @@ use Rattle.rel_types.specs.Outcomes.{Checked, after, defined, fitting}
 use Rattle.rel_types.specs.Alike.{same_kind}
 use Rattle.rel_types.specs.Heads.{Headed, head_of}
 use Rattle.rel_types.specs.Casts.{CastTaken, cast_of}
-use Rattle.rel_types.specs.Signs.{sign_words, unary_words, unary_kind}
+use Rattle.rel_lexer.specs.OperatorWords.{sign_words, unary_words}
+use Rattle.rel_types.specs.Signs.{unary_kind}
 
 -- it is singular
 unfoldable pub ask_singular : Place → PlainNode → Checked PlainNode

@@ -7,7 +7,6 @@ ghost use Rattle.rel_types.specs.Views.{shown_node, shown_nodes};
 ghost use Rattle.rel_value.specs.Views.{shown_kind};
 
 use crate::alike::same_kind;
-use crate::sign_words::sign_words;
 use crate::{Node, NodeList, TypeError};
 use rel_lexer::{BinarySign, Place, Text};
 use rel_value::{Kind, binary_kind};
@@ -88,7 +87,7 @@ pub(crate) fn linked_kind(
         BinarySign::Bar => shared_kind(left, span, right),
         _ => match binary_kind(sign, &left, &right.kind) {
             Some(kind) => Ok(kind),
-            None => Err(not_defined(alloc, place, sign_words(sign))),
+            None => Err(not_defined(alloc, place, sign.words())),
         },
     }
 }

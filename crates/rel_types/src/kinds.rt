@@ -3,7 +3,8 @@ ghost use Rattle.std.specs.Prelude.{◌≡◌, codes, option_map};
 ghost use Rattle.rel_types.specs.Heads.{head_of};
 ghost use Rattle.rel_types.specs.Outcomes.{Answers, defined, fitting};
 ghost use Rattle.rel_types.specs.Plans.{first_kind, kind_of, tuple_kind};
-ghost use Rattle.rel_types.specs.Signs.{denied_kind, unary_kind, unary_words};
+ghost use Rattle.rel_lexer.specs.OperatorWords.{unary_words};
+ghost use Rattle.rel_types.specs.Signs.{denied_kind, unary_kind};
 ghost use Rattle.rel_types.specs.Tables.{shown_headed};
 ghost use Rattle.rel_types.specs.Views.{shown_held, shown_lent, shown_node, shown_nodes};
 ghost use Rattle.rel_value.specs.Kinds.{sort_of};
@@ -11,7 +12,6 @@ ghost use Rattle.rel_value.specs.Views.{shown_kind};
 
 use crate::ask::not_defined;
 use crate::naming::{Headed, head_of};
-use crate::sign_words::unary_words;
 use crate::{Node, NodeList, TypeError};
 use rel_lexer::{Place, UnarySign};
 use rel_value::{Kind, negated_kind};
@@ -57,7 +57,7 @@ pub(crate) fn signed_kind(
 {
     match unary_kind(sign, &right.kind) {
         Some(kind) => Ok(kind),
-        None => Err(not_defined(alloc, place, unary_words(sign))),
+        None => Err(not_defined(alloc, place, sign.words())),
     }
 }
 

@@ -23,7 +23,6 @@ mod plan;
 mod properties;
 mod row;
 mod scalar;
-mod sign_words;
 mod typing;
 
 pub use cast_steps::{CastStep, CastSteps};
