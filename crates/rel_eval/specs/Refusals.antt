@@ -1,9 +1,11 @@
--- The refusals of the layers below, as refusals of a question.
-use Rattle.std.specs.Prelude.{◌≡◌}
+-- The refusals of the layers below, as refusals of a question, and what is told of one without its words.
+use Rattle.std.specs.Prelude.{◌≡◌, Option, Some, None}
 use Rattle.rel_eval.specs.declared.refusal.Refusal.{Refusal}
 use Rattle.rel_eval.specs.declared.refusal.Refusal.TheVariants.{At, NotDefined, Memory}
+use Rattle.rel_eval.specs.declared.refusal.Located.{Located}
 use Rattle.rel_trace.specs.declared.kind.RelKind.{RelKind}
 use Rattle.rel_trace.specs.declared.kind.RelKind.TheVariants.{BadByte, BadEscape, UnclosedString, UnclosedComment, TooLong, NoParse, TooDeep, NotSingular, Incompatible, BadNumber}
+use Rattle.rel_trace.specs.declared.kind.RelKind.TheVariants as of_kind
 use Rattle.rel_lexer.specs.declared.place.Place.{Place}
 use Rattle.rel_lexer.specs.declared.error.LexError.{LexError}
 use Rattle.rel_lexer.specs.declared.error.LexError.TheVariants as lex
@@ -56,3 +58,9 @@ abbrev pub IsRefusalOfChecker : TypeError → Refusal → Type 0
 IsRefusalOfChecker error (At kind place) = IsTypeRefusal error kind place
 IsRefusalOfChecker error (NotDefined place words) = error ≡ typing.NotDefined place words
 IsRefusalOfChecker error Memory = error ≡ typing.Memory
+
+-- What a refusal is for and where, without its words. Want of memory is for nothing in the text.
+abbrev pub located : Refusal → Option Located
+located (At kind place) = Some (record { kind = kind; place = place })
+located (NotDefined place words) = Some (record { kind = of_kind.NotDefined; place = place })
+located Memory = None

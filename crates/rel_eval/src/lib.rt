@@ -19,7 +19,7 @@ pub use laws::one_plan;
 pub use one_texts::one_text;
 pub use place_text::write_place;
 pub use question::{Question, prepare};
-pub use refusal::Refusal;
+pub use refusal::{Located, Refusal};
 pub use rel_trace::RelKind;
 pub use taker::{Ended, Take, Taker};
 pub use told::{OneText, Truth};

@@ -1,4 +1,5 @@
 ghost use Rattle.std.specs.Prelude.{◌≡◌};
+ghost use Rattle.rel_eval.specs.Refusals.{located};
 ghost use Rattle.rel_eval.specs.declared.refusal.Refusal.TheVariants.{Memory};
 
 use rel_grammar::ParseError;
@@ -17,6 +18,32 @@ pub enum Refusal {
     NotDefined(Place, Text),
     /// Memory ran out.
     Memory,
+}
+
+/// A kind of error, and its place.
+#[derive(Clone, Copy)]
+pub struct Located {
+    pub kind: RelKind,
+    pub place: Place,
+}
+
+impl Refusal {
+    /// What it is for and where, without the words that it may have; None for want of memory.
+    pub fn located(&self) -> Option<Located>
+        ensures { result ≡ located self.now }
+    {
+        match self {
+            Refusal::At(kind, place) => Some(Located {
+                kind: *kind,
+                place: *place,
+            }),
+            Refusal::NotDefined(place, _) => Some(Located {
+                kind: RelKind::NotDefined,
+                place: *place,
+            }),
+            Refusal::Memory => None,
+        }
+    }
 }
 
 /// The place of what stands nowhere in the text.

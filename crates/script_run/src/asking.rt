@@ -9,7 +9,7 @@ ghost use Rattle.script_run.specs.Fills.{Unread, UnreadTest};
 ghost use Rattle.script_run.specs.Machines.{view};
 
 use bf_machine::Machine;
-use rel_eval::{OneText, Refusal, RelKind, Truth, one_text, prepare, truth};
+use rel_eval::{OneText, Refusal, Truth, one_text, prepare, truth};
 use rel_inspect::Scene;
 use rel_lexer::Text;
 use std::alloc::Global;
@@ -39,10 +39,9 @@ fn unread(refusal: &Refusal) -> OneText
     ensures reads { (text : List ℕ) → Prepares text (Err refusal.now) → Unread text result }
     ensures cause { (old new : ℕ) → TextHasCause old new result }
 {
-    match refusal {
-        Refusal::At(kind, place) => OneText::Error(*kind, *place),
-        Refusal::NotDefined(place, _) => OneText::Error(RelKind::NotDefined, *place),
-        Refusal::Memory => OneText::Memory,
+    match refusal.located() {
+        Some(found) => OneText::Error(found.kind, found.place),
+        None => OneText::Memory,
     }
 }
 
@@ -66,9 +65,8 @@ fn unread_test(refusal: &Refusal) -> Truth
     ensures reads { (text : List ℕ) → Prepares text (Err refusal.now) → UnreadTest text result }
     ensures cause { (old new : ℕ) → TruthHasCause old new result }
 {
-    match refusal {
-        Refusal::At(kind, place) => Truth::Error(*kind, *place),
-        Refusal::NotDefined(place, _) => Truth::Error(RelKind::NotDefined, *place),
-        Refusal::Memory => Truth::Memory,
+    match refusal.located() {
+        Some(found) => Truth::Error(found.kind, found.place),
+        None => Truth::Memory,
     }
 }

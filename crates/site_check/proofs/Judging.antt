@@ -1,25 +1,34 @@
 -- What a piece is refused for, and which of several pieces.
-use Rattle.std.proofs.Common.{◌≡◌, ℕ, ◌<◌, suc, List, [], ◌∷◌, length, take, drop, get_or, All, Some, refl, sym, subst, ◌+◌}
+use Rattle.std.proofs.Common.{◌≡◌, ℕ, ◌<◌, suc, List, [], ◌∷◌, length, take, drop, get_or, All, Some, Err, refl, sym, subst, ◌+◌}
 use Rattle.std.proofs.Math.Seq.{split_at}
 use Rattle.std.proofs.lemmas.List.{take_more}
+use Rattle.std.proofs.lemmas.Option.{same_Some}
 use Rattle.std.proofs.lemmas.List.Elements.{All-nil, All-cons, All-append}
 use Rattle.rel_lexer.specs.declared.place.Place.{Place}
 use Rattle.rel_types.specs.Plans.{PlainNode}
 use Rattle.rel_nodes.specs.Spans.{span_of_node}
 use Rattle.rel_trace.specs.declared.kind.RelKind.{RelKind}
 use Rattle.rel_trace.specs.declared.kind.RelKind.TheVariants.{NotDefined}
-use Rattle.rel_eval.specs.Questions.{IsPlanOf, IsRefusedAs, IsUndefined, question, refused, undefined}
+use Rattle.rel_eval.specs.declared.refusal.Located.{Located}
+use Rattle.rel_eval.specs.declared.refusal.Refusal.{Refusal}
+use Rattle.rel_eval.specs.declared.refusal.Refusal.TheVariants as refusals
+use Rattle.rel_eval.specs.Answers.{Prepares}
+use Rattle.rel_eval.specs.Questions.{IsPlanOf, question, refused, undefined}
+use Rattle.rel_eval.specs.Refusals.{located}
 use Rattle.fix_site.specs.declared.piece.Piece.{Piece}
 use Rattle.site_check.specs.declared.refusal.PieceRefusal.{PieceRefusal}
-use Rattle.site_check.specs.declared.refusal.QuestionFault.{QuestionFault}
-use Rattle.site_check.specs.Pieces.{IsNoTruth, IsGoodPiece, IsRefusedPiece, IsWrongQuestion, JudgesQuestion}
+use Rattle.site_check.specs.Pieces.{IsNoTruth, IsGoodPiece, IsRefusedPiece, IsWrongQuestion}
 use Rattle.site_check.specs.Findings.{FirstRefused}
 
-pub refused_is_judged : (text : List ℕ) (fault : QuestionFault) → IsRefusedAs text fault.kind fault.place → JudgesQuestion text (Some fault)
-refused_is_judged text fault h = (refused fault.kind fault.place, h, (refl, refl))
-
-pub undefined_is_judged : (text : List ℕ) (place : Place) (words : List ℕ) → IsUndefined text place words → IsWrongQuestion text NotDefined place
-undefined_is_judged text place words h = (undefined place words, h, (refl, refl))
+-- what a text is refused for is what is wrong with it
+pub located_is_judged : (text : List ℕ) (refusal : Refusal) (found : Located) → Some found ≡ located refusal → Prepares text (Err refusal) → IsWrongQuestion text found.kind found.place
+located_is_judged text (refusals.At kind place) found is h =
+    let same : Located = record { kind = kind; place = place } in
+    subst (λ (x : Located). IsWrongQuestion text x.kind x.place) (sym (same_Some found same is)) (refused kind place, h, (refl, refl))
+located_is_judged text (refusals.NotDefined place words) found is h =
+    let same : Located = record { kind = NotDefined; place = place } in
+    subst (λ (x : Located). IsWrongQuestion text x.kind x.place) (sym (same_Some found same is)) (undefined place words, h, (refl, refl))
+located_is_judged text refusals.Memory found is h = absurd (cc)
 
 pub no_truth_is_judged : (text : List ℕ) (plan : PlainNode) (kind : RelKind) (place : Place) → IsPlanOf text plan → IsNoTruth plan kind → place ≡ span_of_node plan → IsWrongQuestion text kind place
 no_truth_is_judged text plan kind place h wrong at = (question plan, h, (wrong, at))

@@ -63,17 +63,13 @@ pub fn question_fault(alloc: Global, text: &str) -> Result<Option<QuestionFault>
 fn unprepared(refusal: &Refusal) -> Result<QuestionFault, AllocError>
     ensures { IfOk result (λ fault. (text : List ℕ) → Prepares text (Err refusal.now) → JudgesQuestion text (Some fault)) }
 {
-    match refusal {
-        Refusal::At(kind, place) => Ok(QuestionFault {
-            kind: *kind,
-            place: *place,
-        }),
-        Refusal::NotDefined(place, _) => Ok(QuestionFault {
-            kind: RelKind::NotDefined,
-            place: *place,
-        }),
-        Refusal::Memory => Err(AllocError),
-    }
+    let Some(found) = refusal.located() else {
+        return Err(AllocError);
+    };
+    Ok(QuestionFault {
+        kind: found.kind,
+        place: found.place,
+    })
 }
 
 /// Why a question asks for no truth.

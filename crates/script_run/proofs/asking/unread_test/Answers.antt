@@ -1,15 +1,24 @@
-use Rattle.std.proofs.Common.{Err, subst, refl, inl}
+use Rattle.std.proofs.Common.{◌≡◌, ℕ, List, Some, Err, refl, ap, inl}
+use Rattle.std.proofs.lemmas.Option.{same_Some}
+use Rattle.rel_eval.specs.declared.refusal.Located.{Located}
 use Rattle.rel_eval.specs.declared.refusal.Refusal.{Refusal}
+use Rattle.rel_eval.specs.declared.refusal.Refusal.TheVariants as refusals
+use Rattle.rel_eval.specs.declared.told.Truth.TheVariants as truth
 use Rattle.rel_eval.specs.Answers.{Prepares}
 use Rattle.rel_eval.specs.Questions.{refused, undefined}
+use Rattle.rel_eval.specs.Refusals.{located}
+use Rattle.rel_trace.specs.declared.kind.RelKind.TheVariants as of_kind
+use Rattle.script_run.specs.Fills.{UnreadTest}
 use Rattle.script_run.proofs.asking.unread_test.Goals as goal
 
-pub returns-in-At-clause-reads : goal.returns-in-At-clause-reads
-returns-in-At-clause-reads c = λ text h world scene looked.
-    let P : Refusal → Type 0 = λ r. Prepares text (Err r) in
-    inl (refused c.in-At.kind c.in-At.place, subst P c.in-At.is h, (refl, refl))
+told : (text : List ℕ) (refusal : Refusal) (found : Located) → Some found ≡ located refusal → Prepares text (Err refusal) → UnreadTest text (truth.Error found.kind found.place)
+told text (refusals.At kind place) found is h =
+    let same : Located = record { kind = kind; place = place } in
+    λ world scene looked. inl (refused kind place, h, (ap (λ (x : Located). truth.Error x.kind x.place) (same_Some found same is), refl))
+told text (refusals.NotDefined place words) found is h =
+    let same : Located = record { kind = of_kind.NotDefined; place = place } in
+    λ world scene looked. inl (undefined place words, h, (ap (λ (x : Located). truth.Error x.kind x.place) (same_Some found same is), refl))
+told text refusals.Memory found is h = absurd (cc)
 
-pub returns-in-NotDefined-clause-reads : goal.returns-in-NotDefined-clause-reads
-returns-in-NotDefined-clause-reads c = λ text h world scene looked.
-    let P : Refusal → Type 0 = λ r. Prepares text (Err r) in
-    inl (undefined c.in-NotDefined.place c.in-NotDefined.field-1, subst P c.in-NotDefined.is h, (refl, refl))
+pub returns-in-Some-clause-reads : goal.returns-in-Some-clause-reads
+returns-in-Some-clause-reads c = λ text h. told text c.args.refusal.now c.in-Some.found c.in-Some.ensures h
