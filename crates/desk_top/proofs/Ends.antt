@@ -14,8 +14,8 @@ use Rattle.line_forms.specs.LineStates as states
 use Rattle.world_text.specs.Fronts.{Splits}
 use Rattle.world_text.specs.Texts.{Describes, ReadsWorld}
 use Rattle.rel_session.specs.Devices.{Devices}
-use Rattle.desk_top.specs.declared.command.Command.{Command}
-use Rattle.desk_top.specs.declared.command.Command.TheVariants.{Qna, QnaWorld, Check, Make, Help}
+use Rattle.desk_top.specs.declared.command.DeskCommand.{DeskCommand}
+use Rattle.desk_top.specs.declared.command.DeskCommand.TheVariants.{Qna, QnaWorld, Check, Make, Help}
 use Rattle.desk_top.specs.declared.status.Status.{Status}
 use Rattle.desk_top.specs.declared.status.Status.TheVariants.{Done, Usage, Refused, Source, Sink, Clock, Pocket, Keeper, Door, Memory, InputTooLong}
 use Rattle.site_check.specs.declared.finding.Finding.{Finding}
@@ -67,7 +67,7 @@ refusal_not_good one text f fixlets baselines x refusal y =
     subst Wrong (one text f (finding.Good fixlets baselines) x y (refusal_known f refusal) (λ e. cc)) refusal
 
 -- an input that a command takes isn't refused
-pub good_not_refused : OneFinding → OneFront → WorldIsRead → (k : Command) (input line : List ℕ) → IsGoodInput k input → Refuses k input line → ⊥
+pub good_not_refused : OneFinding → OneFront → WorldIsRead → (k : DeskCommand) (input line : List ℕ) → IsGoodInput k input → Refuses k input line → ⊥
 good_not_refused one front is_read Qna input line good refused = refused
 good_not_refused one front is_read QnaWorld input line good (number, bad, is) = good_not_bad front is_read input number good bad
 good_not_refused one front is_read Check input line (fixlets, baselines, good) (f, found, refusal, is) = refusal_not_good one input f fixlets baselines found refusal good
@@ -75,7 +75,7 @@ good_not_refused one front is_read (Make number) input line good refused = refus
 good_not_refused one front is_read Help input line good refused = refused
 
 -- a run over an input that the command takes is done, unless the sink failed or memory ran out
-good_is_done : (k : Command) (input : List ℕ) (status : Status) → IsTextStatus status → (status ≡ Refused → IsGoodInput k input → ⊥)
+good_is_done : (k : DeskCommand) (input : List ℕ) (status : Status) → IsTextStatus status → (status ≡ Refused → IsGoodInput k input → ⊥)
     → IsGoodInput k input → (status ≡ Sink → ⊥) → (status ≡ Done) ⊎ (status ≡ Memory)
 good_is_done k input Done is apart good no_fault = inl refl
 good_is_done k input Memory is apart good no_fault = inr refl
@@ -90,7 +90,7 @@ good_is_done k input Door is apart good no_fault = absurd is
 good_is_done k input InputTooLong is apart good no_fault = absurd is
 
 -- and one over another input is refused
-bad_is_refused : (k : Command) (input : List ℕ) (status : Status) → IsTextStatus status → (status ≡ Done → IsGoodInput k input)
+bad_is_refused : (k : DeskCommand) (input : List ℕ) (status : Status) → IsTextStatus status → (status ≡ Done → IsGoodInput k input)
     → (IsGoodInput k input → ⊥) → (status ≡ Sink → ⊥) → (status ≡ Refused) ⊎ (status ≡ Memory)
 bad_is_refused k input Done is done bad no_fault = absurd (bad (done refl))
 bad_is_refused k input Memory is done bad no_fault = inr refl
@@ -114,7 +114,7 @@ second (first ∷ word ∷ words) = word
 second words = []
 
 -- words ask for one command
-one_command : (words : List (List ℕ)) (a b : Command) → Asks words a → Asks words b → a ≡ b
+one_command : (words : List (List ℕ)) (a b : DeskCommand) → Asks words a → Asks words b → a ≡ b
 one_command words Qna Qna p q = refl
 one_command words Qna QnaWorld p q = let h = p.1 in let k = q.1 in cc
 one_command words Qna Check p q = let h = p.1 in let k = q.1 in cc
@@ -148,12 +148,12 @@ pub record TakesAll (old new : Option (List ℕ)) (taken : List ℕ) : Type 0 wh
   pub short : length taken ≤ input_limit
 
 -- a command that reads its input and asks no device
-abbrev pub IsTextCommand : Command → Type 0
+abbrev pub IsTextCommand : DeskCommand → Type 0
 IsTextCommand QnaWorld = ⊤
 IsTextCommand Check = ⊤
 IsTextCommand _ = ⊥
 
-took : (k : Command) → IsTextCommand k → (old new : Option (List ℕ)) (taken input : List ℕ) (P : List ℕ → Type 0) → input ≡ taken → TakesAll old new taken
+took : (k : DeskCommand) → IsTextCommand k → (old new : Option (List ℕ)) (taken input : List ℕ) (P : List ℕ → Type 0) → input ≡ taken → TakesAll old new taken
     → P input → TookInput k old new P
 took Qna text old new taken input P is all holds = absurd text
 took QnaWorld text old new taken input P is all holds = (taken, all.takes, all.ends, (all.short, subst P is holds))
@@ -161,53 +161,53 @@ took Check text old new taken input P is all holds = (taken, all.takes, all.ends
 took (Make number) text old new taken input P is all holds = absurd text
 took Help text old new taken input P is all holds = absurd text
 
-pub text_front : (k : Command) → IsTextCommand k → (words : List (List ℕ)) (command : Command) (old new : Option (List ℕ)) (world : Option WorldState) (taken input : List ℕ) (d d' : Devices)
+pub text_front : (k : DeskCommand) → IsTextCommand k → (words : List (List ℕ)) (command : DeskCommand) (old new : Option (List ℕ)) (world : Option WorldState) (taken input : List ℕ) (d d' : Devices)
     → Asks words k → Asks words command → input ≡ taken → TakesAll old new taken → Began k world input d d'
     → TookInput command old new (λ i. Began command world i d d')
 text_front k text words command old new world taken input d d' asked asks is all began =
-    let P : Command → Type 0 = λ m. TookInput m old new (λ i. Began m world i d d') in
+    let P : DeskCommand → Type 0 = λ m. TookInput m old new (λ i. Began m world i d d') in
     subst P (one_command words k command asked asks) (took k text old new taken input (λ i. Began k world i d d') is all began)
 
 -- a command that reads nothing
-pub made_front : (words : List (List ℕ)) (number : ℕ) (command : Command) (old : Option (List ℕ)) (world : Option WorldState) (d d' : Devices)
+pub made_front : (words : List (List ℕ)) (number : ℕ) (command : DeskCommand) (old : Option (List ℕ)) (world : Option WorldState) (d d' : Devices)
     → Asks words (Make number) → Asks words command → Began (Make number) world [] d d' → TookInput command old old (λ i. Began command world i d d')
 made_front words number command old world d d' asked asks began =
-    let P : Command → Type 0 = λ m. TookInput m old old (λ i. Began m world i d d') in
+    let P : DeskCommand → Type 0 = λ m. TookInput m old old (λ i. Began m world i d d') in
     subst P (one_command words (Make number) command asked asks) (Keeps-refl old, began)
 
-pub text_memory : (k : Command) → IsTextCommand k → (Unwritten Unasked Undated : Type 0) (old new : Option (List ℕ)) (world : Option WorldState) (taken input : List ℕ) (d d' : Devices)
+pub text_memory : (k : DeskCommand) → IsTextCommand k → (Unwritten Unasked Undated : Type 0) (old new : Option (List ℕ)) (world : Option WorldState) (taken input : List ℕ) (d d' : Devices)
     → input ≡ taken → TakesAll old new taken → Unasked → Undated → Unwritten ⊎ Began k world input d d'
     → (TookPart old new × Unwritten × Unasked × Undated) ⊎ TookInput k old new (λ i. Began k world i d d')
 text_memory k text Unwritten Unasked Undated old new world taken input d d' is all unasked undated (inl unwritten) = inl ((taken, all.takes, all.short), unwritten, unasked, undated)
 text_memory k text Unwritten Unasked Undated old new world taken input d d' is all unasked undated (inr began) = inr (took k text old new taken input (λ i. Began k world i d d') is all began)
 
-pub text_refusal : (k : Command) → IsTextCommand k → (old new : Option (List ℕ)) (taken input : List ℕ) (Written : List ℕ → Type 0)
+pub text_refusal : (k : DeskCommand) → IsTextCommand k → (old new : Option (List ℕ)) (taken input : List ℕ) (Written : List ℕ → Type 0)
     → input ≡ taken → TakesAll old new taken → IsRefused k input Written → TookInput k old new (λ i. IsRefused k i Written)
 text_refusal k text old new taken input Written is all refused = took k text old new taken input (λ i. IsRefused k i Written) is all refused
 
-pub text_complete : (k : Command) (words : List (List ℕ)) (command : Command) (old new : Option (List ℕ)) (taken input : List ℕ) (status : Status)
+pub text_complete : (k : DeskCommand) (words : List (List ℕ)) (command : DeskCommand) (old new : Option (List ℕ)) (taken input : List ℕ) (status : Status)
     → Asks words k → Asks words command → input ≡ taken → TakesAll old new taken → IsTextStatus status
     → (status ≡ Refused → IsGoodInput k input → ⊥)
     → IsSomeAnd old (λ i. (length i ≤ input_limit) × IsGoodInput command i) → (status ≡ Sink → ⊥) → (status ≡ Done) ⊎ (status ≡ Memory)
 text_complete k words command old new taken input status asked asks is all may apart left no_fault =
-    let P : Command → Type 0 = λ m. IsSomeAnd old (λ i. (length i ≤ input_limit) × IsGoodInput m i) in
+    let P : DeskCommand → Type 0 = λ m. IsSomeAnd old (λ i. (length i ≤ input_limit) × IsGoodInput m i) in
     let Good : List ℕ → Type 0 = IsGoodInput k in
     let Left : List ℕ → Type 0 = λ i. (length i ≤ input_limit) × IsGoodInput k i in
     let good = taken_is_left old new taken Left all.takes all.ends (subst P (sym (one_command words k command asked asks)) left) in
     good_is_done k input status may apart (subst Good (sym is) good.1) no_fault
 
-did_good : (k : Command) → IsTextCommand k → (world : Option WorldState) (input : List ℕ) (d d' : Devices) → Did k world input d d' → IsGoodInput k input
+did_good : (k : DeskCommand) → IsTextCommand k → (world : Option WorldState) (input : List ℕ) (d d' : Devices) → Did k world input d d' → IsGoodInput k input
 did_good Qna text world input d d' did = absurd text
 did_good QnaWorld text world input d d' did = (did.0, did.1, did.2)
 did_good Check text world input d d' did = (did.0, did.1, did.2)
 did_good (Make number) text world input d d' did = absurd text
 did_good Help text world input d d' did = absurd text
 
-pub text_refused : (k : Command) → IsTextCommand k → (words : List (List ℕ)) (command : Command) (old new : Option (List ℕ)) (world : Option WorldState) (taken input : List ℕ) (d d' : Devices) (status : Status)
+pub text_refused : (k : DeskCommand) → IsTextCommand k → (words : List (List ℕ)) (command : DeskCommand) (old new : Option (List ℕ)) (world : Option WorldState) (taken input : List ℕ) (d d' : Devices) (status : Status)
     → Asks words k → Asks words command → input ≡ taken → TakesAll old new taken → IsTextStatus status → (status ≡ Done → Did k world input d d')
     → IsSomeAnd old (λ i. (length i ≤ input_limit) × (IsGoodInput command i → ⊥)) → (status ≡ Sink → ⊥) → (status ≡ Refused) ⊎ (status ≡ Memory)
 text_refused k text words command old new world taken input d d' status asked asks is all may done left no_fault =
-    let P : Command → Type 0 = λ m. IsSomeAnd old (λ i. (length i ≤ input_limit) × (IsGoodInput m i → ⊥)) in
+    let P : DeskCommand → Type 0 = λ m. IsSomeAnd old (λ i. (length i ≤ input_limit) × (IsGoodInput m i → ⊥)) in
     let Good : List ℕ → Type 0 = IsGoodInput k in
     let Left : List ℕ → Type 0 = λ i. (length i ≤ input_limit) × (IsGoodInput k i → ⊥) in
     let bad = taken_is_left old new taken Left all.takes all.ends (subst P (sym (one_command words k command asked asks)) left) in

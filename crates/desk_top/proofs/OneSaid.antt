@@ -15,8 +15,8 @@ use Rattle.bf_machine.specs.Rises.{RoseBy}
 use Rattle.rel_session.specs.Devices.{DidAll}
 use Rattle.rel_session.specs.Lines.{lines_of}
 use Rattle.rel_session.specs.Sessions.{Answers, Asks, Run, Runs, Session, begins_with_colon, fresh}
-use Rattle.desk_top.specs.declared.command.Command.{Command}
-use Rattle.desk_top.specs.declared.command.Command.TheVariants.{Qna, QnaWorld, Check, Make, Help}
+use Rattle.desk_top.specs.declared.command.DeskCommand.{DeskCommand}
+use Rattle.desk_top.specs.declared.command.DeskCommand.TheVariants.{Qna, QnaWorld, Check, Make, Help}
 use Rattle.site_check.specs.declared.finding.Finding.TheVariants.{Good}
 use Rattle.site_check.specs.Lines.{finding_line}
 use Rattle.desk_top.proofs.Ends.{OneFinding, OneFront, refusal_known}
@@ -103,7 +103,7 @@ world_once one_run front input held a b looked keys others faults given after w 
     let OfRest : List ℕ → Type 0 = λ l. DidDescribed w l (telling held looked faults given) (telling b others faults after) in
     described_once one_run w rest held a b looked keys others faults given after did (subst OfRest same.1 (subst InWorld same.0 did'))
 
-pub bytes_once : OneRun → OneFinding → OneFront → (command : Command) (w : WorldState) (input held a b : List ℕ) (looked keys others : List Key) (faults : ℕ) (given after : List ℤ) → faults < 2 ^ 64 - 1
+pub bytes_once : OneRun → OneFinding → OneFront → (command : DeskCommand) (w : WorldState) (input held a b : List ℕ) (looked keys others : List Key) (faults : ℕ) (given after : List ℤ) → faults < 2 ^ 64 - 1
     → Did command (Some w) input (telling held looked faults given) (telling a keys faults after)
     → Did command (Some w) input (telling held looked faults given) (telling b others faults after) → a ≡ b
 bytes_once one_run one front Qna w input held a b looked keys others faults given after below did did' =
@@ -131,7 +131,7 @@ one_bad_line front input m n (text, rest, splits, (i, first, is)) (text', rest',
     is ∙ ap (λ k. min k (2 ^ 32 - 1)) (first_bad_line-one AreWorldLines text i bad.0 first bad.1) ∙ sym bad.2
 
 -- an input is refused in one way
-pub refusal_once : OneFinding → OneFront → (command : Command) (input a b : List ℕ) → Refuses command input a → Refuses command input b → a ≡ b
+pub refusal_once : OneFinding → OneFront → (command : DeskCommand) (input a b : List ℕ) → Refuses command input a → Refuses command input b → a ≡ b
 refusal_once one front Qna input a b x y = absurd x
 refusal_once one front QnaWorld input a b (m, bad, is) (n, bad', is') = is ∙ ap bad_line (one_bad_line front input m n bad bad') ∙ sym is'
 refusal_once one front Check input a b (f, found, refusal, is) (g, found', refusal', is') =

@@ -1,10 +1,10 @@
 -- The table of commands.
 use Rattle.std.specs.Prelude.{◌≡◌, ◌≤◌, ⊤, ℕ, List, [], ◌∷◌, ◌++◌, codes, decimal, flat_map}
-use Rattle.desk_top.specs.declared.command.Command.{Command}
-use Rattle.desk_top.specs.declared.command.Command.TheVariants.{Qna, QnaWorld, Check, Make, Help}
+use Rattle.desk_top.specs.declared.command.DeskCommand.{DeskCommand}
+use Rattle.desk_top.specs.declared.command.DeskCommand.TheVariants.{Qna, QnaWorld, Check, Make, Help}
 
 -- the words of a command
-abbrev pub words_of : Command → List (List ℕ)
+abbrev pub words_of : DeskCommand → List (List ℕ)
 words_of Qna = codes "qna" ∷ []
 words_of QnaWorld = codes "qna" ∷ codes "--world" ∷ []
 words_of Check = codes "check" ∷ []
@@ -12,24 +12,24 @@ words_of (Make number) = codes "make" ∷ decimal number ∷ []
 words_of Help = codes "--help" ∷ []
 
 -- the number of a command is one that it takes
-abbrev pub IsCommand : Command → Type 0
+abbrev pub IsCommand : DeskCommand → Type 0
 IsCommand (Make number) = (1 ≤ number) × (number ≤ 2000)
 IsCommand _ = ⊤
 
 -- the words ask for the command
-abbrev pub Asks : List (List ℕ) → Command → Type 0
+abbrev pub Asks : List (List ℕ) → DeskCommand → Type 0
 Asks words command = IsCommand command × (words ≡ words_of command)
 
 -- the words ask for some command, of which P holds
-abbrev pub AsksSome : List (List ℕ) → (Command → Type 0) → Type 0
-AsksSome words P = (command : Command) × Asks words command × P command
+abbrev pub AsksSome : List (List ℕ) → (DeskCommand → Type 0) → Type 0
+AsksSome words P = (command : DeskCommand) × Asks words command × P command
 
 -- the words are those of no command
 abbrev pub IsNoCommand : List (List ℕ) → Type 0
-IsNoCommand words = (command : Command) → ¬ Asks words command
+IsNoCommand words = (command : DeskCommand) → ¬ Asks words command
 
 -- the command reads the source
-abbrev pub ReadsSource : Command → Type 0
+abbrev pub ReadsSource : DeskCommand → Type 0
 ReadsSource Qna = ⊤
 ReadsSource QnaWorld = ⊤
 ReadsSource Check = ⊤

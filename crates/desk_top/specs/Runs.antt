@@ -5,8 +5,8 @@ use Rattle.std.specs.declared.result.Result.{Result}
 use Rattle.std.specs.declared.result.Result.TheVariants.{Ok, Err}
 use Rattle.std.specs.Io.KnownBytes.{Consumes, IsAtEnd, Keeps}
 use Rattle.desk_base.specs.Whole.{Took, TookAll}
-use Rattle.desk_top.specs.declared.command.Command.{Command}
-use Rattle.desk_top.specs.declared.command.Command.TheVariants.{Qna, QnaWorld, Check, Make, Help}
+use Rattle.desk_top.specs.declared.command.DeskCommand.{DeskCommand}
+use Rattle.desk_top.specs.declared.command.DeskCommand.TheVariants.{Qna, QnaWorld, Check, Make, Help}
 use Rattle.desk_top.specs.declared.status.Status.{Status}
 use Rattle.desk_top.specs.declared.status.Status.TheVariants.{InputTooLong, Source, Memory}
 
@@ -15,7 +15,7 @@ abbrev pub input_limit : ℕ
 input_limit = 8388608
 
 -- The command took its whole input, of which P holds: all that the source gave up to its end, at most the limit, or nothing.
-abbrev pub TookInput : Command → Option (List ℕ) → Option (List ℕ) → (List ℕ → Type 0) → Type 0
+abbrev pub TookInput : DeskCommand → Option (List ℕ) → Option (List ℕ) → (List ℕ → Type 0) → Type 0
 TookInput Qna old new P = TookAll old new (λ input. (length input ≤ input_limit) × P input)
 TookInput QnaWorld old new P = TookAll old new (λ input. (length input ≤ input_limit) × P input)
 TookInput Check old new P = TookAll old new (λ input. (length input ≤ input_limit) × P input)

@@ -6,8 +6,8 @@ use Rattle.desk_base.specs.Flow.{AppendsFront, AppendsSome, IsFront}
 use Rattle.rel_session.specs.Lines.{lines_of}
 use Rattle.rel_session.specs.Sessions.{Run, Runs, IsFrontOfRun, fresh}
 use Rattle.rel_session.specs.Devices.{Devices, DidAll, DidFront}
-use Rattle.desk_top.specs.declared.command.Command.{Command}
-use Rattle.desk_top.specs.declared.command.Command.TheVariants.{Qna, QnaWorld, Check, Make, Help}
+use Rattle.desk_top.specs.declared.command.DeskCommand.{DeskCommand}
+use Rattle.desk_top.specs.declared.command.DeskCommand.TheVariants.{Qna, QnaWorld, Check, Make, Help}
 use Rattle.site_check.specs.declared.finding.Finding.{Finding}
 use Rattle.site_check.specs.declared.finding.Finding.TheVariants.{Good, Memory}
 use Rattle.site_check.specs.Findings.{Finds}
@@ -27,7 +27,7 @@ DidDescribedFront w rest old new = (moments : List ℤ) × (front : Run) × IsFr
     × All (λ moment. moment ≡ w.moment) moments × (front.faults ≡ 0) × Appends old.held new.held front.bytes
 
 -- A command did all that it is to do. The questions of `qna` are answered in the offset 0, by the machine's world where that is told.
-abbrev pub Did : Command → Option WorldState → List ℕ → Devices → Devices → Type 0
+abbrev pub Did : DeskCommand → Option WorldState → List ℕ → Devices → Devices → Type 0
 Did Qna world input old new = DidAll world (pos 0) fresh (lines_of input) None old new
 Did QnaWorld world input old new = (w : WorldState) × (rest : List ℕ) × IsWorldInput input w rest × DidDescribed w rest old new
 Did Check world input old new = (fixlets baselines : ℕ) × Finds input (Good fixlets baselines) × Appends old.held new.held (finding_line (Good fixlets baselines))
@@ -41,7 +41,7 @@ IsRefusal Memory = ⊥
 IsRefusal _ = ⊤
 
 -- The command refuses the input, and this is what is said of it.
-abbrev pub Refuses : Command → List ℕ → List ℕ → Type 0
+abbrev pub Refuses : DeskCommand → List ℕ → List ℕ → Type 0
 Refuses Qna input line = ⊥
 Refuses QnaWorld input line = (number : ℕ) × IsBadInput input number × (line ≡ bad_line number)
 Refuses Check input line = (finding : Finding) × Finds input finding × IsRefusal finding × (line ≡ finding_line finding)
@@ -49,11 +49,11 @@ Refuses (Make number) input line = ⊥
 Refuses Help input line = ⊥
 
 -- The command refuses the input, and P holds of what is said of it.
-abbrev pub IsRefused : Command → List ℕ → (List ℕ → Type 0) → Type 0
+abbrev pub IsRefused : DeskCommand → List ℕ → (List ℕ → Type 0) → Type 0
 IsRefused command input P = (line : List ℕ) × Refuses command input line × P line
 
 -- A front of it was done.
-abbrev pub Began : Command → Option WorldState → List ℕ → Devices → Devices → Type 0
+abbrev pub Began : DeskCommand → Option WorldState → List ℕ → Devices → Devices → Type 0
 Began Qna world input old new = DidFront world (pos 0) fresh (lines_of input) None old new
 Began QnaWorld world input old new =
     ((w : WorldState) × (rest : List ℕ) × IsWorldInput input w rest × DidDescribedFront w rest old new)
@@ -65,7 +65,7 @@ Began (Make number) world input old new = AppendsSome old.held new.held (IsFront
 Began Help world input old new = AppendsSome old.held new.held (IsFront help_text)
 
 -- The command asks the machine and the clock.
-abbrev pub AsksDevices : Command → Type 0
+abbrev pub AsksDevices : DeskCommand → Type 0
 AsksDevices Qna = ⊤
 AsksDevices QnaWorld = ⊥
 AsksDevices Check = ⊥
@@ -73,7 +73,7 @@ AsksDevices (Make number) = ⊥
 AsksDevices Help = ⊥
 
 -- The input is one that the command does not refuse. Each line of `qna` is, and where nothing is read nothing is refused.
-abbrev pub IsGoodInput : Command → List ℕ → Type 0
+abbrev pub IsGoodInput : DeskCommand → List ℕ → Type 0
 IsGoodInput Qna input = ⊤
 IsGoodInput QnaWorld input = (w : WorldState) × (rest : List ℕ) × IsWorldInput input w rest
 IsGoodInput Check input = (fixlets baselines : ℕ) × Finds input (Good fixlets baselines)

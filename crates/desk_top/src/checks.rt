@@ -7,7 +7,7 @@ ghost use Rattle.site_check.specs.Lines.{finding_line};
 ghost use Rattle.desk_top.specs.Asked.{holding, status_of_finding, IsTextStatus};
 ghost use Rattle.desk_top.specs.Said.{Began, Did, IsGoodInput, IsRefused};
 
-use crate::{Command, Status};
+use crate::{DeskCommand, Status};
 use desk_base::{Bytes, Sink};
 use rel_session::{Halt, put};
 use site_check::{Finding, check_site, one_finding, say_finding};
@@ -15,13 +15,13 @@ use std::alloc::Global;
 
 /// Writes what is found first in the text of a site.
 pub(crate) fn check_input<W: Sink>(alloc: Global, input: &[u8], sink: &mut W) -> Status
-    ensures done { result ≡ Status.Done → Did Command.Check None input.now
+    ensures done { result ≡ Status.Done → Did DeskCommand.Check None input.now
         (holding (W.held sink.old)) (holding (W.held sink.new)) }
-    ensures refused { result ≡ Status.Refused → IsRefused Command.Check input.now (Appends (W.held sink.old) (W.held sink.new)) }
-    ensures apart { result ≡ Status.Refused → ¬ IsGoodInput Command.Check input.now }
-    ensures sink_front { result ≡ Status.Sink → Began Command.Check None input.now
+    ensures refused { result ≡ Status.Refused → IsRefused DeskCommand.Check input.now (Appends (W.held sink.old) (W.held sink.new)) }
+    ensures apart { result ≡ Status.Refused → ¬ IsGoodInput DeskCommand.Check input.now }
+    ensures sink_front { result ≡ Status.Sink → Began DeskCommand.Check None input.now
         (holding (W.held sink.old)) (holding (W.held sink.new)) }
-    ensures memory { result ≡ Status.Memory → (sink.new ≡ sink.old) ⊎ Began Command.Check None input.now
+    ensures memory { result ≡ Status.Memory → (sink.new ≡ sink.old) ⊎ Began DeskCommand.Check None input.now
         (holding (W.held sink.old)) (holding (W.held sink.new)) }
     ensures status { IsTextStatus result }
     ensures later { W.faults sink.old ≤ W.faults sink.new }

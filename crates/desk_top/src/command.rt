@@ -8,9 +8,9 @@ use rel_lexer::Text;
 /// The most computers that `make` makes.
 const MOST_COMPUTERS: u64 = 2_000;
 
-/// What the words can ask for.
+/// What the words of the command line can ask for.
 #[derive(Clone, Copy)]
-pub enum Command {
+pub enum DeskCommand {
     /// Questions to this machine: each line of the source is one, or a command that begins with `:`.
     Qna,
     /// The same of a described world, whose text the source begins with.
@@ -24,25 +24,25 @@ pub enum Command {
 }
 
 /// The command that has these words.
-pub(crate) fn command_of(words: &[Text]) -> Option<Command>
+pub(crate) fn command_of(words: &[Text]) -> Option<DeskCommand>
     ensures { MatchOption result (IsNoCommand words.now) (Asks words.now) }
 {
     if are_spelled(words, &["qna"]) {
-        return Some(Command::Qna);
+        return Some(DeskCommand::Qna);
     }
     if are_spelled(words, &["qna", "--world"]) {
-        return Some(Command::QnaWorld);
+        return Some(DeskCommand::QnaWorld);
     }
     if are_spelled(words, &["check"]) {
-        return Some(Command::Check);
+        return Some(DeskCommand::Check);
     }
     if are_spelled(words, &["--help"]) {
-        return Some(Command::Help);
+        return Some(DeskCommand::Help);
     }
     let Some(number) = number_to_make(words) else {
         return None;
     };
-    Some(Command::Make(number))
+    Some(DeskCommand::Make(number))
 }
 
 fn are_spelled(words: &[Text], spelled: &[&str]) -> bool
@@ -59,8 +59,8 @@ fn are_spelled(words: &[Text], spelled: &[&str]) -> bool
 
 /// How many computers the words ask `make` for.
 fn number_to_make(words: &[Text]) -> Option<u32>
-    ensures { MatchOption result ((number : ℕ) → ¬ Asks words.now (Command.Make number))
-        (λ number. Asks words.now (Command.Make number)) }
+    ensures { MatchOption result ((number : ℕ) → ¬ Asks words.now (DeskCommand.Make number))
+        (λ number. Asks words.now (DeskCommand.Make number)) }
 {
     let Some((word, words)) = words.split_first() else {
         return None;

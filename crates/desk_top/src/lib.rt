@@ -9,7 +9,7 @@ mod questions;
 mod status;
 mod top;
 
-pub use command::Command;
+pub use command::DeskCommand;
 pub use law::one_said;
 pub use status::Status;
 pub use top::desk;

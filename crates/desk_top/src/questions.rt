@@ -9,7 +9,7 @@ ghost use Rattle.desk_top.specs.WorldInputs.{bad_line};
 ghost use Rattle.rel_session.specs.Devices.{devices_of};
 
 use crate::described::{DescribedMachine, NoClock};
-use crate::{Command, Status};
+use crate::{DeskCommand, Status};
 use bf_machine::Machine;
 use bf_world::World;
 use desk_base::{Bytes, Clock, Sink, decimal};
@@ -25,10 +25,10 @@ pub(crate) fn ask_machine<W: Sink, M: Machine, C: Clock>(
     machine: &mut M,
     clock: &mut C,
 ) -> Status
-    ensures done { result ≡ Status.Done → Did Command.Qna (M.world machine.old) input.now
+    ensures done { result ≡ Status.Done → Did DeskCommand.Qna (M.world machine.old) input.now
         (devices_of (W.held sink.old) (M.looked machine.old) (M.faults machine.old) (C.given clock.old))
         (devices_of (W.held sink.new) (M.looked machine.new) (M.faults machine.new) (C.given clock.new)) }
-    ensures began { result ≢ Status.Done → Began Command.Qna (M.world machine.old) input.now
+    ensures began { result ≢ Status.Done → Began DeskCommand.Qna (M.world machine.old) input.now
         (devices_of (W.held sink.old) (M.looked machine.old) (M.faults machine.old) (C.given clock.old))
         (devices_of (W.held sink.new) (M.looked machine.new) (M.faults machine.new) (C.given clock.new)) }
     ensures status { IsMachineStatus result }
@@ -56,13 +56,13 @@ pub(crate) fn ask_machine<W: Sink, M: Machine, C: Clock>(
 
 /// Reads the world text that an input begins with, and answers the lines behind it by that world.
 pub(crate) fn ask_world<W: Sink>(alloc: Global, input: &[u8], sink: &mut W) -> Status
-    ensures done { result ≡ Status.Done → Did Command.QnaWorld None input.now
+    ensures done { result ≡ Status.Done → Did DeskCommand.QnaWorld None input.now
         (holding (W.held sink.old)) (holding (W.held sink.new)) }
-    ensures refused { result ≡ Status.Refused → IsRefused Command.QnaWorld input.now (Appends (W.held sink.old) (W.held sink.new)) }
-    ensures apart { result ≡ Status.Refused → ¬ IsGoodInput Command.QnaWorld input.now }
-    ensures sink_front { result ≡ Status.Sink → Began Command.QnaWorld None input.now
+    ensures refused { result ≡ Status.Refused → IsRefused DeskCommand.QnaWorld input.now (Appends (W.held sink.old) (W.held sink.new)) }
+    ensures apart { result ≡ Status.Refused → ¬ IsGoodInput DeskCommand.QnaWorld input.now }
+    ensures sink_front { result ≡ Status.Sink → Began DeskCommand.QnaWorld None input.now
         (holding (W.held sink.old)) (holding (W.held sink.new)) }
-    ensures memory { result ≡ Status.Memory → (sink.new ≡ sink.old) ⊎ Began Command.QnaWorld None input.now
+    ensures memory { result ≡ Status.Memory → (sink.new ≡ sink.old) ⊎ Began DeskCommand.QnaWorld None input.now
         (holding (W.held sink.old)) (holding (W.held sink.new)) }
     ensures status { IsTextStatus result }
     ensures later { W.faults sink.old ≤ W.faults sink.new }

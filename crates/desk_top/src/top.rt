@@ -10,7 +10,7 @@ ghost use Rattle.desk_top.specs.Statuses.{IsStatusSoFar};
 ghost use Rattle.rel_session.specs.Devices.{devices_of};
 
 use crate::checks::check_input;
-use crate::command::{Command, command_of, help};
+use crate::command::{DeskCommand, command_of, help};
 use crate::questions::{ask_machine, ask_world};
 use crate::status::Status;
 use bf_machine::Machine;
@@ -59,13 +59,13 @@ pub fn desk<S: Source, W: Sink, M: Machine, C: Clock>(
 
     // The sink or the clock failed, and a front of what is said was written.
     ensures sink { result ≡ Status.Sink → Rose (W.faults sink.old) (W.faults sink.new) }
-    ensures sink_front { result ≡ Status.Sink → (command : Command) → Asks words.now command →
+    ensures sink_front { result ≡ Status.Sink → (command : DeskCommand) → Asks words.now command →
         TookInput command (S.left source.old) (S.left source.new) (λ input. Began command (M.world machine.old) input
         (devices_of (W.held sink.old) (M.looked machine.old) (M.faults machine.old) (C.given clock.old))
         (devices_of (W.held sink.new) (M.looked machine.new) (M.faults machine.new) (C.given clock.new))) }
-    ensures clock { result ≡ Status.Clock → Asks words.now Command.Qna
+    ensures clock { result ≡ Status.Clock → Asks words.now DeskCommand.Qna
         × Rose (C.faults clock.old) (C.faults clock.new)
-        × TookInput Command.Qna (S.left source.old) (S.left source.new) (λ input. Began Command.Qna (M.world machine.old) input
+        × TookInput DeskCommand.Qna (S.left source.old) (S.left source.new) (λ input. Began DeskCommand.Qna (M.world machine.old) input
         (devices_of (W.held sink.old) (M.looked machine.old) (M.faults machine.old) (C.given clock.old))
         (devices_of (W.held sink.new) (M.looked machine.new) (M.faults machine.new) (C.given clock.new))) }
 
@@ -88,12 +88,12 @@ pub fn desk<S: Source, W: Sink, M: Machine, C: Clock>(
 
     // Where the words are of the table, the source tells no more bytes than it may, and nothing failed, it is done, unless memory
     // ran out; or refused, where the input is none that the command takes.
-    ensures complete { (command : Command) → Asks words.now command
+    ensures complete { (command : DeskCommand) → Asks words.now command
         → IsSomeAnd (S.left source.old) (λ input. (length input ≤ input_limit) × IsGoodInput command input)
         → ¬ Rose (S.faults source.old) (S.faults source.new) → ¬ Rose (W.faults sink.old) (W.faults sink.new)
         → ¬ Rose (C.faults clock.old) (C.faults clock.new)
         → (result ≡ Status.Done) ⊎ (result ≡ Status.Memory) }
-    ensures refused_comes { (command : Command) → Asks words.now command
+    ensures refused_comes { (command : DeskCommand) → Asks words.now command
         → IsSomeAnd (S.left source.old) (λ input. (length input ≤ input_limit) × ¬ IsGoodInput command input)
         → ¬ Rose (S.faults source.old) (S.faults source.new) → ¬ Rose (W.faults sink.old) (W.faults sink.new)
         → (result ≡ Status.Refused) ⊎ (result ≡ Status.Memory) }
@@ -126,23 +126,23 @@ pub fn desk<S: Source, W: Sink, M: Machine, C: Clock>(
         };
     };
     match command {
-        Command::Help => match put(sink, help()) {
+        DeskCommand::Help => match put(sink, help()) {
             Ok(()) => Status::Done,
             Err(halt) => Status::of_halt(halt),
         },
-        Command::Make(number) => match write_office(alloc, number, sink) {
+        DeskCommand::Make(number) => match write_office(alloc, number, sink) {
             Ok(()) => Status::Done,
             Err(halt) => Status::of_halt(halt),
         },
-        Command::Qna => match read_input(alloc, source) {
+        DeskCommand::Qna => match read_input(alloc, source) {
             Ok(input) => ask_machine(alloc, input.as_slice(), sink, machine, clock),
             Err(status) => status,
         },
-        Command::QnaWorld => match read_input(alloc, source) {
+        DeskCommand::QnaWorld => match read_input(alloc, source) {
             Ok(input) => ask_world(alloc, input.as_slice(), sink),
             Err(status) => status,
         },
-        Command::Check => match read_input(alloc, source) {
+        DeskCommand::Check => match read_input(alloc, source) {
             Ok(input) => check_input(alloc, input.as_slice(), sink),
             Err(status) => status,
         },
@@ -167,7 +167,7 @@ fn read_input<S: Source>(alloc: Global, source: &mut S) -> Result<Bytes, Status>
 
 /// Writes the text of an office with so many computers.
 fn write_office<W: Sink>(alloc: Global, number: u32, sink: &mut W) -> Result<(), Halt>
-    requires { IsCommand (Command.Make number) }
+    requires { IsCommand (DeskCommand.Make number) }
     ensures written { MatchResult result
         (λ _. Appends (W.held sink.old) (W.held sink.new) (office_of number))
         (λ _. AppendsSome (W.held sink.old) (W.held sink.new) (IsFront (office_of number))) }

@@ -1,6 +1,6 @@
 use Rattle.std.proofs.Common.{◌≡◌, None, refl}
 use Rattle.rel_session.specs.Devices.{devices_of}
-use Rattle.desk_top.specs.declared.command.Command.TheVariants.{QnaWorld, Check}
+use Rattle.desk_top.specs.declared.command.DeskCommand.TheVariants.{QnaWorld, Check}
 use Rattle.desk_top.specs.Asked.{holding}
 use Rattle.desk_top.proofs.Ends.{made_front, text_front, text_memory, text_complete, text_refusal, text_refused}
 use Rattle.desk_top.proofs.top.desk.Goals as goal
