@@ -7,10 +7,10 @@ use Rattle.script_run.specs.declared.ran.Ran.{Ran}
 use Rattle.script_run.specs.declared.ran.Ran.TheVariants as ran
 use Rattle.script_run.specs.declared.run.Run.{Run}
 use Rattle.script_run.specs.Walks.{Settled, Walk}
-use Rattle.script_run.specs.Scripts.{exit_after}
+use Rattle.script_run.specs.ScriptWalks.{exit_after}
 use Rattle.script_run.specs.Machines.{MachineView}
 use Rattle.script_run.specs.Asking.{When}
-use Rattle.script_run.specs.Places.{Stands, WaitsBelow, from, wanted_at}
+use Rattle.script_run.specs.RunPlaces.{Stands, WaitsBelow, from, wanted_at}
 use Rattle.script_run.specs.Advances as advance
 use Rattle.script_run.specs.Advances.{wanted_by}
 use Rattle.agent_attempt.specs.declared.went.Went.{Went}
@@ -21,7 +21,7 @@ use Rattle.agent_attempt.specs.declared.attempt.Stage.TheVariants as stage
 use Rattle.agent_attempt.specs.Attempts.{PlainAttempt, PlainStage, StageWaitsBelow, running, judging}
 use Rattle.agent_attempt.specs.Going.{held_at, Advances, exit_at, AfterRun, Fails, FromJudging, Through, GoesOn}
 use Rattle.agent_attempt.specs.Stages.{AttemptState, IsRun, IsStage, shown_attempt, shown_stage}
-use Rattle.agent_attempt.specs.Steps.{StepsBy, StepsTo, first_component, stage_behind, stage_weight, weight_of, with_stage}
+use Rattle.agent_attempt.specs.AttemptSteps.{StepsBy, StepsTo, first_component, stage_behind, stage_weight, weight_of, with_stage}
 use Rattle.agent_attempt.proofs.Alike.{judging_alike, through_alike}
 use Rattle.agent_attempt.proofs.Runs.{advances_from, left_runs, exit_from, walk_waits}
 use Rattle.agent_attempt.proofs.Stepping.{fail_from, steps_at}

@@ -16,11 +16,11 @@ use Rattle.script_text.specs.declared.error.ScriptError.{ScriptError}
 use Rattle.script_text.specs.Scripts.{PlainScript, IsVerdict}
 use Rattle.script_run.specs.Machines.{MachineView}
 use Rattle.script_run.specs.Asking.{When, JudgesOn, JudgesQuestion, scene_of}
-use Rattle.script_run.specs.Scripts.{given_known}
+use Rattle.script_run.specs.ScriptWalks.{given_known}
 use Rattle.agent_attempt.specs.declared.found.Found.{Found}
 use Rattle.agent_attempt.specs.declared.found.Found.TheVariants.{Yes, No, Failed, Memory}
-use Rattle.agent_attempt.specs.Contents.{as_fixlet, block_at, fixlets_at}
-use Rattle.agent_attempt.specs.Reads.{IsNoQuestion, IsScriptOf}
+use Rattle.agent_attempt.specs.ActionContents.{as_fixlet, block_at, fixlets_at}
+use Rattle.agent_attempt.specs.ReadTexts.{IsNoQuestion, IsScriptOf}
 use Rattle.agent_attempt.specs.Relevance.{Asking, and_then, finds, or_else, found_of, Asks, AllAre, HasScript, FixletIs, SomeIs}
 
 -- ---- clauses

@@ -8,7 +8,7 @@ use Rattle.fix_site.specs.declared.block.Block.{Block}
 use Rattle.fix_site.specs.declared.fixlet.Fixlet.{Fixlet}
 use Rattle.agent_attempt.specs.declared.attempt.Part.{Part}
 use Rattle.agent_attempt.specs.Attempts.{numbered}
-use Rattle.agent_attempt.specs.Contents.{as_fixlet, block_at, fixlets_at}
+use Rattle.agent_attempt.specs.ActionContents.{as_fixlet, block_at, fixlets_at}
 
 -- a component of this number
 abbrev pub part_of : ℕ → Fixlet → Part

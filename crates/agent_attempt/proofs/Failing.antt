@@ -12,7 +12,7 @@ use Rattle.agent_attempt.specs.declared.attempt.Stage.TheVariants as stage
 use Rattle.agent_attempt.specs.Attempts.{PlainAttempt, Past}
 use Rattle.agent_attempt.specs.Going.{ended, ended_by, fixed_note, failed_note, first_failure, with_failure, Fails, Through}
 use Rattle.agent_attempt.specs.Stages.{AttemptState, shown_attempt}
-use Rattle.agent_attempt.specs.Steps.{StepsBy, first_component}
+use Rattle.agent_attempt.specs.AttemptSteps.{StepsBy, first_component}
 use Rattle.agent_attempt.proofs.Stepping.{fails_next, fails_end}
 
 -- ---- what an attempt has come to

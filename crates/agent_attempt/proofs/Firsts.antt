@@ -6,10 +6,10 @@ use Rattle.script_run.specs.Machines.{MachineView}
 use Rattle.script_run.specs.Asking.{When}
 use Rattle.agent_attempt.specs.declared.found.Found.{Found}
 use Rattle.agent_attempt.specs.declared.attempt.Part.{Part}
-use Rattle.agent_attempt.specs.Reads.{IsScriptOf}
+use Rattle.agent_attempt.specs.ReadTexts.{IsScriptOf}
 use Rattle.agent_attempt.specs.Relevance.{FixletIs, HasScript, Succeeds}
 use Rattle.agent_attempt.specs.Stages.{FirstHasScript}
-use Rattle.agent_attempt.specs.Steps.{first_component}
+use Rattle.agent_attempt.specs.AttemptSteps.{first_component}
 
 -- the first of a list
 first_is : (part own : Part) (rest left : List Part) → left ≡ part ∷ rest → own ≡ get_or left 0 own → own ≡ part

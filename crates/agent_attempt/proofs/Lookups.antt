@@ -8,9 +8,9 @@ use Rattle.fix_site.specs.declared.block.Block.{Block}
 use Rattle.fix_site.specs.Blocks.{AreBlocks, IsBlock}
 use Rattle.fix_site.specs.declared.fixlet.Fixlet.{Fixlet}
 use Rattle.agent_attempt.specs.declared.read_block.ReadBlock.{ReadBlock}
-use Rattle.agent_attempt.specs.Blocks.{shown_block, read_id}
-use Rattle.agent_attempt.specs.Contents.{as_fixlet, block_at}
-use Rattle.agent_attempt.specs.Shown.{FindsBlock, FindsFixlet, IsFixletOf}
+use Rattle.agent_attempt.specs.ReadBlocks.{shown_block, read_id}
+use Rattle.agent_attempt.specs.ActionContents.{as_fixlet, block_at}
+use Rattle.agent_attempt.specs.FoundContents.{FindsBlock, FindsFixlet, IsFixletOf}
 use denote.Ref.{Bor}
 
 either_shown : (b : Bool) (block : ReadBlock) (other : Option ReadBlock) (shown : Option Block) → shown ≡ option_map shown_block other →

@@ -6,7 +6,7 @@ use Rattle.rel_eval.specs.declared.refusal.Refusal.{Refusal}
 use Rattle.rel_eval.specs.declared.refusal.Refusal.TheVariants.{At, NotDefined, Memory}
 use Rattle.rel_eval.specs.Answers.{Prepares}
 use Rattle.rel_eval.specs.Questions.{IsPlanOf, plan_of}
-use Rattle.agent_attempt.specs.Reads.{IsNoQuestion, IsReadAs}
+use Rattle.agent_attempt.specs.ReadTexts.{IsNoQuestion, IsReadAs}
 
 -- ---- questions
 pub no_question : (text own : List ℕ) (refusal : Refusal) → text ≡ own → refusal ≢ Memory → Prepares text (Err refusal) → IsNoQuestion own

@@ -12,7 +12,7 @@ use Rattle.script_run.specs.Machines.{MachineView}
 use Rattle.script_run.specs.Asking.{When}
 use Rattle.agent_attempt.specs.declared.found.Found.{Found}
 use Rattle.agent_attempt.specs.declared.found.Found.TheVariants.{Yes, No}
-use Rattle.agent_attempt.specs.Reads.{IsScriptOf, success_clause, target_clause}
+use Rattle.agent_attempt.specs.ReadTexts.{IsScriptOf, success_clause, target_clause}
 use Rattle.agent_attempt.specs.Relevance.{AllAre, Asks, FixletIs, HasScript, Succeeds, Targets, opposite}
 use Rattle.agent_attempt.proofs.Asked.{OneVerdict, no_script}
 

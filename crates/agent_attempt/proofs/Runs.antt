@@ -11,19 +11,19 @@ use Rattle.script_run.specs.declared.place.Place.TheVariants.{Ready, Wanting, Su
 use Rattle.script_run.specs.declared.ran.Ran.{Ran}
 use Rattle.script_run.specs.declared.run.Run.{Run}
 use Rattle.script_run.specs.Walks.{Known, Settled, Next, is_midway, Polls, Stop, Walk, Rest}
-use Rattle.script_run.specs.Scripts.{standing, after, commands_in, exit_after}
+use Rattle.script_run.specs.ScriptWalks.{standing, after, commands_in, exit_after}
 use Rattle.script_run.specs.Machines.{MachineView}
 use Rattle.script_run.specs.Asking.{When, known_in}
-use Rattle.script_run.specs.Steps.{Comes, Any, Stops}
-use Rattle.script_run.specs.Places.{Stands, WaitsBelow, place_walk, around, from}
+use Rattle.script_run.specs.RunSteps.{Comes, Any, Stops}
+use Rattle.script_run.specs.RunPlaces.{Stands, WaitsBelow, place_walk, around, from}
 use Rattle.script_run.specs.Advances as advance
 use Rattle.script_run.proofs.Fresh.{fresh_from}
 use Rattle.agent_attempt.specs.declared.attempt.Part.{Part}
 use Rattle.agent_attempt.specs.Attempts.{NextIsBelow}
-use Rattle.agent_attempt.specs.Reads.{IsScriptOf}
+use Rattle.agent_attempt.specs.ReadTexts.{IsScriptOf}
 use Rattle.agent_attempt.specs.Going.{Advances, exit_at}
 use Rattle.agent_attempt.specs.Stages.{IsRun}
-use Rattle.agent_attempt.specs.Steps.{OpensRun}
+use Rattle.agent_attempt.specs.AttemptSteps.{OpensRun}
 
 -- a run that stands somewhere in a script goes on from there
 pub advances_from : (at : When) (script : PlainScript) (given : List Pair) (settled : List Settled) (run : Run) (old : MachineView) (answer : Ran) (new : MachineView) (left : Run) →

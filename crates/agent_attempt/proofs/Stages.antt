@@ -4,10 +4,10 @@ use Rattle.std.proofs.lemmas.Bool.Decides.{nat_tests}
 use Rattle.script_text.specs.Scripts.{PlainScript, IsVerdict}
 use Rattle.script_run.specs.declared.run.Run.{Run}
 use Rattle.script_run.specs.Walks.{Walk}
-use Rattle.script_run.specs.Scripts.{standing}
+use Rattle.script_run.specs.ScriptWalks.{standing}
 use Rattle.script_run.specs.Machines.{MachineView}
 use Rattle.script_run.specs.Asking.{When}
-use Rattle.script_run.specs.Places.{Stands, WaitsBelow, from, wanted_at}
+use Rattle.script_run.specs.RunPlaces.{Stands, WaitsBelow, from, wanted_at}
 use Rattle.agent_attempt.specs.declared.found.Found.{Found}
 use Rattle.agent_attempt.specs.declared.found.Found.TheVariants.{Yes}
 use Rattle.agent_attempt.specs.declared.went.Went.{Went}
@@ -19,7 +19,7 @@ use Rattle.agent_attempt.specs.Relevance.{FixletIs, Succeeds}
 use Rattle.agent_attempt.specs.Attempts.{PlainAttempt, PlainStage, Past, StageWaitsBelow, starting, running, judging, issue_date}
 use Rattle.agent_attempt.specs.Going.{held_at, ended, AfterComing, AfterJudging, FromRunning, FromStarting, Through, FromStage, FromLeft, GoesOn, SameAttempt, held_after}
 use Rattle.agent_attempt.specs.Stages.{AttemptState, FirstHasScript, IsRun, IsStage, shown_attempt, shown_stage}
-use Rattle.agent_attempt.specs.Steps.{Falls, StepsBy, StepsTo, stage_weight, weight_of, with_stage}
+use Rattle.agent_attempt.specs.AttemptSteps.{Falls, StepsBy, StepsTo, stage_weight, weight_of, with_stage}
 use Rattle.agent_attempt.proofs.Alike.{starting_alike, running_alike, through_alike}
 use Rattle.agent_attempt.proofs.Runs.{run_waits}
 use Rattle.agent_attempt.proofs.Stepping.{ends, first_falls, falls_coming, next_steps, same_as, steps_at, steps_lead}

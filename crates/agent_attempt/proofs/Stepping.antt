@@ -12,7 +12,7 @@ use Rattle.agent_attempt.specs.Attempts.{PlainAttempt, PlainStage, Past, StageWa
 use Rattle.agent_attempt.specs.Going.{Goes, held_at, ended, ended_by, Ends, after_failure, with_failure, Fails, Through, FromStage, FromLeft, GoesOn, GoesTo, HasNote, SameAttempt, held_after}
 use Rattle.agent_attempt.specs.Stages.{AttemptState, shown_attempt, shown_stage}
 use Rattle.std.specs.Option.{IfSome}
-use Rattle.agent_attempt.specs.Steps.{Falls, StepsBy, StepsTo, stage_weight, weight_of, with_stage}
+use Rattle.agent_attempt.specs.AttemptSteps.{Falls, StepsBy, StepsTo, stage_weight, weight_of, with_stage}
 use Rattle.agent_attempt.proofs.Alike.{fails_alike, next_alike, through_alike}
 
 -- ---- the components that are left

@@ -5,7 +5,7 @@ use Rattle.rel_sources.specs.declared.pair.Pair.{Pair}
 use Rattle.script_text.specs.Scripts.{PlainScript}
 use Rattle.script_run.specs.declared.run.Run.{Run}
 use Rattle.script_run.specs.Walks.{Settled, supplied}
-use Rattle.script_run.specs.Places.{Stands, WaitsBelow, wanted_at}
+use Rattle.script_run.specs.RunPlaces.{Stands, WaitsBelow, wanted_at}
 use Rattle.agent_attempt.specs.declared.attempt.Stage.{Stage}
 use Rattle.agent_attempt.specs.declared.attempt.Stage.TheVariants as stage
 use Rattle.agent_attempt.specs.Attempts.{StageWaitsBelow}

@@ -8,7 +8,7 @@ use Rattle.fix_site.specs.declared.fixlet.Fixlet.{Fixlet}
 use Rattle.script_run.specs.Walks.{Next, Polls, Walk}
 use Rattle.agent_attempt.specs.declared.attempt.Part.{Part}
 use Rattle.agent_attempt.specs.declared.attempt.Failure.{Failure}
-use Rattle.agent_attempt.specs.Contents.{Content, single, group}
+use Rattle.agent_attempt.specs.ActionContents.{Content, single, group}
 
 -- how far the component at hand has come
 pub data PlainStage : Type 0 where

@@ -9,10 +9,10 @@ use Rattle.script_run.specs.declared.cause.Cause.TheVariants.{MachineFault, NotM
 use Rattle.script_run.specs.declared.ran.Ran.{Ran}
 use Rattle.script_run.specs.declared.ran.Ran.TheVariants as ran
 use Rattle.script_run.specs.Walks.{Settled, Walk, faults_in, is_midway}
-use Rattle.script_run.specs.Scripts.{commands_in, standing}
+use Rattle.script_run.specs.ScriptWalks.{commands_in, standing}
 use Rattle.script_run.specs.Machines.{MachineView}
 use Rattle.script_run.specs.Asking.{When}
-use Rattle.script_run.specs.Steps.{Any, Comes, Stops}
+use Rattle.script_run.specs.RunSteps.{Any, Comes, Stops}
 use Rattle.agent_attempt.specs.declared.found.Found.{Found}
 use Rattle.agent_attempt.specs.declared.found.Found.TheVariants.{Yes, No, Failed, Memory}
 use Rattle.agent_attempt.specs.declared.went.Went.{Went}

@@ -1,10 +1,10 @@
-pub mod Contents
-pub mod Reads
-pub mod Blocks
-pub mod Shown
+pub mod ActionContents
+pub mod ReadTexts
+pub mod ReadBlocks
+pub mod FoundContents
 pub mod Relevance
 pub mod Attempts
 pub mod Stages
 pub mod Supplies
 pub mod Going
-pub mod Steps
+pub mod AttemptSteps

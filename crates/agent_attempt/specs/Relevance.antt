@@ -14,10 +14,10 @@ use Rattle.fix_site.specs.declared.fixlet.Success.TheVariants as success
 use Rattle.script_text.specs.Scripts.{PlainScript, IsVerdict}
 use Rattle.script_run.specs.Asking.{When, JudgesOn, scene_of}
 use Rattle.script_run.specs.Machines.{MachineView}
-use Rattle.script_run.specs.Scripts.{given_known}
+use Rattle.script_run.specs.ScriptWalks.{given_known}
 use Rattle.agent_attempt.specs.declared.found.Found.{Found}
 use Rattle.agent_attempt.specs.declared.found.Found.TheVariants.{Yes, No, Failed, Memory}
-use Rattle.agent_attempt.specs.Contents.{Content, single, group}
+use Rattle.agent_attempt.specs.ActionContents.{Content, single, group}
 
 -- what is found by asking: from one view of the machine, an answer and another view
 abbrev pub Asking : Type 1

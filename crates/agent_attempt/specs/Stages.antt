@@ -3,7 +3,7 @@ use Rattle.std.specs.Prelude.{ℕ, ℤ, List, [], ◌∷◌, ⊤}
 use Rattle.rel_sources.specs.declared.pair.Pair.{Pair}
 use Rattle.script_text.specs.Scripts.{PlainScript}
 use Rattle.script_run.specs.Walks.{Settled}
-use Rattle.script_run.specs.Places.{Stands, from, wanted_at}
+use Rattle.script_run.specs.RunPlaces.{Stands, from, wanted_at}
 use Rattle.script_run.specs.declared.run.Run.{Run}
 use Rattle.fix_site.specs.declared.action.Action.{Action}
 use Rattle.agent_attempt.specs.declared.attempt.Part.{Part}

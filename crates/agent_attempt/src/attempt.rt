@@ -2,10 +2,10 @@ ghost use Rattle.std.specs.Prelude.{◌≡◌, ℕ, ◌+◌, ◌∷◌, ◌++◌
 ghost use Rattle.desk_base.specs.Moments.{IsMoment};
 ghost use Rattle.line_forms.specs.Numbers.{IsOffset};
 ghost use Rattle.agent_attempt.specs.Attempts.{StageWaitsBelow, new_attempt, numbered};
-ghost use Rattle.agent_attempt.specs.Contents.{fixlets_at, single};
+ghost use Rattle.agent_attempt.specs.ActionContents.{fixlets_at, single};
 ghost use Rattle.agent_attempt.specs.Relevance.{HasScript};
 ghost use Rattle.fix_site.specs.declared.fixlet.Fixlet.{Fixlet};
-ghost use Rattle.agent_attempt.specs.Shown.{shown_content};
+ghost use Rattle.agent_attempt.specs.FoundContents.{shown_content};
 ghost use Rattle.agent_attempt.specs.Stages.{IsStage, shown_attempt, shown_stage};
 ghost use Rattle.agent_attempt.specs.Supplies.{Supplies};
 

@@ -1,6 +1,6 @@
 ghost use Rattle.std.specs.Prelude.{◌≡◌, ℕ, List, Some, IfOk};
 ghost use Rattle.script_run.specs.Machines.{view};
-ghost use Rattle.agent_attempt.specs.Reads.{IsReadAs};
+ghost use Rattle.agent_attempt.specs.ReadTexts.{IsReadAs};
 ghost use Rattle.agent_attempt.specs.Relevance.{AllAre, Asks};
 
 use crate::found::Found;
@@ -20,7 +20,7 @@ pub struct Clause {
 
 impl Model for Clause {
     ghost use Rattle.std.specs.Prelude.{List, ℕ};
-    ghost use Rattle.agent_attempt.specs.Reads.{IsReadAs};
+    ghost use Rattle.agent_attempt.specs.ReadTexts.{IsReadAs};
 
     ghost Value = { List ℕ };
 

@@ -2,15 +2,15 @@
 ghost use Rattle.std.specs.Prelude.{◌≡◌, ◌≤◌, ◌<◌, ◌+◌, ◌*◌, ℕ, List, ◌∷◌, length, Some, None, IfOk, IfSome};
 ghost use Rattle.script_run.specs.Machines.{MachineView, view};
 ghost use Rattle.script_run.specs.Asking.{When};
-ghost use Rattle.script_run.specs.Places.{WaitsBelow, from, wanted_at};
+ghost use Rattle.script_run.specs.RunPlaces.{WaitsBelow, from, wanted_at};
 ghost use Rattle.script_run.specs.Advances.{wanted_by};
 ghost use Rattle.agent_attempt.specs.declared.attempt.Part.{Part};
 ghost use Rattle.agent_attempt.specs.Attempts.{PlainStage, StageWaitsBelow, issue_date, judging, running, starting};
 ghost use Rattle.agent_attempt.specs.Going.{AfterRun, Through, exit_at, HasNote, SameAttempt};
-ghost use Rattle.agent_attempt.specs.Reads.{IsScriptOf};
+ghost use Rattle.agent_attempt.specs.ReadTexts.{IsScriptOf};
 ghost use Rattle.agent_attempt.specs.Relevance.{FixletIs, Succeeds};
 ghost use Rattle.agent_attempt.specs.Stages.{FirstHasScript, IsRun, shown_attempt, shown_stage};
-ghost use Rattle.agent_attempt.specs.Steps.{Falls, OpensRun, StepsBy, StepsTo, first_component, stage_behind, weight_of, with_stage};
+ghost use Rattle.agent_attempt.specs.AttemptSteps.{Falls, OpensRun, StepsBy, StepsTo, first_component, stage_behind, weight_of, with_stage};
 
 use crate::attempt::{Attempt, Stage};
 use crate::found::Found;

@@ -6,7 +6,7 @@ ghost use Rattle.agent_attempt.specs.declared.attempt.Part.{Part};
 ghost use Rattle.agent_attempt.specs.Attempts.{StageWaitsBelow};
 ghost use Rattle.agent_attempt.specs.Going.{Fails, Through, ended, with_failure, GoesTo, HasNote, SameAttempt};
 ghost use Rattle.agent_attempt.specs.Stages.{shown_attempt, shown_stage};
-ghost use Rattle.agent_attempt.specs.Steps.{Falls, StepsBy, StepsTo, weight_of};
+ghost use Rattle.agent_attempt.specs.AttemptSteps.{Falls, StepsBy, StepsTo, weight_of};
 
 use crate::attempt::{Attempt, Failure, Part, Stage};
 use crate::time::Time;

@@ -3,9 +3,9 @@ ghost use Rattle.desk_base.specs.Moments.{IsMoment};
 ghost use Rattle.fix_site.specs.Actions.{IsAction};
 ghost use Rattle.fix_site.specs.Blocks.{IsBlock};
 ghost use Rattle.script_run.specs.Machines.{view};
-ghost use Rattle.agent_attempt.specs.Reads.{target_clause};
-ghost use Rattle.agent_attempt.specs.Blocks.{shown_block, read_id};
-ghost use Rattle.agent_attempt.specs.Shown.{IsFixletOf};
+ghost use Rattle.agent_attempt.specs.ReadTexts.{target_clause};
+ghost use Rattle.agent_attempt.specs.ReadBlocks.{shown_block, read_id};
+ghost use Rattle.agent_attempt.specs.FoundContents.{IsFixletOf};
 ghost use Rattle.agent_attempt.specs.Relevance.{AllAre, Targets};
 
 use crate::clause::{Clause, ask_all, ask_given, read_all};
@@ -82,7 +82,7 @@ impl Model for ReadAction {
     ghost use Rattle.std.specs.Prelude.{◌≡◌};
     ghost use Rattle.fix_site.specs.declared.action.Action.{Action};
     ghost use Rattle.fix_site.specs.Actions.{IsAction};
-    ghost use Rattle.agent_attempt.specs.Reads.{target_clause};
+    ghost use Rattle.agent_attempt.specs.ReadTexts.{target_clause};
 
     ghost Value = { Action };
 

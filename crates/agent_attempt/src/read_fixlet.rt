@@ -1,7 +1,7 @@
 ghost use Rattle.std.specs.Prelude.{◌≡◌, ◌<◌, ◌^◌, ℕ, List, length, Some, IfOk};
 ghost use Rattle.fix_site.specs.Contents.{IsFixlet};
 ghost use Rattle.script_run.specs.Machines.{view};
-ghost use Rattle.agent_attempt.specs.Reads.{IsScriptOf, success_clause};
+ghost use Rattle.agent_attempt.specs.ReadTexts.{IsScriptOf, success_clause};
 ghost use Rattle.agent_attempt.specs.Relevance.{FixletIs, HasScript, Succeeds};
 
 use crate::clause::{Clause, ask_all, ask_given, copy_all, copy_clause, read_all};
@@ -28,7 +28,7 @@ impl Model for ReadFixlet {
     ghost use Rattle.std.specs.Prelude.{◌≡◌};
     ghost use Rattle.fix_site.specs.declared.fixlet.Fixlet.{Fixlet};
     ghost use Rattle.fix_site.specs.Contents.{IsFixlet};
-    ghost use Rattle.agent_attempt.specs.Reads.{IsScriptOf, success_clause};
+    ghost use Rattle.agent_attempt.specs.ReadTexts.{IsScriptOf, success_clause};
 
     ghost Value = { Fixlet };
 

@@ -2,9 +2,9 @@ ghost use Rattle.std.specs.Prelude.{◌≡◌, ◌==◌, map, IfOk};
 ghost use Rattle.std.specs.List.{find};
 ghost use Rattle.std.specs.Option.{option_map};
 ghost use Rattle.fix_site.specs.Sites.{IsSite};
-ghost use Rattle.agent_attempt.specs.Blocks.{read_id, shown_block};
-ghost use Rattle.agent_attempt.specs.Contents.{block_content};
-ghost use Rattle.agent_attempt.specs.Shown.{FindsBlock, FindsContent, FindsFixlet, shown_if};
+ghost use Rattle.agent_attempt.specs.ReadBlocks.{read_id, shown_block};
+ghost use Rattle.agent_attempt.specs.ActionContents.{block_content};
+ghost use Rattle.agent_attempt.specs.FoundContents.{FindsBlock, FindsContent, FindsFixlet, shown_if};
 
 use crate::read_block::{ReadBaseline, ReadBlock};
 use crate::read_fixlet::ReadFixlet;
@@ -25,7 +25,7 @@ impl Model for ReadSite {
     ghost use Rattle.std.specs.Prelude.{map};
     ghost use Rattle.fix_site.specs.declared.site.Site.{Site};
     ghost use Rattle.fix_site.specs.Sites.{IsSite};
-    ghost use Rattle.agent_attempt.specs.Blocks.{shown_block};
+    ghost use Rattle.agent_attempt.specs.ReadBlocks.{shown_block};
 
     ghost Value = { Site };
 

@@ -2,9 +2,9 @@ ghost use Rattle.std.specs.Prelude.{◌≡◌, IsTrue, ◌↔◌, ◌∷◌, [],
 ghost use Rattle.act_rules.specs.Rows.{IsRows};
 ghost use Rattle.act_rules.specs.Tallies.{StandsFor};
 ghost use Rattle.script_run.specs.Machines.{view};
-ghost use Rattle.agent_attempt.specs.Contents.{fixlets_at, group};
+ghost use Rattle.agent_attempt.specs.ActionContents.{fixlets_at, group};
 ghost use Rattle.agent_attempt.specs.Relevance.{AsksThen, ContentIs, IsDue, MayBegin, SomeIs, Targets, and_then};
-ghost use Rattle.agent_attempt.specs.Shown.{shown_content, shown_if};
+ghost use Rattle.agent_attempt.specs.FoundContents.{shown_content, shown_if};
 
 use crate::found::Found;
 use crate::read_block::{ReadAction, ReadBaseline};

@@ -1,6 +1,6 @@
 ghost use Rattle.std.specs.Prelude.{◌≡◌, []};
 ghost use Rattle.script_run.specs.Asking.{scene_of};
-ghost use Rattle.script_run.specs.Scripts.{given_known};
+ghost use Rattle.script_run.specs.ScriptWalks.{given_known};
 ghost use Rattle.desk_base.specs.Moments.{IsMoment};
 ghost use Rattle.line_forms.specs.Numbers.{IsOffset};
 

@@ -15,7 +15,7 @@ use Rattle.agent_text.specs.Histories.{PlainHistory, rows_at}
 use Rattle.agent_attempt.specs.declared.found.Found.{Found}
 use Rattle.agent_attempt.specs.declared.found.Found.TheVariants.{Yes, No, Failed, Memory}
 use Rattle.agent_attempt.specs.Attempts.{PlainAttempt, StageWaitsBelow, first_stage}
-use Rattle.agent_attempt.specs.Contents.{Content, single, group}
+use Rattle.agent_attempt.specs.ActionContents.{Content, single, group}
 use Rattle.agent_attempt.specs.Relevance.{ContentIs, HasScript, FixletIs, IsDue, MayBegin, and_then}
 use Rattle.agent_core.specs.States.{State, with_histories}
 use Rattle.agent_core.specs.Steps.{CanBegin}

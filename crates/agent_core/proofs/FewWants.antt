@@ -20,8 +20,8 @@ use Rattle.script_text.specs.Scripts.{PlainScript}
 use Rattle.script_run.specs.declared.cause.Cause.{Cause}
 use Rattle.script_run.specs.declared.cause.Cause.TheVariants.{MachineFault}
 use Rattle.script_run.specs.Walks.{Known, supplied, said, judged, acted, polled, Walk, Rest, ending, failing, after_text, saying, after_truth, testing, pausing, after_act, acting, doing, with_exit, after_poll, polling, awaiting}
-use Rattle.script_run.specs.Lines.{filling, filled, lining, ended, setting, timed, dated, line_walk, placing, after_supply, fetching}
-use Rattle.script_run.specs.Scripts.{walk, walk_all, walk_arms, fetch_all, script_walk}
+use Rattle.script_run.specs.LineWalks.{filling, filled, lining, ended, setting, timed, dated, line_walk, placing, after_supply, fetching}
+use Rattle.script_run.specs.ScriptWalks.{walk, walk_all, walk_arms, fetch_all, script_walk}
 use Rattle.agent_core.specs.Alike.{WantsAtMost}
 
 -- whatever is known, no more files than so many are wanted

@@ -8,8 +8,8 @@ use Rattle.script_run.specs.declared.ran.Ran.{Ran}
 use Rattle.script_run.specs.declared.ran.Ran.TheVariants as ran
 use Rattle.script_run.specs.Asking.{When, known_in}
 use Rattle.script_run.specs.Machines.{MachineView}
-use Rattle.script_run.specs.Places.{around, place_walk, wanted_at}
-use Rattle.script_run.specs.Scripts.{given_known, standing}
+use Rattle.script_run.specs.RunPlaces.{around, place_walk, wanted_at}
+use Rattle.script_run.specs.ScriptWalks.{given_known, standing}
 use Rattle.script_run.specs.Walks.{Known, Rest, Settled, Walk, Wants, supplied}
 use Rattle.script_run.specs.declared.place.Place.{Place}
 use Rattle.script_run.specs.declared.place.Place.TheVariants.{Ready, Wanting, Supplied, Placing, Doing, Waiting, Testing, Asking, Done, Failed}

@@ -9,7 +9,7 @@ use Rattle.fix_site.specs.declared.action.Action.{Action}
 use Rattle.fix_site.specs.declared.block.Block.TheVariants as block
 use Rattle.fix_site.specs.declared.site.Site.{Site}
 use Rattle.fix_site.specs.Sites.{IsSite}
-use Rattle.agent_attempt.specs.Contents.{actions_of, site_actions, site_at}
+use Rattle.agent_attempt.specs.ActionContents.{actions_of, site_actions, site_at}
 use Rattle.agent_core.specs.States.{AreGathered}
 use Rattle.agent_core.proofs.SiteActions.{all_actions}
 

@@ -15,7 +15,7 @@ use Rattle.agent_text.specs.Pockets.{Holds}
 use Rattle.agent_text.specs.SavedTexts.{IsSaved}
 use Rattle.agent_text.proofs.SavedAnswers.{LinesAgain}
 use Rattle.agent_attempt.specs.declared.found.Found.TheVariants as found
-use Rattle.agent_attempt.specs.Contents.{actions_of, content_of}
+use Rattle.agent_attempt.specs.ActionContents.{actions_of, content_of}
 use Rattle.agent_attempt.specs.Relevance.{IsDue}
 use Rattle.agent_core.specs.declared.turned.Turned.{Turned}
 use Rattle.agent_core.specs.States.{Devices, IsSound, State, interrupted, new_row, next_row, saved_of, text_of, with_beginning, with_histories, with_report}

@@ -11,10 +11,10 @@ use Rattle.rel_eval.specs.declared.told.Truth.{Truth}
 use Rattle.rel_eval.specs.declared.told.Truth.TheVariants as truth
 use Rattle.script_run.specs.Asking.{When, scene_of}
 use Rattle.script_run.specs.Machines.{MachineView}
-use Rattle.script_run.specs.Scripts.{given_known}
+use Rattle.script_run.specs.ScriptWalks.{given_known}
 use Rattle.agent_attempt.specs.declared.found.Found.{Found}
 use Rattle.agent_attempt.specs.declared.found.Found.TheVariants.{Yes, No, Failed, Memory}
-use Rattle.agent_attempt.specs.Contents.{Content, single, group}
+use Rattle.agent_attempt.specs.ActionContents.{Content, single, group}
 use Rattle.agent_attempt.specs.Relevance.{AllAre, Asking, Asks, AsksThen, ContentIs, FixletIs, IsDue, SomeIs, Succeeds, Targets, and_then, finds, found_of, opposite, or_else}
 use Rattle.agent_core.proofs.OneLook.{Calm, OnePlan, SameView, judges_same}
 use Rattle.agent_core.proofs.Quiet.{all_quiet, asks_quiet, content_quiet, fixlet_quiet, some_quiet, targets_quiet}

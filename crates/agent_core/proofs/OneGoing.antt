@@ -13,10 +13,10 @@ use Rattle.script_run.specs.declared.cause.Cause.{Cause}
 use Rattle.script_run.specs.declared.ran.Ran.{Ran}
 use Rattle.script_run.specs.declared.ran.Ran.TheVariants as ran
 use Rattle.script_run.specs.Walks.{Known, Settled, said, judged, acted, polled, Next, Wants, Says, Tests, Pauses, Does, Polls, Ends, Fails, Walk}
-use Rattle.script_run.specs.Scripts.{standing}
+use Rattle.script_run.specs.ScriptWalks.{standing}
 use Rattle.script_run.specs.Machines.{Counts, MachineView, PollsOn}
 use Rattle.script_run.specs.Asking.{When, scene_of}
-use Rattle.script_run.specs.Steps.{Any, Comes, Holds, Settles, Stops}
+use Rattle.script_run.specs.RunSteps.{Any, Comes, Holds, Settles, Stops}
 use Rattle.agent_attempt.specs.declared.found.Found.{Found}
 use Rattle.agent_attempt.specs.declared.found.Found.TheVariants as found
 use Rattle.agent_attempt.specs.declared.went.Went.{Went}

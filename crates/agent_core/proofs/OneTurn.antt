@@ -13,7 +13,7 @@ use Rattle.agent_attempt.specs.declared.found.Found.TheVariants as found
 use Rattle.agent_attempt.specs.declared.went.Went.{Went}
 use Rattle.agent_attempt.specs.declared.went.Went.TheVariants as went
 use Rattle.agent_attempt.specs.Attempts.{PlainAttempt, PlainStage, coming, starting, running, judging}
-use Rattle.agent_attempt.specs.Contents.{Content, actions_of, content_of}
+use Rattle.agent_attempt.specs.ActionContents.{Content, actions_of, content_of}
 use Rattle.agent_attempt.specs.Relevance.{Asking, ContentIs, IsDue}
 use Rattle.agent_core.specs.declared.turned.Turned.{Turned}
 use Rattle.agent_core.specs.declared.turned.Turned.TheVariants.{Idle, Interrupted, MachineFault, PocketFault, Memory}

@@ -14,7 +14,7 @@ use Rattle.script_run.specs.Asking.{When}
 use Rattle.agent_text.specs.declared.saved.Saved.{Saved}
 use Rattle.agent_text.specs.Pockets.{Holds}
 use Rattle.agent_attempt.specs.Attempts.{PlainAttempt}
-use Rattle.agent_attempt.specs.Contents.{actions_of}
+use Rattle.agent_attempt.specs.ActionContents.{actions_of}
 use Rattle.agent_attempt.specs.Supplies.{Takes}
 use Rattle.agent_core.specs.declared.turned.Turned.{Turned}
 use Rattle.agent_core.specs.Agents.{shown_state}

@@ -15,7 +15,7 @@ use Rattle.script_run.specs.Asking.{When}
 use Rattle.script_run.specs.Machines.{MachineView}
 use Rattle.agent_attempt.specs.declared.found.Found.{Found}
 use Rattle.agent_attempt.specs.declared.found.Found.TheVariants.{Yes, No, Failed, Memory}
-use Rattle.agent_attempt.specs.Contents.{Content, single, group}
+use Rattle.agent_attempt.specs.ActionContents.{Content, single, group}
 use Rattle.agent_attempt.specs.Relevance.{AllAre, Asking, Asks, ContentIs, FixletIs, IsDue, SomeIs, Succeeds, Targets, and_then, finds, found_of, opposite, or_else}
 
 pub record IsQuiet (old : MachineView) (answer : Found) (new : MachineView) : Type 0 where

@@ -17,8 +17,8 @@ use Rattle.agent_text.specs.Histories.{PlainHistory, rows_at, with_cleared}
 use Rattle.agent_attempt.specs.declared.found.Found.{Found}
 use Rattle.agent_attempt.specs.declared.found.Found.TheVariants.{Yes, No, Failed, Memory as FoundMemory}
 use Rattle.agent_attempt.specs.declared.read_block.ReadBlock.{ReadBlock}
-use Rattle.agent_attempt.specs.Blocks.{shown_block}
-use Rattle.agent_attempt.specs.Contents.{Content, as_action, content_of}
+use Rattle.agent_attempt.specs.ReadBlocks.{shown_block}
+use Rattle.agent_attempt.specs.ActionContents.{Content, as_action, content_of}
 use Rattle.agent_attempt.specs.Relevance.{ContentIs, IsDue}
 use Rattle.agent_attempt.specs.Stages.{AttemptState, shown_attempt}
 use Rattle.agent_core.specs.declared.turned.Turned.{Turned}

@@ -17,8 +17,8 @@ use Rattle.fix_site.specs.Blocks.{block_id}
 use Rattle.fix_site.specs.Sites.{IsSite}
 use Rattle.agent_attempt.specs.declared.read_block.ReadBlock.{ReadBlock}
 use Rattle.agent_attempt.specs.declared.read_block.ReadBlock.TheVariants as read
-use Rattle.agent_attempt.specs.Blocks.{shown_block}
-use Rattle.agent_attempt.specs.Contents.{actions_of, as_action, site_actions, site_at}
+use Rattle.agent_attempt.specs.ReadBlocks.{shown_block}
+use Rattle.agent_attempt.specs.ActionContents.{actions_of, as_action, site_actions, site_at}
 use Rattle.agent_core.specs.Changes.{with_site}
 use Rattle.agent_core.proofs.Rising.{Rises, increasing_from_rises}
 

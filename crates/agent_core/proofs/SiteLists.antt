@@ -11,7 +11,7 @@ use Rattle.std.proofs.lemmas.List.Quantifiers.{position-Some}
 use Rattle.std.proofs.lemmas.Slice.Eq.{bytes_eq-Decides}
 use Rattle.fix_site.specs.declared.site.Site.{Site}
 use Rattle.fix_site.specs.Sites.{IsSite}
-use Rattle.agent_attempt.specs.Contents.{site_at}
+use Rattle.agent_attempt.specs.ActionContents.{site_at}
 use Rattle.agent_core.specs.Changes.{with_site}
 use Rattle.agent_core.specs.Lookups.{FindsSite}
 use Rattle.agent_core.specs.States.{AreGathered}

@@ -6,7 +6,7 @@ use Rattle.report_text.specs.declared.answer.Verdict.{Verdict}
 use Rattle.fix_site.specs.declared.site.Site.{Site}
 use Rattle.fix_site.specs.Sites.{IsSite}
 use Rattle.script_run.specs.Asking.{When}
-use Rattle.agent_attempt.specs.Contents.{actions_of}
+use Rattle.agent_attempt.specs.ActionContents.{actions_of}
 use Rattle.agent_core.specs.declared.opening.Opened.TheVariants as opened
 use Rattle.agent_core.specs.declared.turned.Turned.{Turned}
 use Rattle.agent_core.specs.Agents.{AgentState, shown_state}

@@ -13,7 +13,7 @@ use Rattle.fix_site.specs.declared.action.Action.{Action}
 use Rattle.fix_site.specs.declared.site.Site.{Site}
 use Rattle.agent_text.specs.Histories.{rows_at}
 use Rattle.agent_attempt.specs.Attempts.{PlainAttempt}
-use Rattle.agent_attempt.specs.Contents.{actions_of, site_at}
+use Rattle.agent_attempt.specs.ActionContents.{actions_of, site_at}
 use Rattle.agent_attempt.specs.Supplies.{Supplies}
 use Rattle.agent_core.specs.States.{State}
 

@@ -1,5 +1,5 @@
 -- What contracts see of an agent, and what holds of each.
-use Rattle.agent_attempt.specs.Contents.{actions_of}
+use Rattle.agent_attempt.specs.ActionContents.{actions_of}
 use Rattle.agent_core.specs.declared.parts.Parts.{Parts}
 use Rattle.agent_core.specs.Agents.{AgentState, shown_state}
 use Rattle.agent_core.specs.States.{State, IsSound}

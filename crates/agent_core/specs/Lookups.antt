@@ -7,7 +7,7 @@ use Rattle.act_rules.specs.Tallies.{StandsFor}
 use Rattle.fix_site.specs.declared.action.Action.{Action}
 use Rattle.fix_site.specs.declared.site.Site.{Site}
 use Rattle.agent_text.specs.Histories.{PlainHistory, rows_at}
-use Rattle.agent_attempt.specs.Contents.{site_at}
+use Rattle.agent_attempt.specs.ActionContents.{site_at}
 use Rattle.agent_core.specs.declared.tallies.ActionTally.{ActionTally}
 use denote.Ref.{Bor}
 

@@ -13,7 +13,7 @@ use Rattle.agent_text.specs.SavedTexts.{most_bytes}
 use Rattle.agent_attempt.specs.declared.found.Found.{Found}
 use Rattle.agent_attempt.specs.declared.found.Found.TheVariants.{Yes, No, Failed}
 use Rattle.agent_attempt.specs.Attempts.{PlainAttempt, StageWaitsBelow}
-use Rattle.agent_attempt.specs.Contents.{Content, content_of}
+use Rattle.agent_attempt.specs.ActionContents.{Content, content_of}
 use Rattle.agent_attempt.specs.Stages.{AttemptState, shown_attempt}
 use Rattle.agent_attempt.specs.Relevance.{ContentIs, IsDue}
 use Rattle.agent_core.specs.declared.parts.Parts.{Parts}

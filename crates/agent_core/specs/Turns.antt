@@ -17,7 +17,7 @@ use Rattle.agent_attempt.specs.declared.went.Fail.{Fail}
 use Rattle.agent_attempt.specs.declared.went.Went.{Went}
 use Rattle.agent_attempt.specs.declared.went.Went.TheVariants as went
 use Rattle.agent_attempt.specs.Attempts.{PlainAttempt, new_attempt}
-use Rattle.agent_attempt.specs.Contents.{Content, actions_of, content_of}
+use Rattle.agent_attempt.specs.ActionContents.{Content, actions_of, content_of}
 use Rattle.agent_attempt.specs.Going.{GoesOn}
 use Rattle.agent_attempt.specs.Relevance.{ContentIs, IsDue}
 use Rattle.agent_core.specs.declared.turned.Turned.{Turned}

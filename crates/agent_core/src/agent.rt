@@ -1,5 +1,5 @@
 ghost use Rattle.std.specs.Prelude.{◌≡◌, ℕ, MatchOption, take, option_copied, [], length, ◌<◌};
-ghost use Rattle.agent_attempt.specs.Contents.{site_at};
+ghost use Rattle.agent_attempt.specs.ActionContents.{site_at};
 ghost use Rattle.agent_text.specs.Histories.{rows_at};
 ghost use Rattle.agent_core.specs.Agents.{shown_state};
 ghost use Rattle.agent_core.specs.Stops.{HeldWaitsBelow};

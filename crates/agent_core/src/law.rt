@@ -9,7 +9,7 @@ ghost use Rattle.agent_text.specs.declared.error.SavedError.TheVariants.{Memory 
 ghost use Rattle.agent_text.specs.Histories.{rows_at};
 ghost use Rattle.agent_text.specs.SavedTexts.{ReadsSaved};
 ghost use Rattle.agent_attempt.specs.Attempts.{PlainAttempt};
-ghost use Rattle.agent_attempt.specs.Contents.{actions_of};
+ghost use Rattle.agent_attempt.specs.ActionContents.{actions_of};
 ghost use Rattle.line_forms.specs.Names.{IsName};
 ghost use Rattle.agent_core.specs.declared.turned.Turned.{Turned};
 ghost use Rattle.agent_core.specs.declared.turned.Turned.TheVariants.{Memory, PocketFault, Wants};

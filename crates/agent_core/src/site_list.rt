@@ -3,9 +3,9 @@ ghost use Rattle.fix_site.specs.Sites.{IsSite};
 ghost use Rattle.std.specs.List.{filter_map, position};
 ghost use Rattle.std.specs.Option.{option_map};
 ghost use Rattle.std.specs.Str.{bytes_eq};
-ghost use Rattle.agent_attempt.specs.Blocks.{shown_block};
-ghost use Rattle.agent_attempt.specs.Contents.{actions_of, as_action, content_of, site_at};
-ghost use Rattle.agent_attempt.specs.Shown.{shown_if};
+ghost use Rattle.agent_attempt.specs.ReadBlocks.{shown_block};
+ghost use Rattle.agent_attempt.specs.ActionContents.{actions_of, as_action, content_of, site_at};
+ghost use Rattle.agent_attempt.specs.FoundContents.{shown_if};
 ghost use Rattle.agent_core.specs.Changes.{kept_version, with_site};
 ghost use Rattle.agent_core.specs.Lookups.{FindsSite};
 

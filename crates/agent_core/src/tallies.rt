@@ -6,8 +6,8 @@ ghost use Rattle.act_rules.specs.Rows.{last_row};
 ghost use Rattle.act_rules.specs.Tallies.{StandsFor};
 ghost use Rattle.fix_site.specs.declared.action.Action.{Action};
 ghost use Rattle.agent_text.specs.Histories.{AreHistories, PlainHistory, rows_at, with_ended};
-ghost use Rattle.agent_attempt.specs.Blocks.{shown_block};
-ghost use Rattle.agent_attempt.specs.Contents.{as_action};
+ghost use Rattle.agent_attempt.specs.ReadBlocks.{shown_block};
+ghost use Rattle.agent_attempt.specs.ActionContents.{as_action};
 ghost use Rattle.agent_core.specs.Lookups.{AllStand, FindsTally, PlacesTally, TalliesStand};
 
 use act_rules::{Outcome, Rows, Tally};

@@ -7,7 +7,7 @@ ghost use Rattle.agent_core.specs.Agents.{shown_state};
 ghost use Rattle.agent_core.specs.States.{devices, pocket_view};
 ghost use Rattle.agent_core.specs.Inside.{IsSoundParts, state_of};
 ghost use Rattle.agent_core.specs.Turns.{Steps, Turn};
-ghost use Rattle.agent_attempt.specs.Contents.{actions_of};
+ghost use Rattle.agent_attempt.specs.ActionContents.{actions_of};
 ghost use Rattle.agent_core.specs.Stops.{Agrees, BothLawful, HaveRules, HeldWaitsBelow, Table, TurnHasCause, TurnIsBacked};
 
 use crate::agent::Agent;

@@ -7,7 +7,7 @@ use Rattle.act_rules.specs.declared.row.Row.{Row}
 use Rattle.act_rules.specs.Rows.{AreNumbered, HasEnded, HasMoments, IsRows, OnlyLastRuns, last_row}
 use Rattle.report_text.specs.declared.form.Form.{Form}
 use Rattle.agent_text.specs.AttemptLines.{attempt_line}
-use Rattle.agent_text.specs.Readings.{CanBeNext, IsAttempt, IsRowIn}
+use Rattle.agent_text.specs.PartReadings.{CanBeNext, IsAttempt, IsRowIn}
 use Rattle.agent_text.proofs.AttemptRows.{attempt_one, noted}
 use Rattle.agent_text.proofs.Lasts.{all_at, each_all, last_step}
 

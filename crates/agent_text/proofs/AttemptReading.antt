@@ -15,7 +15,7 @@ use Rattle.report_text.specs.RowLines.{added_fields, outcome_field, end_field}
 use Rattle.agent_text.specs.declared.attempt_reader.BareFields.{BareFields}
 use Rattle.agent_text.specs.AttemptLines.{attempt_fields, cleared_field}
 use Rattle.agent_text.specs.SavedRows.{IsSavedRow}
-use Rattle.agent_text.specs.Readings.{IsAdded, IsAttempt, IsBare, IsNoted, SpellsBare}
+use Rattle.agent_text.specs.PartReadings.{IsAdded, IsAttempt, IsBare, IsNoted, SpellsBare}
 use Rattle.agent_text.proofs.AttemptRows.{added_range, fields_again, fields_one, noted, row_in, saved_in}
 
 -- what a failed test says

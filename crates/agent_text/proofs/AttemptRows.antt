@@ -21,7 +21,7 @@ use Rattle.report_text.specs.ReportRows.{IsExit, IsPlace, no_note}
 use Rattle.report_text.specs.RowLines.{added_fields, outcome_field, end_field, exit_field, component_field, line_field}
 use Rattle.agent_text.specs.AttemptLines.{attempt_fields, attempt_line, cleared_field}
 use Rattle.agent_text.specs.SavedRows.{IsSavedRow, IsSavedAt}
-use Rattle.agent_text.specs.Readings.{IsAdded, IsAttempt, IsNoted, IsRowIn}
+use Rattle.agent_text.specs.PartReadings.{IsAdded, IsAttempt, IsNoted, IsRowIn}
 use Rattle.agent_text.proofs.AttemptFields.{plain_outcome, plain_end, plain_exit, plain_component, plain_line, plain_cleared, end_one, exit_one, place_one, cleared_one}
 
 -- ---- notes

@@ -12,7 +12,7 @@ use Rattle.report_text.specs.Reports.{report_lines, report_text, computer_line, 
 use Rattle.agent_text.specs.declared.saved.Saved.{Saved}
 use Rattle.agent_text.specs.Histories.{PlainHistory, pending_ids}
 use Rattle.agent_text.specs.SavedTexts.{agent_line, next_line, history_lines, pending_line, saved_text}
-use Rattle.agent_text.specs.Writings.{head_text, history_text, pending_text}
+use Rattle.agent_text.specs.PartWritings.{head_text, history_text, pending_text}
 
 -- ---- a loop over items, for which all there is room
 -- the next item has room

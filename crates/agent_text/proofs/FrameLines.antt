@@ -8,7 +8,7 @@ use Rattle.report_text.specs.declared.form.Form.{Form}
 use Rattle.report_text.specs.declared.form.Form.TheVariants.{One}
 use Rattle.report_text.specs.Reports.{computer_line}
 use Rattle.agent_text.specs.SavedTexts.{agent_line, next_line}
-use Rattle.agent_text.specs.Readings.{Around, IsFrame, frame_lines}
+use Rattle.agent_text.specs.PartReadings.{Around, IsFrame, frame_lines}
 use Rattle.agent_text.proofs.Parts.{HasSome, IsOneWay, Lines, Then, one_way-line, single, stuck_behind, stuck_first, stuck_line, stuck_same}
 use Rattle.agent_text.proofs.ReportLists.{IsOwn, one_own, stuck_own}
 use Rattle.agent_text.proofs.SavedParts.{agent_one}

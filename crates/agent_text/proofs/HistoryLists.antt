@@ -15,7 +15,7 @@ use Rattle.agent_text.specs.AttemptLines.{attempt_line}
 use Rattle.agent_text.specs.SavedRows.{IsSavedRow}
 use Rattle.agent_text.specs.SavedTexts.{action_line, history_lines}
 use Rattle.agent_text.specs.Histories.{AreHistories, IsHistory, PlainHistory, shown_history}
-use Rattle.agent_text.specs.Readings.{CanBeNext, CanFollow, HasHistories, IsAbove, IsRowIn, LacksAttempt, NoAttempt, untold, untold_one}
+use Rattle.agent_text.specs.PartReadings.{CanBeNext, CanFollow, HasHistories, IsAbove, IsRowIn, LacksAttempt, NoAttempt, untold, untold_one}
 use Rattle.agent_text.proofs.AttemptLists.{rows_in}
 use Rattle.agent_text.proofs.AttemptRows.{saved_in}
 use Rattle.agent_text.proofs.Lasts.{each_all, each_ascends, increasing}

@@ -8,7 +8,7 @@ use Rattle.std.proofs.lemmas.List.{drop-map, drop-set-lt, drop_all, drop_more, g
 use Rattle.act_rules.specs.declared.row.Row.{Row}
 use Rattle.agent_text.specs.declared.history.History.{History}
 use Rattle.agent_text.specs.Histories.{AreHistories, PlainHistory, cleared, rows_at, shown_history, with_cleared, with_reported, with_rows}
-use Rattle.agent_text.specs.Readings.{HasPlace}
+use Rattle.agent_text.specs.PartReadings.{HasPlace}
 use Rattle.agent_text.proofs.HistoryLemmas.{action_of, rises_from_increasing}
 use Rattle.agent_text.proofs.PlaceLemmas.{cleared_there, has_place, put_new, put_there, rows_there, searched_map}
 

@@ -13,7 +13,7 @@ use Rattle.std.proofs.lemmas.List.Kept.{AllPairs-from_increasing}
 use Rattle.std.proofs.lemmas.List.Sorted.{searched}
 use Rattle.line_forms.proofs.Sorted.{filter-take, filter-drop}
 use Rattle.agent_text.specs.Histories.{AreHistories, PlainHistory, cleared, rows_at, with_cleared, with_history}
-use Rattle.agent_text.specs.Readings.{HasPlace}
+use Rattle.agent_text.specs.PartReadings.{HasPlace}
 use Rattle.agent_text.proofs.HistoryLemmas.{Rises, action_of, no_rows_of, one_cleared, rises_from_increasing, rises_head, rises_tail, rows_of}
 
 -- ---- a binary search

@@ -17,7 +17,7 @@ use Rattle.report_text.specs.declared.report_row.ReportRow.{ReportRow}
 use Rattle.report_text.specs.ReportRows.{AreAscending, IsReportRow}
 use Rattle.report_text.specs.RowLines.{row_line}
 use Rattle.report_text.specs.Reports.{AreReportRows, computer_line, end_line, form_line, report_lines, seq_line}
-use Rattle.agent_text.specs.Readings.{Around, CanBeAdded, CanCome, HasNumber, HasReports, IsBadAt, IsFormIn, IsLater}
+use Rattle.agent_text.specs.PartReadings.{Around, CanBeAdded, CanCome, HasNumber, HasReports, IsBadAt, IsFormIn, IsLater}
 use Rattle.agent_text.proofs.Lasts.{Ascends, all_at, each_all, each_ascends, each_few, last_below}
 use Rattle.agent_text.proofs.Parts.{HasSome, IsOneWay, Lines, Only, Then, one_way-line, single, stuck_behind, stuck_first, stuck_line, stuck_only, stuck_same}
 use Rattle.agent_text.proofs.ReportRowLines.{row_not_end, row_one}

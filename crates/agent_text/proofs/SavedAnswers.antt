@@ -20,7 +20,7 @@ use Rattle.agent_text.specs.declared.history.History.{History}
 use Rattle.agent_text.specs.declared.saved.Saved.{Saved}
 use Rattle.agent_text.specs.Histories.{AreHistories, PlainHistory, shown_history}
 use Rattle.agent_text.specs.SavedTexts.{AreSavedLines, FitsForm, IsSaved, IsSavedBy, ReadsSaved, saved_lines, saved_text}
-use Rattle.agent_text.specs.Readings.{Around, IsFrame, TakesAllHistories, TakesAllReports, TakesFrame, TakesPending, frame_lines, untold, untold_one}
+use Rattle.agent_text.specs.PartReadings.{Around, IsFrame, TakesAllHistories, TakesAllReports, TakesFrame, TakesPending, frame_lines, untold, untold_one}
 use Rattle.agent_text.proofs.HistoryLists.{are_histories}
 use Rattle.agent_text.proofs.PendingSteps.{told_histories}
 use Rattle.agent_text.proofs.SavedBytes.{saved_are}

@@ -30,7 +30,7 @@ use Rattle.agent_text.specs.declared.saved.Saved.{Saved}
 use Rattle.agent_text.specs.AttemptLines.{attempt_fields, attempt_line, cleared_field}
 use Rattle.agent_text.specs.Histories.{IsHistory, PlainHistory, pending_ids}
 use Rattle.agent_text.specs.SavedTexts.{FitsForm, IsSaved, action_line, agent_line, history_bytes, history_lines, most_bytes, next_line, pending_line, report_bytes, saved_lines, saved_text}
-use Rattle.agent_text.specs.Readings.{CanBeNext, IsNoted, IsRowIn}
+use Rattle.agent_text.specs.PartReadings.{CanBeNext, IsNoted, IsRowIn}
 use Rattle.agent_text.proofs.AttemptFields.{exit_mag}
 use Rattle.agent_text.proofs.AttemptLists.{each_attempt, next_attempt}
 use Rattle.agent_text.proofs.AttemptRows.{noted, plain_attempt}

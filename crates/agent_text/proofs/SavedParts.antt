@@ -16,7 +16,7 @@ use Rattle.report_text.specs.Reports.{computer_line, end_line, form_line, seq_li
 use Rattle.agent_text.specs.AttemptLines.{attempt_line}
 use Rattle.agent_text.specs.Histories.{PlainHistory}
 use Rattle.agent_text.specs.SavedTexts.{action_line, agent_line, history_lines, next_line, pending_line}
-use Rattle.agent_text.specs.Readings.{Around, CanBeNext, CanCome, CanFollow, IsFrame, frame_lines, history_line, report_line}
+use Rattle.agent_text.specs.PartReadings.{Around, CanBeNext, CanCome, CanFollow, IsFrame, frame_lines, history_line, report_line}
 use Rattle.agent_text.proofs.AttemptLists.{each_attempt, next_attempt}
 use Rattle.agent_text.proofs.AttemptRows.{attempt_one, noted}
 use Rattle.agent_text.proofs.Parts.{IsOneWay, Lines, Only, Then}

@@ -4,5 +4,5 @@ pub mod SavedRows
 pub mod Histories
 pub mod AttemptLines
 pub mod SavedTexts
-pub mod Readings
-pub mod Writings
+pub mod PartReadings
+pub mod PartWritings

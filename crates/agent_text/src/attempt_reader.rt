@@ -9,7 +9,7 @@ ghost use Rattle.agent_text.specs.AttemptLines.{attempt_fields, attempt_line, cl
 ghost use Rattle.report_text.specs.ReportRows.{IsExit, IsPlace};
 ghost use Rattle.report_text.specs.RowLines.{added_fields};
 ghost use Rattle.agent_text.specs.SavedRows.{IsSavedRow};
-ghost use Rattle.agent_text.specs.Readings.{CanBeNext, IsAdded, IsAttempt, IsBare, IsNoted, SpellsBare};
+ghost use Rattle.agent_text.specs.PartReadings.{CanBeNext, IsAdded, IsAttempt, IsBare, IsNoted, SpellsBare};
 
 use act_rules::{Note, Outcome, Row, Rows};
 use line_forms::{Fields, Lines, after_word, read_moment};

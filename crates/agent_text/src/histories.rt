@@ -4,7 +4,7 @@ ghost use Rattle.line_forms.specs.Numbers.{IsId};
 ghost use Rattle.act_rules.specs.Rows.{HasEnded, HasMoments, last_row};
 ghost use Rattle.agent_text.specs.SavedRows.{IsSavedNote, IsSavedRow};
 ghost use Rattle.agent_text.specs.Histories.{AreHistories, shown_history, rows_at, with_begun, with_cleared, with_ended, with_reported};
-ghost use Rattle.agent_text.specs.Readings.{HasPlace};
+ghost use Rattle.agent_text.specs.PartReadings.{HasPlace};
 
 use crate::history::History;
 use act_rules::{Note, Outcome, Row, Rows};

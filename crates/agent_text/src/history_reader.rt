@@ -3,7 +3,7 @@ ghost use Rattle.line_forms.specs.Numbers.{IsId};
 ghost use Rattle.line_forms.specs.Readers.{TakesOne};
 ghost use Rattle.agent_text.specs.Histories.{AreHistories, shown_history};
 ghost use Rattle.agent_text.specs.SavedTexts.{action_line, pending_line};
-ghost use Rattle.agent_text.specs.Readings.{FindsPlace, IsAbove, TakesAllHistories, TakesHistory, TakesPending, TakesPlace, untold};
+ghost use Rattle.agent_text.specs.PartReadings.{FindsPlace, IsAbove, TakesAllHistories, TakesHistory, TakesPending, TakesPlace, untold};
 
 use crate::attempt_reader::take_attempts;
 use crate::error::SavedError;

@@ -3,7 +3,7 @@ ghost use Rattle.line_forms.specs.Names.{IsName};
 ghost use Rattle.line_forms.specs.Numbers.{IsId};
 ghost use Rattle.line_forms.specs.Readers.{IsAny, TakesOne};
 ghost use Rattle.agent_text.specs.SavedTexts.{ReadsSaved, agent_line, next_line};
-ghost use Rattle.agent_text.specs.Readings.{TakesFrame};
+ghost use Rattle.agent_text.specs.PartReadings.{TakesFrame};
 
 use crate::error::SavedError;
 use crate::histories::Histories;

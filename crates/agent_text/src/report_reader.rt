@@ -4,7 +4,7 @@ ghost use Rattle.line_forms.specs.Numbers.{IsId};
 ghost use Rattle.line_forms.specs.Readers.{TakesAll, TakesExactly, TakesOne};
 ghost use Rattle.report_text.specs.RowLines.{row_line};
 ghost use Rattle.report_text.specs.Reports.{computer_line, form_line, seq_line};
-ghost use Rattle.agent_text.specs.Readings.{CanBeAdded, HasNumber, IsAboveRow, IsFormIn, IsLater, TakesAllReports, TakesReport, around_of};
+ghost use Rattle.agent_text.specs.PartReadings.{CanBeAdded, HasNumber, IsAboveRow, IsFormIn, IsLater, TakesAllReports, TakesReport, around_of};
 
 use crate::error::SavedError;
 use crate::list::add;

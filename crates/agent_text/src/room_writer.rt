@@ -6,7 +6,7 @@ ghost use Rattle.report_text.specs.Reports.{report_text};
 ghost use Rattle.agent_text.specs.Histories.{pending_ids, shown_history};
 ghost use Rattle.agent_text.specs.AttemptLines.{attempt_line, cleared_field};
 ghost use Rattle.agent_text.specs.SavedTexts.{pending_line, saved_text};
-ghost use Rattle.agent_text.specs.Writings.{begun_text, ended_text, head_text, history_text, note_text, pending_text};
+ghost use Rattle.agent_text.specs.PartWritings.{begun_text, ended_text, head_text, history_text, note_text, pending_text};
 
 use crate::histories::Histories;
 use crate::history::History;

@@ -19,7 +19,7 @@ use Rattle.office_text.specs.declared.order.Order.TheVariants as order
 use Rattle.office_text.specs.declared.text_reader.Last.TheVariants as last
 use Rattle.office_text.specs.Orders.{CanFollow}
 use Rattle.office_text.specs.OrderLines.{first_fields, first_line, IsBody, IsEnd}
-use Rattle.office_text.specs.Readings.{AreNewNames, AreNextLines, computer_line, HaveEnded, IsBadAt, IsInText, IsNewComputer, IsRelay, TakesComputer, TakesField, itself}
+use Rattle.office_text.specs.OrderReadings.{AreNewNames, AreNextLines, computer_line, HaveEnded, IsBadAt, IsInText, IsNewComputer, IsRelay, TakesComputer, TakesField, itself}
 use Rattle.office_text.proofs.Fronts.{Lines, nothing, ends_not_among, ends_same}
 use Rattle.office_text.proofs.BodyLemmas.{world_ends}
 use Rattle.office_text.proofs.FieldLemmas.{first_one, names_again}

@@ -12,7 +12,7 @@ use Rattle.office_text.specs.declared.error.OfficeError.TheVariants as error
 use Rattle.office_text.specs.declared.order.Order.{Order}
 use Rattle.office_text.specs.OrderLines.{first_line}
 use Rattle.office_text.specs.Offices.{IsOffice, AreOfficeLines, ReadsOffice}
-use Rattle.office_text.specs.Readings.{HasOrders, IsInText, TakesOrder, TakesOrders}
+use Rattle.office_text.specs.OrderReadings.{HasOrders, IsInText, TakesOrder, TakesOrders}
 use Rattle.office_text.proofs.Fronts.{Lines}
 use Rattle.office_text.proofs.OrderLists.{each_none, each_more, lines_more, office_one}
 use Rattle.office_text.proofs.Stops.{office_ends, stops_between, stops_first, stops_inside}

@@ -11,7 +11,7 @@ use Rattle.office_text.specs.declared.order.Order.{Order}
 use Rattle.office_text.specs.declared.order.Order.TheVariants as order
 use Rattle.office_text.specs.Orders.{CanFollow}
 use Rattle.office_text.specs.OrderLines.{first_line, AreTextTo, HoldContent, IsBody, IsEnd, IsSiteEnd}
-use Rattle.office_text.specs.Readings.{AreNewNames, computer_line, IsShort, TakesBody, TakesComputer, TakesOrder}
+use Rattle.office_text.specs.OrderReadings.{AreNewNames, computer_line, IsShort, TakesBody, TakesComputer, TakesOrder}
 use Rattle.office_text.proofs.Fronts.{Lines}
 use Rattle.office_text.proofs.FieldLemmas.{first_one}
 use Rattle.office_text.proofs.Stops.{behind_first}

@@ -11,7 +11,7 @@ use Rattle.office_text.specs.declared.order.Order.TheVariants as order
 use Rattle.office_text.specs.declared.word.Word.{Word}
 use Rattle.office_text.specs.declared.word.Word.TheVariants as word
 use Rattle.office_text.specs.OrderLines.{first_fields, first_line, IsBody, IsEnd, IsSiteEnd}
-use Rattle.office_text.specs.Readings.{keyword, IsShort, TakesArguments, TakesField}
+use Rattle.office_text.specs.OrderReadings.{keyword, IsShort, TakesArguments, TakesField}
 use Rattle.office_text.proofs.Fronts.{Lines, nothing, ends_some}
 use Rattle.office_text.proofs.BodyLemmas.{content_ends, world_ends}
 use Rattle.office_text.proofs.FieldLemmas.{first_again}

@@ -10,7 +10,7 @@ use Rattle.office_text.specs.declared.order.Order.{Order}
 use Rattle.office_text.specs.Orders.{CanFollow}
 use Rattle.office_text.specs.OrderLines.{first_line, IsBody, AreLinesOf}
 use Rattle.office_text.specs.Offices.{AreOfficeLines}
-use Rattle.office_text.specs.Readings.{AreNextLines}
+use Rattle.office_text.specs.OrderReadings.{AreNextLines}
 use Rattle.office_text.proofs.Fronts.{Lines, fronts, nothing, something}
 use Rattle.office_text.proofs.OneOrder.{order_one}
 use Rattle.office_text.proofs.OrderLists.{continues, each_none, each_more, lines_more, first_not_end}

@@ -15,7 +15,7 @@ use Rattle.world_text.proofs.FieldLemmas.{end_not_content}
 use Rattle.office_text.specs.declared.text_reader.Last.{Last}
 use Rattle.office_text.specs.declared.text_reader.Last.TheVariants as last
 use Rattle.office_text.specs.OrderLines.{AreTextTo, HoldContent, IsEnd}
-use Rattle.office_text.specs.Readings.{IsLast, TakesBody, TakesContent, TakesTo}
+use Rattle.office_text.specs.OrderReadings.{IsLast, TakesBody, TakesContent, TakesTo}
 use Rattle.office_text.proofs.Fronts.{Lines, nothing, ends_not_among}
 use Rattle.office_text.proofs.BodyLemmas.{content_ends, not_end_contents}
 

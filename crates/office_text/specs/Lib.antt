@@ -3,4 +3,4 @@ pub mod OrderLines
 pub mod Offices
 pub mod Made
 pub mod Known
-pub mod Readings
+pub mod OrderReadings

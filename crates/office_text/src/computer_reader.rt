@@ -1,4 +1,4 @@
-ghost use Rattle.office_text.specs.Readings.{FindsNames, IsInText, TakesComputer};
+ghost use Rattle.office_text.specs.OrderReadings.{FindsNames, IsInText, TakesComputer};
 
 use crate::error::OfficeError;
 use crate::field_reader::{take_new_computer_name, take_relay_name};

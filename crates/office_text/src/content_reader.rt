@@ -3,7 +3,7 @@ ghost use Rattle.line_forms.specs.Contents.{content_line};
 ghost use Rattle.line_forms.specs.Names.{IsLineText};
 ghost use Rattle.line_forms.specs.Readers.{TakesOne};
 ghost use Rattle.office_text.specs.OrderLines.{HoldContent};
-ghost use Rattle.office_text.specs.Readings.{TakesBody, TakesContent};
+ghost use Rattle.office_text.specs.OrderReadings.{TakesBody, TakesContent};
 
 use desk_base::Bytes;
 use line_forms::{Lines, read_content};

@@ -4,7 +4,7 @@ ghost use Rattle.desk_base.specs.Moments.{IsMoment};
 ghost use Rattle.line_forms.specs.Names.{IsName};
 ghost use Rattle.line_forms.specs.Numbers.{IsId};
 ghost use Rattle.office_text.specs.Orders.{IsAnyNumber};
-ghost use Rattle.office_text.specs.Readings.{TakesField, itself, IsNewRelay, IsRelay, IsNewComputer, IsComputer};
+ghost use Rattle.office_text.specs.OrderReadings.{TakesField, itself, IsNewRelay, IsRelay, IsNewComputer, IsComputer};
 
 use crate::orders_so_far::OrdersSoFar;
 use line_forms::{Fields, read_id, read_moment, read_name, read_number};

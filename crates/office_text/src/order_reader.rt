@@ -1,5 +1,5 @@
 ghost use Rattle.std.specs.Prelude.{◌≡◌, MatchOption};
-ghost use Rattle.office_text.specs.Readings.{IsInText, TakesOrder};
+ghost use Rattle.office_text.specs.OrderReadings.{IsInText, TakesOrder};
 
 use crate::computer_reader::take_computer_order;
 use crate::content_reader::take_content;

@@ -1,5 +1,5 @@
 ghost use Rattle.office_text.specs.Offices.{ReadsOffice};
-ghost use Rattle.office_text.specs.Readings.{IsInText, TakesOrders};
+ghost use Rattle.office_text.specs.OrderReadings.{IsInText, TakesOrders};
 
 use crate::error::OfficeError;
 use crate::order_list::Orders;

@@ -1,7 +1,7 @@
 ghost use Rattle.std.specs.Prelude.{IfOk};
 ghost use Rattle.line_forms.specs.Readers.{Spells, TakesOne};
 ghost use Rattle.office_text.specs.OrderLines.{first_line};
-ghost use Rattle.office_text.specs.Readings.{IsShort, TakesArguments};
+ghost use Rattle.office_text.specs.OrderReadings.{IsShort, TakesArguments};
 
 use crate::field_reader::{
     take_computer, take_id, take_moment, take_new_relay, take_number, take_relay,

@@ -1,6 +1,6 @@
 ghost use Rattle.std.specs.Prelude.{IfOk, IsTrue, ◌↔◌};
 ghost use Rattle.office_text.specs.OrderLines.{AreTextTo};
-ghost use Rattle.office_text.specs.Readings.{IsLast, TakesTo, TakesBody};
+ghost use Rattle.office_text.specs.OrderReadings.{IsLast, TakesTo, TakesBody};
 
 use desk_base::Bytes;
 use line_forms::{Lines, after_word};

@@ -1,6 +1,6 @@
 ghost use Rattle.std.specs.Prelude.{◌≡◌, MatchOption};
 ghost use Rattle.office_text.specs.declared.word.Word.{Word};
-ghost use Rattle.office_text.specs.Readings.{keyword};
+ghost use Rattle.office_text.specs.OrderReadings.{keyword};
 
 /// The word of an order that is one line.
 #[derive(Clone, Copy)]

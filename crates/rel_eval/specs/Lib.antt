@@ -7,4 +7,4 @@ pub mod Stops
 pub mod Answers
 pub mod Ones
 pub mod Singles
-pub mod Places
+pub mod PlaceTexts

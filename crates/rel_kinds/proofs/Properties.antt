@@ -36,7 +36,7 @@ use Rattle.rel_inspect.specs.Offered.{text_in, integer_in, file_in, folder_in, p
 use Rattle.rel_inspect.specs.Props.{with, looking, at_path, at_name, prop}
 use Rattle.rel_nodes.specs.Meaning.{placed}
 use Rattle.rel_kinds.specs.Giving.{GivesKind, GivesOne}
-use Rattle.rel_kinds.specs.Tables.{PropertyKeeps}
+use Rattle.rel_kinds.specs.RowPromises.{PropertyKeeps}
 use Rattle.rel_kinds.proofs.Basics.{some_same, none_some, false_true, is_tuple, same_tuples}
 
 -- ---- items

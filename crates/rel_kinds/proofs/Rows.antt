@@ -22,7 +22,7 @@ use Rattle.rel_inspect.specs.Props.{prop}
 use Rattle.rel_trace.specs.Trace.{Trace}
 use Rattle.rel_nodes.specs.Meaning.{placed, fold_of, aggregated}
 use Rattle.rel_kinds.specs.Giving.{GivesKind, GivesOne, IsThere}
-use Rattle.rel_kinds.specs.Tables.{AggregateKeeps, HeadKeeps, RowKeeps}
+use Rattle.rel_kinds.specs.RowPromises.{AggregateKeeps, HeadKeeps, RowKeeps}
 use Rattle.rel_kinds.proofs.Properties.{property-keeps, item-keeps, item-one}
 use Rattle.rel_kinds.proofs.Folds as folds
 use Rattle.rel_kinds.proofs.Folds.{full_kind}

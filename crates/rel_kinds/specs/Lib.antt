@@ -1,4 +1,4 @@
 pub mod Giving
-pub mod Tables
+pub mod RowPromises
 pub mod Running
 pub mod Taking

@@ -12,7 +12,7 @@ ghost use Rattle.rel_inspect.specs.Props.{prop};
 ghost use Rattle.rel_nodes.specs.Meaning.{placed};
 ghost use Rattle.rel_kinds.specs.Giving.{GivesKind, GivesOne};
 ghost use Rattle.rel_kinds.specs.Running.{RowGoesOn};
-ghost use Rattle.rel_kinds.specs.Tables.{RowKeeps};
+ghost use Rattle.rel_kinds.specs.RowPromises.{RowKeeps};
 ghost use Rattle.rel_kinds.specs.Taking.{RowTakes};
 
 /// What a row of the tables names gives values of the kind that the row says, in every world and scene. `item`, which has no row,

@@ -2,7 +2,7 @@
 use Rattle.std.specs.Prelude.{◌/◌, ◌%◌, ◌++◌, ◌||◌, ◌==◌, ℕ, nat_lt, List, ◌∷◌, [], if◌then◌else◌, codes, flat_map, slice_index}
 use Rattle.rel_lexer.specs.declared.place.Place.{Place}
 use Rattle.rel_trace.specs.declared.kind.RelKind.{RelKind}
-use Rattle.rel_eval.specs.Places.{place_text}
+use Rattle.rel_eval.specs.PlaceTexts.{place_text}
 use Rattle.rel_session.specs.Errors.{error_text, undefined_text}
 
 -- the hexadecimal digit of a number from 0 to 15, in lower case

@@ -24,7 +24,7 @@ use Rattle.relay_core.specs.declared.key.Key.{Key}
 use Rattle.relay_core.specs.declared.report_queue.KeyState.{KeyState}
 use Rattle.relay_core.specs.declared.report_queue.KeyState.TheVariants.{Queued, Held}
 use Rattle.relay_core.specs.ReportKeys.{ReportKey, key_of, same_key, report_digest, digested, held_digest, queued_digest}
-use Rattle.relay_core.specs.Reports.{without}
+use Rattle.relay_core.specs.ReportsUp.{without}
 use Rattle.relay_core.specs.Indexes.{QueueState, shown_key, key_cmp, all_keys, states_by, key_states, state_of, IsState, FindsState, Writes}
 use Rattle.relay_core.proofs.KeyLists.{lookup-append, all_later, lookup-push, lookup-rest, lookup-moved, lookup-later, apart_from_entries, entries_distinct, moved_distinct}
 

@@ -1,6 +1,6 @@
 pub mod ReportKeys
 pub mod Relays
-pub mod Reports
+pub mod ReportsUp
 pub mod KeptSites
 pub mod Indexes
 pub mod Queues

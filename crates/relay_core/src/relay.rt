@@ -2,8 +2,8 @@ ghost use Rattle.std.specs.Prelude.{◌≡◌, ◌≤◌, length, All, IfOk, OnO
 ghost use Rattle.report_text.specs.Reports.{IsReport};
 ghost use Rattle.fix_site.specs.Sites.{IsSite};
 ghost use Rattle.relay_core.specs.Relays.{empty_relay};
-ghost use Rattle.relay_core.specs.Reports.{AnswersUp, up_verdict, after_up, is_queued, after_sent};
-ghost use Rattle.relay_core.specs.Reports as verdict;
+ghost use Rattle.relay_core.specs.ReportsUp.{AnswersUp, up_verdict, after_up, is_queued, after_sent};
+ghost use Rattle.relay_core.specs.ReportsUp as verdict;
 ghost use Rattle.relay_core.specs.KeptSites.{KeepsSite, AnswersAsk, AreKept, with_site};
 
 use crate::key::Key;

@@ -1,7 +1,7 @@
 ghost use Rattle.std.specs.Prelude.{◌≡◌, ◌++◌, ◌∷◌, [], ◌<◌, ◌-◌, length, None, Some, MatchOption, All, OnOk, OnErr, take, position};
 ghost use Rattle.report_text.specs.Reports.{IsReport};
 ghost use Rattle.relay_core.specs.ReportKeys.{key_of, same_key, report_digest, queued_digest};
-ghost use Rattle.relay_core.specs.Reports.{without, with_held};
+ghost use Rattle.relay_core.specs.ReportsUp.{without, with_held};
 ghost use Rattle.relay_core.specs.Indexes.{shown_key, FindsState, IsNewKey, IsQueued, HasState, Writes};
 
 use crate::key::{Key, LONGEST_NAME};

@@ -5,7 +5,7 @@ use Rattle.script_run.specs.declared.broken.Broken.TheVariants as broken
 use Rattle.script_run.specs.Walks.{Known, Settled, Next, Stop, Walk}
 use Rattle.script_run.specs.Machines.{MachineView}
 use Rattle.script_run.specs.Asking.{When}
-use Rattle.script_run.specs.Steps.{Settles, Comes, Any, IsTextOf, StarvesAsking, Starves}
+use Rattle.script_run.specs.RunSteps.{Settles, Comes, Any, IsTextOf, StarvesAsking, Starves}
 use Rattle.script_run.specs.Fills.{Reaches, Breaks}
 
 -- the same walk by another name

@@ -13,11 +13,11 @@ use Rattle.script_run.specs.declared.place.Place.TheVariants.{Ready}
 use Rattle.script_run.specs.declared.ran.Ran.{Ran}
 use Rattle.script_run.specs.declared.todo.Todo.{Todo}
 use Rattle.script_run.specs.Walks.{Known, Settled, judged, Walk, Rest}
-use Rattle.script_run.specs.Scripts.{walk_all}
+use Rattle.script_run.specs.ScriptWalks.{walk_all}
 use Rattle.script_run.specs.Machines.{MachineView}
 use Rattle.script_run.specs.Asking.{when_of, known_in, JudgesOn}
-use Rattle.script_run.specs.Steps.{Any, Starves}
-use Rattle.script_run.specs.Places.{statements_walk, arm_walk, arms_walk, todo_walk, todos_walk, place_walk}
+use Rattle.script_run.specs.RunSteps.{Any, Starves}
+use Rattle.script_run.specs.RunPlaces.{statements_walk, arm_walk, arms_walk, todo_walk, todos_walk, place_walk}
 use Rattle.script_run.specs.Weights.{all_weight, list_weight, todo_weight, todos_weight, place_weight}
 use Rattle.script_run.specs.ArmAnswers.{after_arm, AnswersArm}
 use Rattle.script_run.specs.Fills.{StepsTo}

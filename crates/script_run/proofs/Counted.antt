@@ -8,10 +8,10 @@ use Rattle.script_run.specs.declared.cause.Cause.TheVariants.{MachineFault}
 use Rattle.script_run.specs.declared.ran.Ran.TheVariants.{Failed as FailedAt}
 use Rattle.script_run.specs.declared.run.Run.{Run}
 use Rattle.script_run.specs.Walks.{Known, Settled, said, judged, acted, polled, fault_in, faults_in, Next, Says, Tests, Pauses, Does, Polls, Fails, Walk}
-use Rattle.script_run.specs.Scripts.{given_known, standing, next, after, command_of, commands_in, commands}
+use Rattle.script_run.specs.ScriptWalks.{given_known, standing, next, after, command_of, commands_in, commands}
 use Rattle.script_run.specs.Machines.{MachineView}
 use Rattle.script_run.specs.Asking.{When}
-use Rattle.script_run.specs.Steps.{Settles, Comes, Any}
+use Rattle.script_run.specs.RunSteps.{Settles, Comes, Any}
 use Rattle.script_run.specs.Advances.{GoesOn}
 use Rattle.script_run.proofs.Faults.{CanCome, Counts, script_counts}
 

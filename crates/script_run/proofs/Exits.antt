@@ -27,9 +27,9 @@ use Rattle.script_run.specs.declared.todo.Todo.{Todo}
 use Rattle.script_run.specs.declared.todo.Todo.TheVariants.{Fetches, Statements as statements_left}
 use Rattle.script_run.specs.declared.run.Run.{Run}
 use Rattle.script_run.specs.Walks.{Known, Settled, Stop, Walk, Rest, failing, testing, doing, awaiting}
-use Rattle.script_run.specs.Lines.{filling, filled, ended, lining, with_parameter, setting, timed, dated, line_walk, placing}
-use Rattle.script_run.specs.Scripts.{walk, walk_all, walk_arms, fetch_all, standing, exit_after}
-use Rattle.script_run.specs.Places.{statements_walk, arms_walk, todo_walk, todos_walk, place_walk, around, from, Stands}
+use Rattle.script_run.specs.LineWalks.{filling, filled, ended, lining, with_parameter, setting, timed, dated, line_walk, placing}
+use Rattle.script_run.specs.ScriptWalks.{walk, walk_all, walk_arms, fetch_all, standing, exit_after}
+use Rattle.script_run.specs.RunPlaces.{statements_walk, arms_walk, todo_walk, todos_walk, place_walk, around, from, Stands}
 use Rattle.script_run.specs.Asking.{known_in}
 
 -- until the next result comes, the exit code stays

@@ -27,8 +27,8 @@ use Rattle.script_text.specs.Scripts.{PlainScript}
 use Rattle.script_run.specs.declared.cause.Cause.{Cause}
 use Rattle.script_run.specs.declared.cause.Cause.TheVariants.{NotContinued, MachineFault, ParameterTwice, WrongSize, WrongDigest, NotServed, BadDate}
 use Rattle.script_run.specs.Walks.{Known, Settled, supplied, said, judged, acted, polled, fault_in, Next, Says, Tests, Pauses, Does, Polls, Fails, Walk, Rest, ending, failing, after_text, saying, after_truth, testing, pausing, after_act, acting, doing, with_exit, after_poll, polling, awaiting}
-use Rattle.script_run.specs.Lines.{filling, filled, lining, ended, with_parameter, setting, timed, dated, line_walk, placing, after_supply, fetching}
-use Rattle.script_run.specs.Scripts.{walk, walk_all, walk_arms, fetch_all, script_walk}
+use Rattle.script_run.specs.LineWalks.{filling, filled, lining, ended, with_parameter, setting, timed, dated, line_walk, placing, after_supply, fetching}
+use Rattle.script_run.specs.ScriptWalks.{walk, walk_all, walk_arms, fetch_all, script_walk}
 
 -- A result can come from what comes next, whatever the machine.
 abbrev pub CanCome : Next → Settled → Type 0

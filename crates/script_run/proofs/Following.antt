@@ -8,7 +8,7 @@ use Rattle.script_run.specs.declared.run.Run.{Run}
 use Rattle.script_run.specs.Walks.{supplied}
 use Rattle.script_run.specs.Machines.{MachineView}
 use Rattle.script_run.specs.Asking.{When}
-use Rattle.script_run.specs.Places.{Stands, wanted_at}
+use Rattle.script_run.specs.RunPlaces.{Stands, wanted_at}
 use Rattle.script_run.specs.Advances.{GoesOn, wanted_by}
 use Rattle.script_run.specs.Courses.{Going, Supplying, ran, taken, Point, IsAt, Follows}
 

@@ -24,10 +24,10 @@ use Rattle.script_run.specs.declared.todo.Todo.{Todo}
 use Rattle.script_run.specs.declared.todo.Todo.TheVariants.{Fetches, Statements as StatementsLeft}
 use Rattle.script_run.specs.declared.run.Run.{Run}
 use Rattle.script_run.specs.Walks.{Known, is_midway, Rest, failing, testing, doing}
-use Rattle.script_run.specs.Lines.{filling, filled, lining, ended, with_parameter, setting, timed, dated, line_walk, placing}
-use Rattle.script_run.specs.Scripts.{walk, walk_all, walk_arms, fetch_all}
+use Rattle.script_run.specs.LineWalks.{filling, filled, lining, ended, with_parameter, setting, timed, dated, line_walk, placing}
+use Rattle.script_run.specs.ScriptWalks.{walk, walk_all, walk_arms, fetch_all}
 use Rattle.script_run.specs.Asking.{known_in}
-use Rattle.script_run.specs.Places.{statements_walk, arms_walk, todo_walk, todos_walk, place_walk, around, from, IsBeforeLine}
+use Rattle.script_run.specs.RunPlaces.{statements_walk, arms_walk, todo_walk, todos_walk, place_walk, around, from, IsBeforeLine}
 
 -- nothing of what comes next is settled
 abbrev pub IsFresh : Rest → Type 0

@@ -28,11 +28,11 @@ use Rattle.script_run.specs.declared.place.Place.{Place}
 use Rattle.script_run.specs.declared.place.Place.TheVariants.{Ready, Placing, Doing, Failed}
 use Rattle.script_run.specs.declared.run.Run.{Run}
 use Rattle.script_run.specs.Walks.{Known, Settled, acted, polled, Walk, Rest, failing, after_act, acting, polling, doing, with_exit}
-use Rattle.script_run.specs.Lines.{line_walk, placing, setting, with_parameter}
+use Rattle.script_run.specs.LineWalks.{line_walk, placing, setting, with_parameter}
 use Rattle.script_run.specs.Machines.{MachineView, view, ActsOn, PollsOn}
 use Rattle.script_run.specs.Asking.{When, when_of, known_in}
-use Rattle.script_run.specs.Steps.{Any, IsTextOf, Starves, Stops}
-use Rattle.script_run.specs.Places.{todo_walk, todos_walk, place_walk, around, from, WaitsBelow}
+use Rattle.script_run.specs.RunSteps.{Any, IsTextOf, Starves, Stops}
+use Rattle.script_run.specs.RunPlaces.{todo_walk, todos_walk, place_walk, around, from, WaitsBelow}
 use Rattle.script_run.specs.Weights.{place_weight, around_weight, run_weight}
 use Rattle.script_run.specs.Fills.{Reaches, StepsTo, Falls, LineSteps, IsRestored, Rests, Compares, StartsBelow}
 use Rattle.script_run.proofs.Chains.{reach_none, reach_one, reach_then, reach_any, reach_from, starve_here, starve_from, starve_reached}

@@ -17,10 +17,10 @@ use Rattle.script_text.specs.Scripts.{PlainScript}
 use Rattle.script_run.specs.declared.ran.Ran.{Ran}
 use Rattle.script_run.specs.declared.ran.Ran.TheVariants as of_run
 use Rattle.script_run.specs.Walks.{Known, Settled, supplied, said, judged, acted, polled, fault_in, faults_in, Next, Wants, Says, Tests, Pauses, Does, Polls, Ends, Fails, Walk}
-use Rattle.script_run.specs.Scripts.{standing, after}
+use Rattle.script_run.specs.ScriptWalks.{standing, after}
 use Rattle.script_run.specs.Machines.{MachineView, ActsOn, PollsOn}
 use Rattle.script_run.specs.Asking.{When, scene_of}
-use Rattle.script_run.specs.Steps.{Settles, Comes, Any, Holds, Stops}
+use Rattle.script_run.specs.RunSteps.{Settles, Comes, Any, Holds, Stops}
 use Rattle.script_run.specs.Advances.{wanted_by}
 use Rattle.script_run.specs.Courses.{Call, Going, Supplying, Reply, ran, taken, Point, beginning, Goes, Replies, Course, IsAmple}
 use Rattle.script_run.proofs.OneAnswer.{says_once, judges_once}

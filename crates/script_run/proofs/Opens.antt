@@ -10,8 +10,8 @@ use Rattle.script_text.specs.Views.{shown_statements, statement_items}
 use Rattle.script_text.specs.Readings.{shown_script}
 use Rattle.script_run.specs.declared.todo.Todo.{Todo}
 use Rattle.script_run.specs.Walks.{Known, Settled, Rest, ending}
-use Rattle.script_run.specs.Scripts.{walk_all, fetch_all, given_known, after}
-use Rattle.script_run.specs.Places.{statements_walk, todo_walk, todos_walk}
+use Rattle.script_run.specs.ScriptWalks.{walk_all, fetch_all, given_known, after}
+use Rattle.script_run.specs.RunPlaces.{statements_walk, todo_walk, todos_walk}
 use Rattle.script_run.specs.Asking.{known_in}
 use Rattle.script_run.proofs.Trees.{StatementsShowEach, walk_listed}
 

@@ -13,10 +13,10 @@ use Rattle.script_run.specs.declared.cause.Cause.TheVariants.{BadDate}
 use Rattle.script_run.specs.declared.lines.Prepared.{Prepared}
 use Rattle.script_run.specs.declared.lines.Prepared.TheVariants.{Does, Awaits}
 use Rattle.script_run.specs.Walks.{Known, Settled, Walk, Rest, doing, awaiting, failing}
-use Rattle.script_run.specs.Lines.{line_walk, filled, timed}
+use Rattle.script_run.specs.LineWalks.{line_walk, filled, timed}
 use Rattle.script_run.specs.Machines.{MachineView}
 use Rattle.script_run.specs.Asking.{When}
-use Rattle.script_run.specs.Steps.{Any, IsTextOf}
+use Rattle.script_run.specs.RunSteps.{Any, IsTextOf}
 use Rattle.script_run.specs.Fills.{Reaches, Breaks, Fills, Prepares, ReadsTime, start_line, await_line}
 use Rattle.script_run.proofs.Chains.{reach_none, reach_any, reach_same, starve_reached, breaks_after}
 

@@ -22,11 +22,11 @@ use Rattle.script_run.specs.declared.ran.Ran.TheVariants as ran
 use Rattle.script_run.specs.declared.place.Place.{Place}
 use Rattle.script_run.specs.declared.run.Run.{Run}
 use Rattle.script_run.specs.Walks.{Known, Settled, said, judged, acted, polled, fault_in, faults_in, Next, is_midway, Says, Tests, Pauses, Does, Polls, Stop, Walk, Rest}
-use Rattle.script_run.specs.Scripts.{standing, after, command_of, commands_in}
+use Rattle.script_run.specs.ScriptWalks.{standing, after, command_of, commands_in}
 use Rattle.script_run.specs.Machines.{MachineView, ActsOn, PollsOn}
 use Rattle.script_run.specs.Asking.{When, when_of, known_in, SaysOn, JudgesOn}
-use Rattle.script_run.specs.Steps.{Settles, Comes, Any, IsTextOf, StarvesAsking, Starves, Holds, Stops}
-use Rattle.script_run.specs.Places.{MemoryLeaves, WaitsBelow, place_walk, from}
+use Rattle.script_run.specs.RunSteps.{Settles, Comes, Any, IsTextOf, StarvesAsking, Starves, Holds, Stops}
+use Rattle.script_run.specs.RunPlaces.{MemoryLeaves, WaitsBelow, place_walk, from}
 use Rattle.script_run.specs.Weights.{place_weight}
 use Rattle.script_run.specs.Advances.{GoesOn}
 use Rattle.script_run.specs.Fills.{Reaches, StepsTo, Falls}

@@ -14,10 +14,10 @@ use Rattle.script_run.specs.declared.broken.Broken.{Broken}
 use Rattle.script_run.specs.declared.broken.Broken.TheVariants as broken
 use Rattle.script_run.specs.declared.cause.Cause.TheVariants.{Relevance, MachineFault}
 use Rattle.script_run.specs.Walks.{Known, said, judged, Walk, Rest, failing, saying, testing, pausing}
-use Rattle.script_run.specs.Lines.{filling, lining}
+use Rattle.script_run.specs.LineWalks.{filling, lining}
 use Rattle.script_run.specs.Machines.{MachineView}
 use Rattle.script_run.specs.Asking.{When, when_of, known_in, SaysOn, JudgesOn}
-use Rattle.script_run.specs.Steps.{Any, IsTextOf, Starves, Holds}
+use Rattle.script_run.specs.RunSteps.{Any, IsTextOf, Starves, Holds}
 use Rattle.script_run.specs.Fills.{Reaches, Fills, Breaks}
 use Rattle.script_run.proofs.Chains.{reach_none, reach_one, starve_asking, starve_reached}
 

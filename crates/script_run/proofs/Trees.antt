@@ -9,8 +9,8 @@ use Rattle.script_text.specs.declared.tree.StatementList.{StatementList}
 use Rattle.script_text.specs.declared.tree.ArmList.{ArmList}
 use Rattle.script_text.specs.Views.{listed, armed, statement_step, arm_step, statements_step, arms_step, shown_statement, shown_arm, shown_statements, shown_arms, statement_items, arm_items}
 use Rattle.script_run.specs.Walks.{Rest, testing}
-use Rattle.script_run.specs.Scripts.{walk, walk_all, walk_arms}
-use Rattle.script_run.specs.Places.{statements_walk, arms_walk}
+use Rattle.script_run.specs.ScriptWalks.{walk, walk_all, walk_arms}
+use Rattle.script_run.specs.RunPlaces.{statements_walk, arms_walk}
 use Rattle.script_run.specs.Weights.{weight, all_weight, arms_weight, list_weight, arm_list_weight}
 
 -- what script_text says of what lists and statements show, in its laws on them

@@ -8,11 +8,11 @@ use Rattle.script_run.specs.declared.ran.Ran.{Ran}
 use Rattle.script_run.specs.declared.ran.Ran.TheVariants as ran
 use Rattle.script_run.specs.declared.run.Run.{Run}
 use Rattle.script_run.specs.Walks.{Settled, faults_in, is_midway}
-use Rattle.script_run.specs.Scripts.{after, commands_in}
+use Rattle.script_run.specs.ScriptWalks.{after, commands_in}
 use Rattle.script_run.specs.Machines.{MachineView}
 use Rattle.script_run.specs.Asking.{When}
-use Rattle.script_run.specs.Steps.{Comes, Any, Stops}
-use Rattle.script_run.specs.Places.{Stands}
+use Rattle.script_run.specs.RunSteps.{Comes, Any, Stops}
+use Rattle.script_run.specs.RunPlaces.{Stands}
 
 -- A run that stood for these results goes on: further results come, each from what comes next, and commands are done that are those
 -- of the results; then it stops with an answer, and stands for all of them.

@@ -7,7 +7,7 @@ use Rattle.script_text.specs.Views.{shown_statements}
 use Rattle.script_run.specs.declared.ran.Ran.{Ran}
 use Rattle.script_run.specs.declared.ran.Ran.TheVariants.{Memory}
 use Rattle.script_run.specs.Walks.{Settled, Walk, Rest, after_truth}
-use Rattle.script_run.specs.Scripts.{walk_all}
+use Rattle.script_run.specs.ScriptWalks.{walk_all}
 
 -- what comes after the answer of an arm's test
 abbrev pub after_arm : Arm → Rest → Rest → Truth → Rest

@@ -7,11 +7,11 @@ use Rattle.script_run.specs.declared.ran.Ran.{Ran}
 use Rattle.script_run.specs.declared.ran.Ran.TheVariants as of_run
 use Rattle.script_run.specs.declared.run.Run.{Run}
 use Rattle.script_run.specs.Walks.{Settled, supplied}
-use Rattle.script_run.specs.Scripts.{after}
+use Rattle.script_run.specs.ScriptWalks.{after}
 use Rattle.script_run.specs.Machines.{MachineView}
 use Rattle.script_run.specs.Asking.{When}
-use Rattle.script_run.specs.Steps.{Comes, Any, Stops}
-use Rattle.script_run.specs.Places.{Stands, wanted_at}
+use Rattle.script_run.specs.RunSteps.{Comes, Any, Stops}
+use Rattle.script_run.specs.RunPlaces.{Stands, wanted_at}
 use Rattle.script_run.specs.Advances.{wanted_by}
 
 -- a call from outside

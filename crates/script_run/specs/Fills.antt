@@ -28,13 +28,13 @@ use Rattle.script_run.specs.declared.todo.Todo.{Todo}
 use Rattle.script_run.specs.declared.ran.Ran.{Ran}
 use Rattle.script_run.specs.declared.ran.Ran.TheVariants.{Memory}
 use Rattle.script_run.specs.Walks.{Known, Settled, Next, Walk, Rest, failing, doing, awaiting}
-use Rattle.script_run.specs.Lines.{setting, placing}
+use Rattle.script_run.specs.LineWalks.{setting, placing}
 use Rattle.script_run.specs.Machines.{MachineView}
 use Rattle.script_run.specs.Asking.{When, SaysText, JudgesText}
-use Rattle.script_run.specs.Places.{place_walk, todo_walk, WaitsBelow, wanted_at, MemoryLeaves}
+use Rattle.script_run.specs.RunPlaces.{place_walk, todo_walk, WaitsBelow, wanted_at, MemoryLeaves}
 use Rattle.script_run.specs.Weights.{place_weight, todo_weight}
 use Rattle.script_run.specs.Advances.{wanted_by}
-use Rattle.script_run.specs.Steps.{Comes, Any, IsTextOf, Starves, Holds, Stops}
+use Rattle.script_run.specs.RunSteps.{Comes, Any, IsTextOf, Starves, Holds, Stops}
 
 -- From a walk on results came, and this is left of it.
 pub record Reaches (P : Next → Settled → Type 0) (at : When) (old : MachineView) (walk : Walk) (new : MachineView) (left : Walk) : Type 0 where

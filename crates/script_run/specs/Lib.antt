@@ -1,11 +1,11 @@
 pub mod Causes
 pub mod Walks
-pub mod Lines
-pub mod Scripts
+pub mod LineWalks
+pub mod ScriptWalks
 pub mod Machines
 pub mod Asking
-pub mod Steps
-pub mod Places
+pub mod RunSteps
+pub mod RunPlaces
 pub mod Advances
 pub mod Courses
 pub mod Weights

@@ -7,7 +7,7 @@ ghost use Rattle.script_text.specs.Scripts.{PlainScript};
 ghost use Rattle.script_run.specs.Walks.{Settled};
 ghost use Rattle.script_run.specs.Machines.{view};
 ghost use Rattle.script_run.specs.Asking.{when_of};
-ghost use Rattle.script_run.specs.Places.{MemoryLeaves, Stands, WaitsBelow, from, wanted_at};
+ghost use Rattle.script_run.specs.RunPlaces.{MemoryLeaves, Stands, WaitsBelow, from, wanted_at};
 ghost use Rattle.script_run.specs.Weights.{run_weight};
 ghost use Rattle.script_run.specs.Advances.{GoesOn, wanted_by};
 ghost use Rattle.script_run.specs.Fills.{StepsTo, Falls, Rests};

@@ -4,10 +4,10 @@ ghost use Rattle.desk_base.specs.Moments.{IsMoment};
 ghost use Rattle.line_forms.specs.Numbers.{IsOffset};
 ghost use Rattle.bf_world.specs.Answers.{HasMoment};
 ghost use Rattle.script_run.specs.Walks.{Settled, doing, awaiting, polling, after_act};
-ghost use Rattle.script_run.specs.Lines.{line_walk, setting};
+ghost use Rattle.script_run.specs.LineWalks.{line_walk, setting};
 ghost use Rattle.script_run.specs.Machines.{MachineView, view};
 ghost use Rattle.script_run.specs.Asking.{When, when_of, known_in};
-ghost use Rattle.script_run.specs.Places.{WaitsBelow, around, from};
+ghost use Rattle.script_run.specs.RunPlaces.{WaitsBelow, around, from};
 ghost use Rattle.script_run.specs.Weights.{place_weight, around_weight, run_weight};
 ghost use Rattle.script_run.specs.Fills.{Breaks, Prepares, IsDated, StepsTo, Falls, Rests, LineSteps, StartsBelow, IsRestored};
 

@@ -3,10 +3,10 @@ ghost use Rattle.std.specs.Prelude.{◌≡◌, ◌+◌, ◌≤◌, ℕ, false, L
 ghost use Rattle.desk_base.specs.Moments.{IsMoment};
 ghost use Rattle.line_forms.specs.Numbers.{IsOffset};
 ghost use Rattle.script_run.specs.Walks.{doing};
-ghost use Rattle.script_run.specs.Lines.{fetching, placing};
+ghost use Rattle.script_run.specs.LineWalks.{fetching, placing};
 ghost use Rattle.script_run.specs.Machines.{MachineView, view};
 ghost use Rattle.script_run.specs.Asking.{When, when_of, known_in};
-ghost use Rattle.script_run.specs.Places.{WaitsBelow, around, from};
+ghost use Rattle.script_run.specs.RunPlaces.{WaitsBelow, around, from};
 ghost use Rattle.script_run.specs.Weights.{around_weight, run_weight};
 ghost use Rattle.script_run.specs.Fills.{StepsTo, Falls, Rests};
 

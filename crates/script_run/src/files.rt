@@ -4,7 +4,7 @@ ghost use Rattle.desk_base.specs.Moments.{IsMoment};
 ghost use Rattle.line_forms.specs.Numbers.{IsOffset};
 ghost use Rattle.script_text.specs.declared.line.Line.TheVariants as Line;
 ghost use Rattle.script_run.specs.Walks.{Rest};
-ghost use Rattle.script_run.specs.Lines.{line_walk};
+ghost use Rattle.script_run.specs.LineWalks.{line_walk};
 ghost use Rattle.script_run.specs.Machines.{view};
 ghost use Rattle.script_run.specs.Asking.{when_of, known_in};
 ghost use Rattle.script_run.specs.Fills.{Prepares, IsDated};

@@ -5,7 +5,7 @@ ghost use Rattle.line_forms.specs.Numbers.{IsOffset};
 ghost use Rattle.script_text.specs.declared.template.Part2.{Part2};
 ghost use Rattle.script_text.specs.declared.template.Template.{Template};
 ghost use Rattle.script_run.specs.Walks.{Rest, saying};
-ghost use Rattle.script_run.specs.Lines.{filling, filled, lining, dated};
+ghost use Rattle.script_run.specs.LineWalks.{filling, filled, lining, dated};
 ghost use Rattle.script_run.specs.Machines.{view};
 ghost use Rattle.script_run.specs.Asking.{when_of, known_in};
 ghost use Rattle.script_run.specs.Fills.{Fills};

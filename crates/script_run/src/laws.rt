@@ -9,10 +9,10 @@ ghost use Rattle.script_run.specs.declared.ran.Ran.{Ran};
 ghost use Rattle.script_run.specs.declared.ran.Ran.TheVariants as of_run;
 ghost use Rattle.script_run.specs.declared.run.Run.{Run};
 ghost use Rattle.script_run.specs.Walks.{Settled, supplied, faults_in, Fails};
-ghost use Rattle.script_run.specs.Scripts.{next, after, commands, commands_in};
+ghost use Rattle.script_run.specs.ScriptWalks.{next, after, commands, commands_in};
 ghost use Rattle.script_run.specs.Machines.{MachineView};
 ghost use Rattle.script_run.specs.Asking.{When};
-ghost use Rattle.script_run.specs.Places.{Stands, wanted_at};
+ghost use Rattle.script_run.specs.RunPlaces.{Stands, wanted_at};
 ghost use Rattle.script_run.specs.Advances.{GoesOn, wanted_by};
 ghost use Rattle.script_run.specs.Courses.{Call, Going, Supplying, Reply, ran, taken, Point, beginning, Course, IsAmple, IsAt, Follows};
 

@@ -3,7 +3,7 @@ ghost use Rattle.std.specs.Prelude.{◌≡◌, ℕ};
 ghost use Rattle.desk_base.specs.Moments.{IsMoment};
 ghost use Rattle.line_forms.specs.Numbers.{IsOffset};
 ghost use Rattle.script_run.specs.Walks.{Rest};
-ghost use Rattle.script_run.specs.Lines.{line_walk};
+ghost use Rattle.script_run.specs.LineWalks.{line_walk};
 ghost use Rattle.script_run.specs.Machines.{view};
 ghost use Rattle.script_run.specs.Asking.{when_of, known_in};
 ghost use Rattle.script_run.specs.Fills.{Prepares, IsDated, start_line, await_line};

@@ -3,10 +3,10 @@ ghost use Rattle.rel_sources.specs.declared.pair.Pair.{Pair};
 ghost use Rattle.script_text.specs.Readings.{shown_script};
 ghost use Rattle.script_text.specs.Scripts.{PlainScript};
 ghost use Rattle.script_run.specs.Walks.{Known, Settled, supplied, Rest};
-ghost use Rattle.script_run.specs.Lines.{fetching};
+ghost use Rattle.script_run.specs.LineWalks.{fetching};
 ghost use Rattle.script_run.specs.Asking.{known_in};
-ghost use Rattle.script_run.specs.Places.{Stands, WaitsBelow, wanted_at, place_walk, around, from};
-ghost use Rattle.script_run.specs.Scripts.{exit_after};
+ghost use Rattle.script_run.specs.RunPlaces.{Stands, WaitsBelow, wanted_at, place_walk, around, from};
+ghost use Rattle.script_run.specs.ScriptWalks.{exit_after};
 
 use crate::Cause;
 use crate::kept::Kept;

@@ -3,7 +3,7 @@ ghost use Rattle.std.specs.Prelude.{◌≡◌, ◌+◌, ℕ, None};
 ghost use Rattle.script_run.specs.Walks.{ending, failing};
 ghost use Rattle.script_run.specs.Machines.{MachineView};
 ghost use Rattle.script_run.specs.Asking.{When, when_of, known_in};
-ghost use Rattle.script_run.specs.Places.{WaitsBelow, around, todos_walk, from};
+ghost use Rattle.script_run.specs.RunPlaces.{WaitsBelow, around, todos_walk, from};
 ghost use Rattle.script_run.specs.Weights.{around_weight, run_weight};
 ghost use Rattle.script_run.specs.Fills.{StepsTo, Falls, Rests};
 

@@ -1,8 +1,8 @@
 ghost use Rattle.std.specs.Prelude.{◌≡◌, ℕ, List};
 ghost use Rattle.script_text.specs.Views.{shown_statement};
 ghost use Rattle.script_run.specs.Walks.{Known, Settled, Rest};
-ghost use Rattle.script_run.specs.Scripts.{walk};
-ghost use Rattle.script_run.specs.Places.{WaitsBelow, place_walk};
+ghost use Rattle.script_run.specs.ScriptWalks.{walk};
+ghost use Rattle.script_run.specs.RunPlaces.{WaitsBelow, place_walk};
 ghost use Rattle.script_run.specs.Weights.{place_weight, weight};
 ghost use Rattle.script_run.specs.Fills.{BeginsAt};
 

@@ -2,7 +2,7 @@
 ghost use Rattle.std.specs.Prelude.{◌≡◌, ℕ, length, IfSome};
 ghost use Rattle.desk_base.specs.Moments.{IsMoment};
 ghost use Rattle.line_forms.specs.Numbers.{IsOffset};
-ghost use Rattle.script_run.specs.Places.{WaitsBelow};
+ghost use Rattle.script_run.specs.RunPlaces.{WaitsBelow};
 
 use crate::said::{answer, deeds};
 use bf_machine::{Command, Machine, PlainMachine, read_world};

@@ -30,12 +30,12 @@ use Rattle.server_core.specs.declared.limits.Limits.{Limits}
 use Rattle.server_core.specs.declared.reply.Reply.TheVariants as told
 use Rattle.server_core.specs.ActionStates.{state_end, stopped_text}
 use Rattle.server_core.specs.Actionsite.{actionsite_body, actionsite_text}
-use Rattle.server_core.specs.Answers.{AreAccepted}
+use Rattle.server_core.specs.CallAnswers.{AreAccepted}
 use Rattle.server_core.specs.Entries.{Entry, Published, SiteText}
-use Rattle.server_core.specs.Inside.{most_bytes}
+use Rattle.server_core.specs.ServerParts.{most_bytes}
 use Rattle.server_core.specs.Replies.{reply, site_reply, text_of_site}
-use Rattle.server_core.specs.Tables.{action_at, action_texts, site_at, view}
-use Rattle.server_core.specs.Views.{ShowsSite}
+use Rattle.server_core.specs.AcceptedTables.{action_at, action_texts, site_at, view}
+use Rattle.server_core.specs.TableViews.{ShowsSite}
 use Rattle.server_core.proofs.Accepting.{IsEntry, actionsite_name, tables_are_rows}
 use Rattle.server_core.proofs.ActionLists.{AreActionRows-view, IsAt, IsRow, OneAction, act_at, acts, acts_follow, acts_texts, at_act, blocks}
 use Rattle.server_core.proofs.ActionTexts.{head_text, parted, stops_text}

@@ -19,9 +19,9 @@ use Rattle.server_core.specs.declared.reply.Reply.TheVariants.{Again, Full, Same
 use Rattle.server_core.specs.declared.reply.Reply.TheVariants as told
 use Rattle.server_core.specs.Actionsite.{actionsite_text, longest_actionsite}
 use Rattle.server_core.specs.Entries.{Entry, Stopped}
-use Rattle.server_core.specs.Inside.{AnswersEntry}
+use Rattle.server_core.specs.ServerParts.{AnswersEntry}
 use Rattle.server_core.specs.Replies.{accepting_reply, first_of, full_of_actions, full_version, reply_to, reply_to_stop, site_reply}
-use Rattle.server_core.specs.Tables.{action_at, action_texts, actions_version, next_version_row, puts, site_version, site_at, stopped_row, version_row}
+use Rattle.server_core.specs.AcceptedTables.{action_at, action_texts, actions_version, next_version_row, puts, site_version, site_at, stopped_row, version_row}
 
 -- what isn't accepted leaves the rows
 pub declined : (limits : Limits) (rows : List Change) (entry : Entry) (reply : Reply) (new : Option (List Change)) → reply_to limits rows entry ≡ Some reply → new ≡ Some rows → AnswersEntry limits rows entry reply new

@@ -17,8 +17,8 @@ use Rattle.fix_site.specs.Sites.{digest_line, site_line}
 use Rattle.desk_keep.specs.declared.change.Change.{Change}
 use Rattle.server_core.specs.ActionStates.{stopped_text}
 use Rattle.server_core.specs.Actionsite.{actionsite_body, actionsite_text, longest_actionsite}
-use Rattle.server_core.specs.Inside.{most_bytes}
-use Rattle.server_core.specs.Tables.{action_texts}
+use Rattle.server_core.specs.ServerParts.{most_bytes}
+use Rattle.server_core.specs.AcceptedTables.{action_texts}
 
 pub filter_map_more : {X Y : Type 0} (f : X → Option Y) (xs : List X) (i : ℕ) (d : X) → i < length xs → filter_map f (take (i + 1) xs) ≡ filter_map f (take i xs) ++ filter_map f (get_or xs i d ∷ [])
 filter_map_more f xs i d within = ap (filter_map f) (take_more xs i d within) ∙ filter_map-append f (take i xs) (get_or xs i d ∷ [])

@@ -14,11 +14,11 @@ use Rattle.desk_keep.specs.declared.find.Find.TheVariants as find
 use Rattle.desk_keep.specs.Keys.{Key, asked_key, key_of, same_key}
 use Rattle.desk_keep.proofs.KeyOrder.{same_exact}
 use Rattle.server_core.specs.declared.limits.Limits.{Limits}
-use Rattle.server_core.specs.Answers.{AreAccepted, is_accepted}
+use Rattle.server_core.specs.CallAnswers.{AreAccepted, is_accepted}
 use Rattle.server_core.specs.Entries.{Entry, Filed, Issued, Published, Reported, Stopped}
 use Rattle.server_core.specs.Replies.{reply_to_report}
-use Rattle.server_core.specs.Tables.{action_at, computer_at, has_later, next_version_row, puts, report_at, result_of, stopped_row, view}
-use Rattle.server_core.specs.Views.{IsReportOf, ShowsComputer, ShowsReport}
+use Rattle.server_core.specs.AcceptedTables.{action_at, computer_at, has_later, next_version_row, puts, report_at, result_of, stopped_row, view}
+use Rattle.server_core.specs.TableViews.{IsReportOf, ShowsComputer, ShowsReport}
 use Rattle.server_core.proofs.Accepting.{not_so}
 use Rattle.server_core.proofs.RowsAfter.{cons_head, cons_tail, in_cons, in_nothing, other_key, row_after, row_at-put_all}
 

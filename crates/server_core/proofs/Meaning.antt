@@ -32,7 +32,7 @@ use Rattle.site_check.specs.Pieces.{IsGoodPiece, IsNoTruth, IsTruth, IsWrongRead
 use Rattle.server_core.specs.declared.request.Request.{Request}
 use Rattle.server_core.specs.declared.request.Request.TheVariants as request
 use Rattle.server_core.specs.Entries.{Asked, Issued, Published, Reported}
-use Rattle.server_core.specs.Readings.{Asks, IsGoodTarget, IsNoAction, IsRefusedAction, IsWrongTarget, ReadsIssued, ReadsPublished, ReadsReported, TellsAction, TellsError, TellsFinding, TellsReportError, asked_of, line_count}
+use Rattle.server_core.specs.RequestTexts.{Asks, IsGoodTarget, IsNoAction, IsRefusedAction, IsWrongTarget, ReadsIssued, ReadsPublished, ReadsReported, TellsAction, TellsError, TellsFinding, TellsReportError, asked_of, line_count}
 use Rattle.server_core.proofs.ReadAgain.{Again, OneReport}
 
 -- the laws of what texts are read as

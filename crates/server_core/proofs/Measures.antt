@@ -22,11 +22,11 @@ use Rattle.server_core.specs.declared.limits.Limits.{Limits}
 use Rattle.server_core.specs.declared.reply.Reply.TheVariants.{Full}
 use Rattle.server_core.specs.ActionStates.{stopped_text}
 use Rattle.server_core.specs.Actionsite.{longest_actionsite}
-use Rattle.server_core.specs.Answers.{AreAccepted}
+use Rattle.server_core.specs.CallAnswers.{AreAccepted}
 use Rattle.server_core.specs.Entries.{Entry, Filed, Issued, Published, Reported, Stopped}
-use Rattle.server_core.specs.Inside.{most_bytes}
+use Rattle.server_core.specs.ServerParts.{most_bytes}
 use Rattle.server_core.specs.Replies.{full_if, full_of_actions, full_version, reply_to, reply_to_action, reply_to_stop}
-use Rattle.server_core.specs.Tables.{action_at, action_texts, has_later, next_version_row, puts, result_of, text_in, view}
+use Rattle.server_core.specs.AcceptedTables.{action_at, action_texts, has_later, next_version_row, puts, result_of, text_in, view}
 use Rattle.server_core.proofs.Accepting.{IsEntry, entry_of, first_two, not_so, puts_fit, tables_are_rows}
 use Rattle.server_core.proofs.ActionTexts.{stops_text}
 use Rattle.server_core.proofs.Gathering.{longest, most_of-append}

@@ -7,7 +7,7 @@ use Rattle.report_text.specs.declared.error.ReportError.{ReportError}
 use Rattle.report_text.specs.declared.error.ReportError.TheVariants.{Memory}
 use Rattle.report_text.specs.Reports.{IsReport, ReadsReport, report_text}
 use Rattle.server_core.specs.Entries.{Asked, Enters, Entry, Reported}
-use Rattle.server_core.specs.Readings.{ReadsReported, TellsReportError, asked_of}
+use Rattle.server_core.specs.RequestTexts.{ReadsReported, TellsReportError, asked_of}
 
 abbrev pub Again : Type 0
 Again = (report : Report) (answer : Result Report ReportError) → IsReport report → ReadsReport (report_text report) answer → (answer ≡ Ok report) ⊎ (answer ≡ Err Memory)

@@ -10,8 +10,8 @@ use Rattle.site_check.specs.declared.refusal.PieceRefusal.{PieceRefusal}
 use Rattle.site_check.specs.Findings.{FirstRefused}
 use Rattle.server_core.specs.declared.text_error.TextError.{TextError}
 use Rattle.server_core.specs.declared.text_error.TextError.TheVariants as text
-use Rattle.server_core.specs.Inside.{IsUnreadAction, Tells}
-use Rattle.server_core.specs.Readings.{IsRefusedSite, ReadsIssued, ReadsPublished, line_count, refused_line}
+use Rattle.server_core.specs.ServerParts.{IsUnreadAction, Tells}
+use Rattle.server_core.specs.RequestTexts.{IsRefusedSite, ReadsIssued, ReadsPublished, line_count, refused_line}
 
 pub bad_line : (bytes : List ℕ) (line : ℕ) → ReadsSite bytes (Err (error.BadLine line)) → IsRefusedSite bytes line
 bad_line bytes line reads = (finding.BadLine line, reads, refl)

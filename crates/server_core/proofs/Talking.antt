@@ -16,12 +16,12 @@ use Rattle.server_core.specs.declared.stop.Stop.{Stop}
 use Rattle.server_core.specs.declared.text_error.TextError.{TextError}
 use Rattle.server_core.specs.declared.text_error.TextError.TheVariants as text
 use Rattle.desk_keep.specs.Calls.{IfTold}
-use Rattle.server_core.specs.Answers.{Answers, AreTables, TellsBad, after, is_accepted, is_fault}
+use Rattle.server_core.specs.CallAnswers.{Answers, AreTables, TellsBad, after, is_accepted, is_fault}
 use Rattle.server_core.specs.Entries.{Asked, Bad, Enters, Entry, Issued, Published, Reported}
-use Rattle.server_core.specs.Inside.{AnswersEntry, AnswersRequest, IsUnread, Tells, is_plain}
-use Rattle.server_core.specs.Readings.{Asks, ReadsIssued, ReadsPublished, ReadsReported}
+use Rattle.server_core.specs.ServerParts.{AnswersEntry, AnswersRequest, IsUnread, Tells, is_plain}
+use Rattle.server_core.specs.RequestTexts.{Asks, ReadsIssued, ReadsPublished, ReadsReported}
 use Rattle.server_core.specs.Replies.{reply}
-use Rattle.server_core.specs.Tables.{view}
+use Rattle.server_core.specs.AcceptedTables.{view}
 use Rattle.server_core.proofs.Accepting.{not_so}
 
 -- ---- plain replies

@@ -1,10 +1,10 @@
 pub mod Entries
-pub mod Readings
+pub mod RequestTexts
 pub mod ActionStates
 pub mod Actionsite
-pub mod Tables
+pub mod AcceptedTables
 pub mod Replies
-pub mod Answers
-pub mod Views
+pub mod CallAnswers
+pub mod TableViews
 pub mod Bodies
-pub mod Inside
+pub mod ServerParts

@@ -19,7 +19,7 @@ use Rattle.server_core.specs.declared.reply.Reply.TheVariants as told
 use Rattle.server_core.specs.ActionStates.{before_state, is_stopped}
 use Rattle.server_core.specs.Actionsite.{actionsite_text, longest_actionsite}
 use Rattle.server_core.specs.Entries.{Entry, Published, Issued, Stopped, Filed, Reported, Asked, Enters, Versions, SiteText, FileBytes, Results, Bad}
-use Rattle.server_core.specs.Tables.{action_at, action_texts, actions_version, computer_at, file_at, report_at, result_row, site_at, site_version, view}
+use Rattle.server_core.specs.AcceptedTables.{action_at, action_texts, actions_version, computer_at, file_at, report_at, result_row, site_at, site_version, view}
 
 -- the first reply, if there is one
 abbrev pub first_of : List (Option Reply) → Option Reply

@@ -2,8 +2,8 @@
 ghost use Rattle.std.specs.Prelude.{◌≡◌, ◌++◌, [], ◌∷◌, ◌-◌, ◌^◌, min, IfOk, OnOk};
 ghost use Rattle.std.specs.List.{concat};
 ghost use Rattle.server_core.specs.Actionsite.{actionsite_body, actionsite_text, longest_actionsite};
-ghost use Rattle.server_core.specs.Inside.{most_bytes};
-ghost use Rattle.server_core.specs.Tables.{action_texts};
+ghost use Rattle.server_core.specs.ServerParts.{most_bytes};
+ghost use Rattle.server_core.specs.AcceptedTables.{action_texts};
 
 use crate::action_state::stopped_len;
 use desk_base::{Bytes, decimal};

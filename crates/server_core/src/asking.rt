@@ -3,8 +3,8 @@ ghost use Rattle.std.specs.Prelude.{◌≡◌, ◌≤◌, ◌++◌, [], ◌∷�
 ghost use Rattle.desk_base.specs.Counts.{Rose};
 ghost use Rattle.desk_keep.specs.Calls.{IfTold};
 ghost use Rattle.server_core.specs.Replies.{file_reply, results_reply, site_reply, versions_reply};
-ghost use Rattle.server_core.specs.Tables.{file_at, result_row, site_at, site_version};
-ghost use Rattle.server_core.specs.Inside.{is_plain};
+ghost use Rattle.server_core.specs.AcceptedTables.{file_at, result_row, site_at, site_version};
+ghost use Rattle.server_core.specs.ServerParts.{is_plain};
 
 use crate::actionsite::actionsite_text;
 use crate::looking::{actions_of, has_row, results_of, row_of, versions_of};

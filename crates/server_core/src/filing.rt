@@ -3,7 +3,7 @@ ghost use Rattle.std.specs.Prelude.{◌≡◌, ◌≤◌, true, IfOk, IsErrOf, O
 ghost use Rattle.desk_base.specs.Counts.{Rose};
 ghost use Rattle.desk_keep.specs.Calls.{IfTold};
 ghost use Rattle.server_core.specs.Entries.{Filed};
-ghost use Rattle.server_core.specs.Inside.{AnswersEntry, is_plain};
+ghost use Rattle.server_core.specs.ServerParts.{AnswersEntry, is_plain};
 
 use crate::keeping::put;
 use crate::limits::Limits;

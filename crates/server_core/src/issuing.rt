@@ -6,7 +6,7 @@ ghost use Rattle.desk_keep.specs.Calls.{IfTold};
 ghost use Rattle.server_core.specs.Entries.{Issued, Stopped};
 ghost use Rattle.server_core.specs.declared.limits.Limits.{Limits};
 ghost use Rattle.server_core.specs.Replies.{first_of, full_of_actions, full_version, known_action, reply_to};
-ghost use Rattle.server_core.specs.Inside.{AnswersEntry, is_plain};
+ghost use Rattle.server_core.specs.ServerParts.{AnswersEntry, is_plain};
 
 use crate::action_state::{before_state, is_stopped, stopped_text};
 use crate::actionsite::longest_actionsite;

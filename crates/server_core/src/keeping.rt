@@ -5,7 +5,7 @@ ghost use Rattle.line_forms.specs.Numbers.{IsId};
 ghost use Rattle.desk_keep.specs.Calls.{IfTold};
 ghost use Rattle.desk_keep.specs.Forms.{Fits};
 ghost use Rattle.desk_keep.specs.Tables.{put_all};
-ghost use Rattle.server_core.specs.Tables.{actions_version, version_row};
+ghost use Rattle.server_core.specs.AcceptedTables.{actions_version, version_row};
 
 use crate::looking::actions_version;
 use crate::stop::Stop;

@@ -14,12 +14,12 @@ ghost use Rattle.server_core.specs.declared.reply.Reply.TheVariants as told;
 ghost use Rattle.server_core.specs.declared.request.Request.{Request};
 ghost use Rattle.server_core.specs.declared.request.Request.TheVariants as asking;
 ghost use Rattle.server_core.specs.ActionStates.{before_state, is_stopped, stopped_text};
-ghost use Rattle.server_core.specs.Answers.{AreAccepted, after};
+ghost use Rattle.server_core.specs.CallAnswers.{AreAccepted, after};
 ghost use Rattle.server_core.specs.Entries.{Asked, Enters, Entry, Reported, SiteText};
-ghost use Rattle.server_core.specs.Readings.{Asks};
+ghost use Rattle.server_core.specs.RequestTexts.{Asks};
 ghost use Rattle.server_core.specs.Replies.{reply};
-ghost use Rattle.server_core.specs.Tables.{action_at, actions_version, computer_at, file_at, report_at, result_at, site_at, view};
-ghost use Rattle.server_core.specs.Views.{ShowsAction, ShowsComputer, ShowsFile, ShowsReport, ShowsResult, ShowsSite, changes_actions};
+ghost use Rattle.server_core.specs.AcceptedTables.{action_at, actions_version, computer_at, file_at, report_at, result_at, site_at, view};
+ghost use Rattle.server_core.specs.TableViews.{ShowsAction, ShowsComputer, ShowsFile, ShowsReport, ShowsResult, ShowsSite, changes_actions};
 
 use desk_keep::{a_row_is_found_where_it_was_put, one_key, rows_stay_rows};
 use fix_site::{an_action_is_read_again, one_action, one_reading};

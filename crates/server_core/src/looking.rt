@@ -6,7 +6,7 @@ ghost use Rattle.desk_keep.specs.Calls.{IfTold};
 ghost use Rattle.desk_keep.specs.Forms.{Fits};
 ghost use Rattle.desk_keep.specs.Keys.{asked_key, key_of};
 ghost use Rattle.desk_keep.specs.Tables.{is_of, is_result_of, row_at, without_text};
-ghost use Rattle.server_core.specs.Tables.{actions_version};
+ghost use Rattle.server_core.specs.AcceptedTables.{actions_version};
 
 use crate::stop::Stop;
 use desk_keep::{Change, Changes, Counted, Find, Found, Keeper, Listed, Table};

@@ -5,8 +5,8 @@ ghost use Rattle.fix_site.specs.Sites.{IsSite, site_text};
 ghost use Rattle.desk_keep.specs.Calls.{IfTold};
 ghost use Rattle.server_core.specs.Entries.{Published};
 ghost use Rattle.server_core.specs.Replies.{full_if, reply_to_site, site_count};
-ghost use Rattle.server_core.specs.Tables.{site_at};
-ghost use Rattle.server_core.specs.Inside.{AnswersEntry, is_plain};
+ghost use Rattle.server_core.specs.AcceptedTables.{site_at};
+ghost use Rattle.server_core.specs.ServerParts.{AnswersEntry, is_plain};
 
 use crate::keeping::put;
 use crate::limits::Limits;

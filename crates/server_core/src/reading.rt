@@ -2,8 +2,8 @@
 ghost use Rattle.std.specs.Prelude.{◌≡◌, ◌≤◌, ◌-◌, List, ℕ, length, IfOk, Result};
 ghost use Rattle.fix_site.specs.declared.error.SiteError.{SiteError};
 ghost use Rattle.fix_site.specs.Answers.{ReadsAction, ReadsSite};
-ghost use Rattle.server_core.specs.Readings.{ReadsIssued, ReadsPublished, ReadsReported, line_count, refused_line};
-ghost use Rattle.server_core.specs.Inside.{IsUnreadSite, IsUnreadAction, JudgesTarget, Tells};
+ghost use Rattle.server_core.specs.RequestTexts.{ReadsIssued, ReadsPublished, ReadsReported, line_count, refused_line};
+ghost use Rattle.server_core.specs.ServerParts.{IsUnreadSite, IsUnreadAction, JudgesTarget, Tells};
 
 use crate::text_error::TextError;
 use fix_site::{Action, Site, SiteError, Target, a_site_has_few_lines, read_action, read_site};

@@ -8,8 +8,8 @@ ghost use Rattle.desk_keep.specs.Calls.{IfTold};
 ghost use Rattle.desk_keep.specs.Forms.{Fits};
 ghost use Rattle.server_core.specs.Entries.{Reported};
 ghost use Rattle.server_core.specs.Replies.{full_of_reports, known_report, reply_to};
-ghost use Rattle.server_core.specs.Tables.{has_later, puts, result_of};
-ghost use Rattle.server_core.specs.Inside.{AnswersEntry, is_plain};
+ghost use Rattle.server_core.specs.AcceptedTables.{has_later, puts, result_of};
+ghost use Rattle.server_core.specs.ServerParts.{AnswersEntry, is_plain};
 
 use crate::keeping::put;
 use crate::limits::Limits;

@@ -1,6 +1,6 @@
 ghost use Rattle.std.specs.Prelude.{◌≡◌, ◌≤◌, ◌++◌, [], ◌∷◌, List, IfOk, OnOk, OnErr};
 ghost use Rattle.server_core.specs.Entries.{Entry};
-ghost use Rattle.server_core.specs.Answers.{AnswersAll, AreTables};
+ghost use Rattle.server_core.specs.CallAnswers.{AnswersAll, AreTables};
 
 use crate::reply::Reply;
 use crate::request::Request;

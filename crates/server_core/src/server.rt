@@ -1,8 +1,8 @@
 ghost use Rattle.std.specs.Prelude.{◌≡◌, ◌≤◌, List, true, false, IfOk, IsErrOf, OnErr};
 ghost use Rattle.desk_base.specs.Counts.{Rose};
 ghost use Rattle.server_core.specs.Entries.{Entry};
-ghost use Rattle.server_core.specs.Answers.{Answers, AreTables, TellsBad, is_fault};
-ghost use Rattle.server_core.specs.Inside.{AnswersRequest, IsUnread};
+ghost use Rattle.server_core.specs.CallAnswers.{Answers, AreTables, TellsBad, is_fault};
+ghost use Rattle.server_core.specs.ServerParts.{AnswersRequest, IsUnread};
 
 use crate::asking::{ask_file, ask_results, ask_site, ask_sites};
 use crate::filing::keep_file;

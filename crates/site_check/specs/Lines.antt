@@ -1,7 +1,7 @@
 -- What is said of a finding: a line.
 use Rattle.std.specs.Prelude.{ℕ, List, [], ◌++◌, codes, decimal}
 use Rattle.hex.specs.Hex.{encode_lower}
-use Rattle.rel_eval.specs.Places.{place_text}
+use Rattle.rel_eval.specs.PlaceTexts.{place_text}
 use Rattle.rel_trace.specs.Kinds.{number_of}
 use Rattle.site_check.specs.declared.refusal.PieceRefusal.{PieceRefusal}
 use Rattle.site_check.specs.declared.refusal.PieceRefusal.TheVariants as refusal

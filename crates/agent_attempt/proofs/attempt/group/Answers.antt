@@ -1,7 +1,7 @@
 use Rattle.std.proofs.Common.{◌<◌, length, get_or, refl, ap, ◌∙◌, arith}
 use Rattle.std.proofs.lemmas.List.{take_all}
 use Rattle.agent_attempt.specs.Attempts.{numbered}
-use Rattle.agent_attempt.specs.Contents.{fixlets_at}
+use Rattle.agent_attempt.specs.ActionContents.{fixlets_at}
 use Rattle.agent_attempt.proofs.Components.{group_more}
 use Rattle.agent_attempt.proofs.attempt.group.Goals as goal
 

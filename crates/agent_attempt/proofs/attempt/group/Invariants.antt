@@ -1,6 +1,6 @@
 use Rattle.std.proofs.Common.{◌≡◌, take}
 use Rattle.agent_attempt.specs.Attempts.{numbered}
-use Rattle.agent_attempt.specs.Contents.{fixlets_at}
+use Rattle.agent_attempt.specs.ActionContents.{fixlets_at}
 use Rattle.agent_attempt.proofs.attempt.group.Given as goal
 
 abbrev pub invariant-loop-id : goal.invariant-loop-id

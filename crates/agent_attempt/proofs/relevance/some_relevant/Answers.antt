@@ -1,6 +1,6 @@
 use Rattle.std.proofs.Common.{◌<◌, length, get_or, refl, ◌∙◌, arith}
 use Rattle.script_run.specs.Machines.{MachineView, view}
-use Rattle.agent_attempt.specs.Contents.{fixlets_at}
+use Rattle.agent_attempt.specs.ActionContents.{fixlets_at}
 use Rattle.agent_attempt.specs.Relevance.{Asking, SomeIs}
 use Rattle.agent_attempt.proofs.Asked.{some_next, some_stop, some_end}
 use Rattle.agent_attempt.proofs.relevance.some_relevant.Goals as goal

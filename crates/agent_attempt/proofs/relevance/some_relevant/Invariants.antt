@@ -1,6 +1,6 @@
 use Rattle.std.proofs.Common.{◌≡◌, drop}
 use Rattle.script_run.specs.Machines.{view}
-use Rattle.agent_attempt.specs.Contents.{fixlets_at}
+use Rattle.agent_attempt.specs.ActionContents.{fixlets_at}
 use Rattle.agent_attempt.specs.Relevance.{SomeIs}
 use Rattle.agent_attempt.proofs.Asked.{Continues}
 use Rattle.agent_attempt.proofs.relevance.some_relevant.Given as goal

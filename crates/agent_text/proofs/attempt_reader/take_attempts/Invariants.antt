@@ -2,7 +2,7 @@ use Rattle.std.proofs.Common.{length}
 use Rattle.std.specs.Prelude.{map}
 use Rattle.line_forms.specs.Readers.{EachCan, Passes}
 use Rattle.agent_text.specs.AttemptLines.{attempt_line}
-use Rattle.agent_text.specs.Readings.{CanBeNext}
+use Rattle.agent_text.specs.PartReadings.{CanBeNext}
 use Rattle.agent_text.proofs.attempt_reader.take_attempts.Given as goal
 
 -- the lines of the attempts so far were taken

@@ -2,7 +2,7 @@ use Rattle.std.proofs.Common.{map, refl}
 use Rattle.std.specs.Prelude.{codes, decimal}
 use Rattle.line_forms.proofs.Passing.{takes_rest}
 use Rattle.agent_text.specs.Histories.{shown_history}
-use Rattle.agent_text.specs.Readings.{IsAbove}
+use Rattle.agent_text.specs.PartReadings.{IsAbove}
 use Rattle.agent_text.proofs.AttemptReading.{not_so}
 use Rattle.agent_text.proofs.IdLines.{other_id}
 use Rattle.agent_text.proofs.history_reader.take_action.Goals as goal

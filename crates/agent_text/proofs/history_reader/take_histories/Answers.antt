@@ -1,7 +1,7 @@
 use Rattle.std.proofs.Common.{Ok, Option, map, subst}
 use Rattle.agent_text.specs.declared.history.History.{History}
 use Rattle.agent_text.specs.Histories.{shown_history}
-use Rattle.agent_text.specs.Readings.{TakesHistory}
+use Rattle.agent_text.specs.PartReadings.{TakesHistory}
 use Rattle.agent_text.proofs.HistoryLists.{shown_more}
 use Rattle.agent_text.proofs.history_reader.take_histories.Goals as goal
 

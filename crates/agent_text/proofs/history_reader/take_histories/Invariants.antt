@@ -1,7 +1,7 @@
 use Rattle.std.proofs.Common.{length}
 use Rattle.std.specs.Prelude.{map}
 use Rattle.agent_text.specs.Histories.{shown_history}
-use Rattle.agent_text.specs.Readings.{HasHistories}
+use Rattle.agent_text.specs.PartReadings.{HasHistories}
 use Rattle.agent_text.proofs.history_reader.take_histories.Given as goal
 
 -- the lines of the histories so far were taken

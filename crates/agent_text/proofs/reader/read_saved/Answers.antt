@@ -5,7 +5,7 @@ use Rattle.report_text.specs.Reports.{end_line}
 use Rattle.agent_text.specs.declared.history.History.{History}
 use Rattle.agent_text.specs.declared.saved.Saved.{Saved}
 use Rattle.agent_text.specs.Histories.{AreHistories, PlainHistory, shown_history}
-use Rattle.agent_text.specs.Readings.{TakesPending, around_of, untold}
+use Rattle.agent_text.specs.PartReadings.{TakesPending, around_of, untold}
 use Rattle.agent_text.proofs.AttemptReading.{not_so}
 use Rattle.agent_text.proofs.HistoryLists.{all_untold, are_histories}
 use Rattle.agent_text.proofs.Parts.{not_taken, was_taken}

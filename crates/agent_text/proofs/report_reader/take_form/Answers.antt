@@ -3,7 +3,7 @@ use Rattle.report_text.specs.declared.form.Form.{Form}
 use Rattle.report_text.specs.declared.form.Form.TheVariants.{Two}
 use Rattle.report_text.specs.Reports.{form_line}
 use Rattle.report_text.specs.declared.form.Form.TheVariants as form
-use Rattle.agent_text.specs.Readings.{IsFormIn}
+use Rattle.agent_text.specs.PartReadings.{IsFormIn}
 use Rattle.agent_text.proofs.Parts.{second_taken}
 use Rattle.agent_text.proofs.report_reader.take_form.Goals as goal
 

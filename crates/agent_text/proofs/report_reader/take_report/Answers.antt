@@ -1,6 +1,6 @@
 use Rattle.std.proofs.Common.{refl}
 use Rattle.report_text.specs.Reports.{computer_line, end_line}
-use Rattle.agent_text.specs.Readings.{around_of}
+use Rattle.agent_text.specs.PartReadings.{around_of}
 use Rattle.agent_text.proofs.AttemptReading.{not_so}
 use Rattle.agent_text.proofs.Parts.{not_taken, was_taken}
 use Rattle.agent_text.proofs.ReportLists.{no_computer, no_end, no_seq, number_left, whole}

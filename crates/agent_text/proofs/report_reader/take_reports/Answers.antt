@@ -1,6 +1,6 @@
 use Rattle.std.proofs.Common.{Ok, Option, subst}
 use Rattle.report_text.specs.declared.report.Report.{Report}
-use Rattle.agent_text.specs.Readings.{TakesReport, around_of}
+use Rattle.agent_text.specs.PartReadings.{TakesReport, around_of}
 use Rattle.agent_text.proofs.ReportLists.{has_more}
 use Rattle.agent_text.proofs.report_reader.take_reports.Goals as goal
 

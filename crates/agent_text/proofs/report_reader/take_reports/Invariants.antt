@@ -1,5 +1,5 @@
 use Rattle.std.proofs.Common.{length}
-use Rattle.agent_text.specs.Readings.{HasReports, around_of}
+use Rattle.agent_text.specs.PartReadings.{HasReports, around_of}
 use Rattle.agent_text.proofs.report_reader.take_reports.Given as goal
 
 -- the lines of the reports so far were taken

@@ -1,5 +1,5 @@
 use Rattle.report_text.specs.RowLines.{row_line}
-use Rattle.agent_text.specs.Readings.{CanBeAdded}
+use Rattle.agent_text.specs.PartReadings.{CanBeAdded}
 use Rattle.agent_text.proofs.Sequences.{taken_all, taken_more}
 use Rattle.agent_text.proofs.report_reader.take_rows.Goals as goal
 

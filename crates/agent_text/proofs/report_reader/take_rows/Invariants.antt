@@ -2,7 +2,7 @@ use Rattle.std.proofs.Common.{length}
 use Rattle.std.specs.Prelude.{map}
 use Rattle.line_forms.specs.Readers.{EachCan, Passes}
 use Rattle.report_text.specs.RowLines.{row_line}
-use Rattle.agent_text.specs.Readings.{CanBeAdded}
+use Rattle.agent_text.specs.PartReadings.{CanBeAdded}
 use Rattle.agent_text.proofs.report_reader.take_rows.Given as goal
 
 -- the lines of the rows so far were taken

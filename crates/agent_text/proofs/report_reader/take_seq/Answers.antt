@@ -1,7 +1,7 @@
 use Rattle.std.proofs.Common.{◌<◌, refl, arith}
 use Rattle.std.specs.Prelude.{codes, decimal}
 use Rattle.line_forms.proofs.Passing.{takes_rest}
-use Rattle.agent_text.specs.Readings.{IsLater}
+use Rattle.agent_text.specs.PartReadings.{IsLater}
 use Rattle.agent_text.proofs.AttemptReading.{not_so}
 use Rattle.agent_text.proofs.IdLines.{other_id}
 use Rattle.agent_text.proofs.report_reader.take_seq.Goals as goal

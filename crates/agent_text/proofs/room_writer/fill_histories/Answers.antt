@@ -3,7 +3,7 @@ use Rattle.std.specs.Prelude.{flat_map}
 use Rattle.std.proofs.lemmas.List.Folds.{flat_map-map}
 use Rattle.agent_text.specs.declared.history.History.{History}
 use Rattle.agent_text.specs.Histories.{shown_history}
-use Rattle.agent_text.specs.Writings.{history_text}
+use Rattle.agent_text.specs.PartWritings.{history_text}
 use Rattle.agent_text.proofs.FillLemmas.{fills_all, room_item}
 use Rattle.agent_text.proofs.room_writer.fill_histories.Goals as goal
 

@@ -4,7 +4,7 @@ use Rattle.line_forms.specs.Lines.{lines_text}
 use Rattle.agent_text.specs.declared.history.History.{History}
 use Rattle.agent_text.specs.Histories.{pending_ids, shown_history}
 use Rattle.agent_text.specs.SavedTexts.{pending_line}
-use Rattle.agent_text.specs.Writings.{pending_text}
+use Rattle.agent_text.specs.PartWritings.{pending_text}
 use Rattle.agent_text.proofs.FillLemmas.{fills_all, pending_of_histories, room_item}
 use Rattle.agent_text.proofs.room_writer.fill_pending.Goals as goal
 

@@ -6,7 +6,7 @@ use Rattle.report_text.specs.Reports.{report_text}
 use Rattle.agent_text.specs.declared.saved.Saved.{Saved}
 use Rattle.agent_text.specs.Histories.{PlainHistory, pending_ids}
 use Rattle.agent_text.specs.SavedTexts.{pending_line}
-use Rattle.agent_text.specs.Writings.{head_text, history_text}
+use Rattle.agent_text.specs.PartWritings.{head_text, history_text}
 use Rattle.agent_text.proofs.FillLemmas.{filled_length, fills_then, rest_text, saved_length, saved_parts}
 use Rattle.agent_text.proofs.room_writer.fill_saved.Goals as goal
 

@@ -1,7 +1,7 @@
 use Rattle.std.proofs.Common.{Option, sym, subst}
 use Rattle.std.proofs.lemmas.Bool.{iff_false}
 use Rattle.office_text.specs.declared.computer_reader.Names.{Names}
-use Rattle.office_text.specs.Readings.{FindsNames}
+use Rattle.office_text.specs.OrderReadings.{FindsNames}
 use Rattle.office_text.proofs.ComputerLemmas.{more_names, name_missing, names_are, relay_missing}
 use Rattle.office_text.proofs.computer_reader.names_ahead.Goals as goal
 

@@ -2,7 +2,7 @@ use Rattle.std.proofs.Common.{ℕ, List, Err, subst, ◌∙◌}
 use Rattle.line_forms.specs.BadLines.{AnswersBadLine}
 use Rattle.world_text.specs.declared.error.WorldError.{WorldError}
 use Rattle.world_text.specs.Texts.{AreNamedLines, ReadsNamedWorld}
-use Rattle.office_text.specs.Readings.{computer_line}
+use Rattle.office_text.specs.OrderReadings.{computer_line}
 use Rattle.office_text.proofs.ComputerLemmas.{ahead_again, computer_bad, computer_read}
 use Rattle.office_text.proofs.computer_reader.take_computer_order.Goals as goal
 

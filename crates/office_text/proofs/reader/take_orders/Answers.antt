@@ -1,6 +1,6 @@
 use Rattle.std.proofs.Common.{List, Option, Ok, subst, sym}
 use Rattle.office_text.specs.declared.order.Order.{Order}
-use Rattle.office_text.specs.Readings.{HasOrders, TakesOrder}
+use Rattle.office_text.specs.OrderReadings.{HasOrders, TakesOrder}
 use Rattle.office_text.proofs.OfficeReading.{has_more, in_text}
 use Rattle.office_text.proofs.reader.take_orders.Goals as goal
 

@@ -1,5 +1,5 @@
 use Rattle.std.proofs.Common.{length}
-use Rattle.office_text.specs.Readings.{HasOrders, IsInText}
+use Rattle.office_text.specs.OrderReadings.{HasOrders, IsInText}
 use Rattle.office_text.proofs.reader.take_orders.Given as goal
 
 -- the lines of the orders so far were taken

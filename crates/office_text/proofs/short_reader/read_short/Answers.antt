@@ -1,7 +1,7 @@
 use Rattle.std.proofs.Common.{Option, sym, subst, ◌∙◌}
 use Rattle.std.proofs.lemmas.Bool.{iff_false}
 use Rattle.office_text.specs.declared.order.Order.{Order}
-use Rattle.office_text.specs.Readings.{TakesArguments}
+use Rattle.office_text.specs.OrderReadings.{TakesArguments}
 use Rattle.office_text.proofs.ShortLemmas.{line_is, more_fields, no_arguments, no_word}
 use Rattle.office_text.proofs.short_reader.read_short.Goals as goal
 

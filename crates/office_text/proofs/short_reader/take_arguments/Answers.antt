@@ -2,7 +2,7 @@ use Rattle.std.proofs.Common.{refl, subst, sym}
 use Rattle.office_text.specs.declared.order.Order.TheVariants.{Relay}
 use Rattle.office_text.specs.declared.word.Word.{Word}
 use Rattle.office_text.specs.declared.word.Word.TheVariants as word
-use Rattle.office_text.specs.Readings.{IsNewRelay, TakesArguments, itself}
+use Rattle.office_text.specs.OrderReadings.{IsNewRelay, TakesArguments, itself}
 use Rattle.office_text.proofs.ShortLemmas.{arm, mapped}
 use Rattle.office_text.proofs.WordLemmas.{of_relay}
 use Rattle.office_text.proofs.short_reader.take_arguments.Goals as goal

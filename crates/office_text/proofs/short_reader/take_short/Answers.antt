@@ -2,7 +2,7 @@ use Rattle.std.proofs.Common.{ℕ, List, [], ◌∷◌, Option, subst}
 use Rattle.line_forms.specs.Readers.{Passes, Spells}
 use Rattle.office_text.specs.declared.order.Order.{Order}
 use Rattle.office_text.specs.OrderLines.{first_line}
-use Rattle.office_text.specs.Readings.{IsShort}
+use Rattle.office_text.specs.OrderReadings.{IsShort}
 use Rattle.office_text.proofs.short_reader.take_short.Goals as goal
 
 pub returns : goal.returns

@@ -3,7 +3,7 @@ use Rattle.std.proofs.lemmas.Result.{err_from_is_err_and}
 use Rattle.bf_world.specs.declared.command.Command.TheVariants.{Append}
 use Rattle.script_run.specs.declared.lines.Prepared.TheVariants.{Does}
 use Rattle.script_run.specs.Walks.{doing}
-use Rattle.script_run.specs.Lines.{ended}
+use Rattle.script_run.specs.LineWalks.{ended}
 use Rattle.script_run.proofs.Chains.{starve_reached}
 use Rattle.script_run.proofs.Preparing.{err_prepares, does_prepares}
 use Rattle.script_run.proofs.files.appends.Goals as goal

@@ -1,5 +1,5 @@
 use Rattle.rel_value.specs.TimesRead.{time_of}
-use Rattle.script_run.specs.Lines.{timed}
+use Rattle.script_run.specs.LineWalks.{timed}
 use Rattle.script_run.proofs.Preparing.{times_fill}
 use Rattle.script_run.proofs.filling.dated.Goals as goal
 

@@ -1,6 +1,6 @@
 use Rattle.std.proofs.Common.{◌+◌, ◌<◌, ◌≤◌, length, drop, refl, sym, ap, ◌∙◌, arith}
 use Rattle.std.proofs.lemmas.Result.{err_from_is_err_and}
-use Rattle.script_run.specs.Lines.{filling}
+use Rattle.script_run.specs.LineWalks.{filling}
 use Rattle.script_run.specs.Asking.{known_in}
 use Rattle.script_run.proofs.Chains.{reach_none, reach_then, breaks_after}
 use Rattle.script_run.proofs.Texts.{next_part, all_parts}

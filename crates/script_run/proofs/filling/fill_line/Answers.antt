@@ -1,5 +1,5 @@
 use Rattle.std.proofs.Common.{[], ◌∷◌}
-use Rattle.script_run.specs.Lines.{lining, ended}
+use Rattle.script_run.specs.LineWalks.{lining, ended}
 use Rattle.script_run.specs.Asking.{known_in}
 use Rattle.script_run.proofs.Texts.{appended}
 use Rattle.script_run.proofs.filling.fill_line.Goals as goal

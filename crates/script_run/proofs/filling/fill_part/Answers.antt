@@ -1,7 +1,7 @@
 use Rattle.std.proofs.Common.{true, ◌++◌, sym, ap, ◌∙◌}
 use Rattle.script_text.specs.declared.template.Part2.TheVariants.{Plain}
 use Rattle.std.proofs.lemmas.Result.{err_from_is_err_and}
-use Rattle.script_run.specs.Lines.{filling}
+use Rattle.script_run.specs.LineWalks.{filling}
 use Rattle.script_run.proofs.Texts.{part_plain, part_said, part_broken}
 use Rattle.script_run.proofs.Preparing.{err_fills}
 use Rattle.script_run.proofs.filling.fill_part.Goals as goal

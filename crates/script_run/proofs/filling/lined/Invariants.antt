@@ -1,9 +1,9 @@
 use Rattle.std.proofs.Common.{◌≡◌, ℕ, Bool, List, [], drop}
 use Rattle.script_run.specs.Walks.{Rest}
-use Rattle.script_run.specs.Lines.{lining}
+use Rattle.script_run.specs.LineWalks.{lining}
 use Rattle.script_run.specs.Machines.{view}
 use Rattle.script_run.specs.Asking.{when_of, known_in}
-use Rattle.script_run.specs.Steps.{IsTextOf}
+use Rattle.script_run.specs.RunSteps.{IsTextOf}
 use Rattle.script_run.specs.Fills.{Reaches}
 use Rattle.script_run.proofs.filling.lined.Given as goal
 

@@ -1,5 +1,5 @@
 use Rattle.std.proofs.lemmas.Result.{err_from_is_err_and}
-use Rattle.script_run.specs.Lines.{filled}
+use Rattle.script_run.specs.LineWalks.{filled}
 use Rattle.script_run.proofs.Chains.{reach_then, breaks_after}
 use Rattle.script_run.proofs.Preparing.{err_fills}
 use Rattle.script_run.proofs.filling.two.Goals as goal

@@ -3,7 +3,7 @@ use Rattle.std.proofs.lemmas.Int.{to_z-of_z}
 use Rattle.std.proofs.lemmas.Result.{err_from_is_err_and}
 use Rattle.bf_world.specs.declared.command.Command.TheVariants.{Drop}
 use Rattle.script_run.specs.Walks.{doing}
-use Rattle.script_run.specs.Lines.{dated}
+use Rattle.script_run.specs.LineWalks.{dated}
 use Rattle.script_run.proofs.Chains.{reach_then, breaks_after}
 use Rattle.script_run.proofs.Preparing.{err_prepares, does_prepares}
 use Rattle.script_run.proofs.lines.drops.Goals as goal

@@ -1,6 +1,6 @@
 use Rattle.std.proofs.Common.{false}
 use Rattle.std.proofs.lemmas.Result.{err_from_is_err_and}
-use Rattle.script_run.specs.Lines.{setting}
+use Rattle.script_run.specs.LineWalks.{setting}
 use Rattle.script_run.proofs.Chains.{starve_reached}
 use Rattle.script_run.proofs.Preparing.{err_prepares}
 use Rattle.script_run.proofs.lines.sets.Goals as goal

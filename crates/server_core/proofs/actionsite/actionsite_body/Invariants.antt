@@ -1,6 +1,6 @@
 use Rattle.std.proofs.Common.{◌≡◌, take}
 use Rattle.server_core.specs.Actionsite.{actionsite_body}
-use Rattle.server_core.specs.Tables.{action_texts}
+use Rattle.server_core.specs.AcceptedTables.{action_texts}
 use Rattle.server_core.proofs.actionsite.actionsite_body.Given as goal
 
 -- the first line and the texts of the actions so far were written

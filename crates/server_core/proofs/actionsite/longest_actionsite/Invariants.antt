@@ -1,6 +1,6 @@
 use Rattle.std.proofs.Common.{◌≡◌, ◌∷◌, ◌-◌, ◌^◌, min, take}
 use Rattle.server_core.specs.Actionsite.{longest_actionsite}
-use Rattle.server_core.specs.Tables.{action_texts}
+use Rattle.server_core.specs.AcceptedTables.{action_texts}
 use Rattle.server_core.proofs.actionsite.longest_actionsite.Given as goal
 
 -- the most bytes of the text of the new action and those so far

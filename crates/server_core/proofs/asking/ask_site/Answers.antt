@@ -1,6 +1,6 @@
 use Rattle.std.proofs.Common.{Some, ◌<◌, ◌≡◌, true, ◌∙◌, ap, sym, codes, arith}
 use Rattle.std.specs.Prelude.{bytes_eq}
-use Rattle.server_core.specs.Tables.{site_at}
+use Rattle.server_core.specs.AcceptedTables.{site_at}
 use Rattle.server_core.proofs.Deciding.{actionsite_told, none_other}
 use Rattle.server_core.proofs.asking.ask_site.Goals as goal
 

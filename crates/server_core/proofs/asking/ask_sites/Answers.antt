@@ -1,7 +1,7 @@
 use Rattle.std.proofs.Common.{◌∙◌, ap}
 use Rattle.std.specs.Prelude.{filter_map}
 use Rattle.server_core.specs.declared.reply.Reply.TheVariants.{Sites}
-use Rattle.server_core.specs.Tables.{site_version}
+use Rattle.server_core.specs.AcceptedTables.{site_version}
 use Rattle.server_core.proofs.Deciding.{versions_listed}
 use Rattle.server_core.proofs.asking.ask_sites.Goals as goal
 

@@ -1,6 +1,6 @@
 use Rattle.std.proofs.Common.{arith, ◌<◌, length, List}
 use Rattle.desk_keep.specs.declared.change.Change.{Change}
-use Rattle.server_core.specs.Tables.{result_row}
+use Rattle.server_core.specs.AcceptedTables.{result_row}
 use Rattle.server_core.proofs.Gathering.{gathered}
 use Rattle.server_core.proofs.asking.result_rows.Goals as goal
 

@@ -1,6 +1,6 @@
 use Rattle.std.proofs.Common.{◌≡◌, take}
 use Rattle.std.specs.Prelude.{filter_map}
-use Rattle.server_core.specs.Tables.{result_row}
+use Rattle.server_core.specs.AcceptedTables.{result_row}
 use Rattle.server_core.proofs.asking.result_rows.Given as goal
 
 -- the results of the rows so far

@@ -1,6 +1,6 @@
 use Rattle.std.proofs.Common.{arith, ◌<◌, length, List}
 use Rattle.desk_keep.specs.declared.change.Change.{Change}
-use Rattle.server_core.specs.Tables.{site_version}
+use Rattle.server_core.specs.AcceptedTables.{site_version}
 use Rattle.server_core.proofs.Gathering.{gathered}
 use Rattle.server_core.proofs.asking.site_versions.Goals as goal
 

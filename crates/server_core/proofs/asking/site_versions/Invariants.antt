@@ -1,6 +1,6 @@
 use Rattle.std.proofs.Common.{◌≡◌, take}
 use Rattle.std.specs.Prelude.{filter_map}
-use Rattle.server_core.specs.Tables.{site_version}
+use Rattle.server_core.specs.AcceptedTables.{site_version}
 use Rattle.server_core.proofs.asking.site_versions.Given as goal
 
 -- the sites of the rows so far

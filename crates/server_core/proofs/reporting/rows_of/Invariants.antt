@@ -3,7 +3,7 @@ use Rattle.std.specs.Prelude.{All, filter, map}
 use Rattle.desk_keep.specs.declared.change.Change.TheVariants as change
 use Rattle.desk_keep.specs.Calls.{IfTold}
 use Rattle.desk_keep.specs.Forms.{Fits}
-use Rattle.server_core.specs.Tables.{has_later, result_of}
+use Rattle.server_core.specs.AcceptedTables.{has_later, result_of}
 use Rattle.server_core.proofs.reporting.rows_of.Given as goal
 
 -- the computer, the digest and the later results of the rows so far

@@ -1,6 +1,6 @@
 use Rattle.std.proofs.Common.{◌≤◌, List, take}
 use Rattle.server_core.specs.Entries.{Entry}
-use Rattle.server_core.specs.Answers.{AnswersAll, AreTables}
+use Rattle.server_core.specs.CallAnswers.{AnswersAll, AreTables}
 use Rattle.server_core.proofs.run.answer_all.Given as goal
 
 -- the requests so far were answered

@@ -2,7 +2,7 @@ use Rattle.std.proofs.Common.{None, SFits, w64, sym, ap, subst, ◌∙◌}
 use Rattle.std.proofs.lemmas.Int.{to_z-of_z}
 use Rattle.agent_attempt.specs.declared.read_site.Content.{Content}
 use Rattle.agent_attempt.specs.Attempts.{new_attempt, coming, starting}
-use Rattle.agent_attempt.specs.Shown.{shown_content}
+use Rattle.agent_attempt.specs.FoundContents.{shown_content}
 use Rattle.agent_attempt.specs.Stages.{FirstHasScript, shown_attempt}
 use Rattle.agent_attempt.proofs.attempt.Attempt.begin.Goals as goal
 

@@ -4,7 +4,7 @@ use Rattle.agent_attempt.specs.declared.found.Found.TheVariants.{Yes, No, Failed
 use Rattle.agent_attempt.specs.declared.went.Went.TheVariants as went
 use Rattle.agent_attempt.specs.declared.attempt.Stage.TheVariants as stage
 use Rattle.agent_attempt.specs.Stages.{AttemptState, shown_attempt, shown_stage}
-use Rattle.agent_attempt.specs.Steps.{weight_of}
+use Rattle.agent_attempt.specs.AttemptSteps.{weight_of}
 use Rattle.agent_attempt.proofs.Asked.{relevant_has_script}
 use Rattle.agent_attempt.proofs.Firsts.{has_script_first}
 use Rattle.agent_attempt.proofs.Stepping.{first_of, next_steps, same_held, same_as, falls_coming, falls_more, first_falls, waits_coming, none_note}

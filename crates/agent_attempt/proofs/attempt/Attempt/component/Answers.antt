@@ -1,6 +1,6 @@
 use Rattle.std.proofs.Common.{◌≡◌, ◌<◌, length, refl, ap, ◌∙◌, arith}
 use Rattle.agent_attempt.specs.Stages.{AttemptState}
-use Rattle.agent_attempt.specs.Steps.{first_component}
+use Rattle.agent_attempt.specs.AttemptSteps.{first_component}
 use Rattle.agent_attempt.proofs.Firsts.{first_position, no_position}
 use Rattle.agent_attempt.proofs.attempt.Attempt.component.Goals as goal
 

@@ -4,7 +4,7 @@ use Rattle.agent_attempt.specs.declared.went.Went.{Went}
 use Rattle.agent_attempt.specs.Attempts.{PlainAttempt, StageWaitsBelow}
 use Rattle.agent_attempt.specs.Going.{GoesOn, SameAttempt}
 use Rattle.agent_attempt.specs.Stages.{shown_attempt, shown_stage}
-use Rattle.agent_attempt.specs.Steps.{weight_of}
+use Rattle.agent_attempt.specs.AttemptSteps.{weight_of}
 use Rattle.agent_attempt.proofs.attempt.Attempt.go_on.Given as goal
 
 abbrev pub invariant-steps : goal.invariant-steps

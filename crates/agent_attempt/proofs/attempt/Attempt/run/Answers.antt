@@ -1,9 +1,9 @@
 use Rattle.std.proofs.Common.{◌+◌, ◌*◌, length, SFits, w64, ap, subst, ◌∙◌, rules}
 use Rattle.std.proofs.lemmas.Int.{to_z-of_z}
-use Rattle.script_run.specs.Places.{from, wanted_at}
+use Rattle.script_run.specs.RunPlaces.{from, wanted_at}
 use Rattle.agent_attempt.specs.Attempts.{running}
 use Rattle.agent_attempt.specs.Stages.{AttemptState, shown_attempt}
-use Rattle.agent_attempt.specs.Steps.{Falls, weight_of}
+use Rattle.agent_attempt.specs.AttemptSteps.{Falls, weight_of}
 use Rattle.agent_attempt.proofs.Stepping.{first_of}
 use Rattle.agent_attempt.proofs.AfterRun.{run_steps, run_advances, run_exit, after_named, behind_waits, behind_is}
 use Rattle.agent_attempt.proofs.Stages.{staged_same}

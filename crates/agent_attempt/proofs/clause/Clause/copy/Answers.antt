@@ -1,5 +1,5 @@
 use Rattle.std.proofs.Common.{List, ℕ, sym, subst}
-use Rattle.agent_attempt.specs.Reads.{IsReadAs}
+use Rattle.agent_attempt.specs.ReadTexts.{IsReadAs}
 use Rattle.agent_attempt.proofs.clause.Clause.copy.Goals as goal
 
 pub invariant_of-result : goal.invariant_of-result

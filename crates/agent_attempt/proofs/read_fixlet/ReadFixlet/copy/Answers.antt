@@ -1,7 +1,7 @@
 use Rattle.std.proofs.Common.{sym, ap, subst, ◌∙◌}
 use Rattle.fix_site.specs.declared.fixlet.Fixlet.{Fixlet}
 use Rattle.fix_site.specs.Contents.{IsFixlet}
-use Rattle.agent_attempt.specs.Reads.{IsScriptOf, success_clause}
+use Rattle.agent_attempt.specs.ReadTexts.{IsScriptOf, success_clause}
 use Rattle.agent_attempt.proofs.read_fixlet.ReadFixlet.copy.Goals as goal
 
 pub invariant_of-result : goal.invariant_of-result

@@ -1,6 +1,6 @@
 use Rattle.std.proofs.Common.{sym, subst}
 use Rattle.fix_site.specs.declared.fixlet.Fixlet.{Fixlet}
-use Rattle.agent_attempt.specs.Reads.{IsScriptOf}
+use Rattle.agent_attempt.specs.ReadTexts.{IsScriptOf}
 use Rattle.agent_attempt.specs.Relevance.{HasScript}
 use Rattle.agent_attempt.proofs.Asked.{no_script}
 use Rattle.agent_attempt.proofs.read_fixlet.ReadFixlet.script.Goals as goal

@@ -1,7 +1,7 @@
 use Rattle.std.proofs.Common.{map, ap, subst, ◌∙◌}
 use Rattle.fix_site.specs.declared.site.Site.{Site}
-use Rattle.agent_attempt.specs.Blocks.{shown_block}
-use Rattle.agent_attempt.specs.Shown.{FindsBlock}
+use Rattle.agent_attempt.specs.ReadBlocks.{shown_block}
+use Rattle.agent_attempt.specs.FoundContents.{FindsBlock}
 use Rattle.agent_attempt.proofs.Lookups.{finds_block}
 use Rattle.agent_attempt.proofs.read_site.ReadSite.block.Goals as goal
 

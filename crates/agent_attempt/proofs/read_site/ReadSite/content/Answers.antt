@@ -1,6 +1,6 @@
 use Rattle.std.proofs.Common.{sym, ap, ◌∙◌}
 use Rattle.std.specs.Option.{option_and_then}
-use Rattle.agent_attempt.specs.Contents.{block_content}
+use Rattle.agent_attempt.specs.ActionContents.{block_content}
 use Rattle.agent_attempt.proofs.read_site.ReadSite.content.Goals as goal
 
 pub returns-in-Some : goal.returns-in-Some

@@ -1,7 +1,7 @@
 use Rattle.std.proofs.Common.{ap}
 use Rattle.std.specs.Option.{option_and_then}
-use Rattle.agent_attempt.specs.Blocks.{shown_block}
-use Rattle.agent_attempt.specs.Contents.{as_fixlet}
+use Rattle.agent_attempt.specs.ReadBlocks.{shown_block}
+use Rattle.agent_attempt.specs.ActionContents.{as_fixlet}
 use Rattle.agent_attempt.proofs.Lookups.{finds_fixlet}
 use Rattle.agent_attempt.proofs.read_site.ReadSite.fixlet.Goals as goal
 

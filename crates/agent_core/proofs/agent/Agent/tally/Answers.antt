@@ -2,7 +2,7 @@ use Rattle.std.proofs.Common.{◌≡◌, Some, None, ap, sym, subst, ◌∙◌}
 use Rattle.std.specs.declared.option.Option.{Option}
 use Rattle.std.specs.Prelude.{option_copied}
 use Rattle.act_rules.specs.declared.tally.Tally.{Tally}
-use Rattle.agent_attempt.specs.Contents.{actions_of}
+use Rattle.agent_attempt.specs.ActionContents.{actions_of}
 use Rattle.agent_core.specs.declared.parts.Parts.{Parts}
 use Rattle.agent_core.specs.declared.tallies.ActionTally.{ActionTally}
 use Rattle.agent_core.specs.Agents.{AgentState, shown_state}

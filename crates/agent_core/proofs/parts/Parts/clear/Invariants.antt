@@ -1,7 +1,7 @@
 use Rattle.std.proofs.Common.{◌≡◌, drop, false}
 use Rattle.script_run.specs.Machines.{view}
 use Rattle.agent_text.specs.Histories.{AreHistories}
-use Rattle.agent_attempt.specs.Contents.{actions_of}
+use Rattle.agent_attempt.specs.ActionContents.{actions_of}
 use Rattle.agent_core.specs.Inside.{state_of}
 use Rattle.agent_core.specs.Steps.{AreMarked, MarksEach}
 use Rattle.agent_core.proofs.Searching.{MarksOn, marks_of, shown_actions}

@@ -4,8 +4,8 @@ use Rattle.std.proofs.lemmas.Result.{err_from_is_err_and}
 use Rattle.act_rules.specs.Rows.{HasEnded, last_row}
 use Rattle.fix_site.specs.declared.action.Action.{Action}
 use Rattle.agent_text.specs.Histories.{AreHistories, rows_at, with_cleared}
-use Rattle.agent_attempt.specs.Blocks.{shown_block}
-use Rattle.agent_attempt.specs.Contents.{as_action}
+use Rattle.agent_attempt.specs.ReadBlocks.{shown_block}
+use Rattle.agent_attempt.specs.ActionContents.{as_action}
 use Rattle.agent_core.specs.Steps.{AreMarked}
 use Rattle.agent_core.specs.Turns.{may_clear}
 use Rattle.std.specs.Prelude.{IsSomeAnd}

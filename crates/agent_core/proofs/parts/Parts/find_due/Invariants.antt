@@ -1,6 +1,6 @@
 use Rattle.std.proofs.Common.{◌≡◌, drop}
 use Rattle.script_run.specs.Machines.{view}
-use Rattle.agent_attempt.specs.Contents.{actions_of}
+use Rattle.agent_attempt.specs.ActionContents.{actions_of}
 use Rattle.agent_core.specs.Inside.{state_of}
 use Rattle.agent_core.specs.Steps.{FindsDue}
 use Rattle.agent_core.proofs.Searching.{FindsOn, shown_actions}

@@ -7,7 +7,7 @@ use Rattle.std.proofs.lemmas.Bool.{not-false, not-true}
 use Rattle.std.proofs.lemmas.Slice.Eq.{bytes_eq-Decides}
 use Rattle.fix_site.specs.declared.site.Site.{Site}
 use Rattle.fix_site.specs.Sites.{IsSite}
-use Rattle.agent_attempt.specs.Contents.{actions_of, as_action}
+use Rattle.agent_attempt.specs.ActionContents.{actions_of, as_action}
 use Rattle.agent_core.specs.declared.parts.Parts.{Parts}
 use Rattle.agent_core.specs.Changes.{with_site}
 use Rattle.agent_core.specs.Inside.{IsSoundParts, state_of}

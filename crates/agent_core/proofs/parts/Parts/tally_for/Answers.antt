@@ -1,4 +1,4 @@
-use Rattle.agent_attempt.specs.Contents.{actions_of}
+use Rattle.agent_attempt.specs.ActionContents.{actions_of}
 use Rattle.agent_core.specs.declared.parts.Parts.{Parts}
 use Rattle.agent_core.proofs.TallyLists.{all_stand, all_stand_marked}
 use Rattle.agent_core.proofs.parts.Parts.tally_for.Goals as goal

@@ -2,7 +2,7 @@ use Rattle.std.proofs.Common.{List, false, refl, subst, Ok, Err, None, Some}
 use Rattle.script_run.specs.Asking.{When}
 use Rattle.script_run.specs.Machines.{MachineView, view}
 use Rattle.agent_text.specs.Histories.{PlainHistory}
-use Rattle.agent_attempt.specs.Contents.{actions_of}
+use Rattle.agent_attempt.specs.ActionContents.{actions_of}
 use Rattle.agent_attempt.specs.Stages.{shown_attempt}
 use Rattle.agent_core.specs.Inside.{state_of}
 use Rattle.agent_core.specs.States.{PocketView, State, devices, pocket_view, with_histories}

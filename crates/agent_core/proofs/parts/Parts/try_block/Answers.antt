@@ -1,6 +1,6 @@
 use Rattle.std.proofs.Common.{ap}
-use Rattle.agent_attempt.specs.Blocks.{shown_block}
-use Rattle.agent_attempt.specs.Contents.{as_action}
+use Rattle.agent_attempt.specs.ReadBlocks.{shown_block}
+use Rattle.agent_attempt.specs.ActionContents.{as_action}
 use Rattle.agent_core.specs.Inside.{state_of}
 use Rattle.agent_core.proofs.Searching.{finds_block}
 use Rattle.agent_core.proofs.parts.Parts.try_block.Goals as goal

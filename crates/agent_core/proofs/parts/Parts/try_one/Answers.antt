@@ -4,8 +4,8 @@ use Rattle.fix_site.specs.declared.action.Action.{Action}
 use Rattle.agent_text.specs.Histories.{rows_at}
 use Rattle.agent_attempt.specs.declared.found.Found.TheVariants.{Yes, No}
 use Rattle.agent_attempt.specs.Attempts.{new_attempt}
-use Rattle.agent_attempt.specs.Contents.{content_of}
-use Rattle.agent_attempt.specs.Shown.{shown_content, shown_if}
+use Rattle.agent_attempt.specs.ActionContents.{content_of}
+use Rattle.agent_attempt.specs.FoundContents.{shown_content, shown_if}
 use Rattle.agent_core.specs.Inside.{state_of}
 use Rattle.agent_core.specs.States.{with_histories}
 use Rattle.agent_core.specs.Steps.{BeginsOne}

@@ -4,8 +4,8 @@ use Rattle.std.specs.List.Sorted.{IsStrictlyIncreasing}
 use Rattle.std.proofs.lemmas.List.{take_all}
 use Rattle.fix_site.specs.declared.action.Action.{Action}
 use Rattle.agent_attempt.specs.declared.read_block.ReadBlock.{ReadBlock}
-use Rattle.agent_attempt.specs.Blocks.{shown_block}
-use Rattle.agent_attempt.specs.Contents.{as_action}
+use Rattle.agent_attempt.specs.ReadBlocks.{shown_block}
+use Rattle.agent_attempt.specs.ActionContents.{as_action}
 use Rattle.agent_core.specs.declared.tallies.ActionTally.{ActionTally}
 use Rattle.agent_core.specs.Lookups.{TalliesStand}
 use Rattle.agent_core.proofs.SiteActions.{action_id, actions_more, actions_same}

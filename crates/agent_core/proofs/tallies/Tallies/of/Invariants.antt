@@ -1,7 +1,7 @@
 use Rattle.std.proofs.Common.{map, take}
 use Rattle.std.specs.List.{filter_map}
-use Rattle.agent_attempt.specs.Blocks.{shown_block}
-use Rattle.agent_attempt.specs.Contents.{as_action}
+use Rattle.agent_attempt.specs.ReadBlocks.{shown_block}
+use Rattle.agent_attempt.specs.ActionContents.{as_action}
 use Rattle.agent_core.specs.Lookups.{TalliesStand}
 use Rattle.agent_core.proofs.tallies.Tallies.of.Given as goal
 

@@ -2,7 +2,7 @@ use Rattle.std.proofs.Common.{◌≡◌, length, arith, true, sym, ap, ◌∙◌
 use Rattle.std.specs.Option.{is_some}
 use Rattle.relay_core.specs.ReportKeys.{ReportKey, queued_digest}
 use Rattle.relay_core.specs.Relays.{RelayState}
-use Rattle.relay_core.specs.Reports.{is_queued, without, with_held}
+use Rattle.relay_core.specs.ReportsUp.{is_queued, without, with_held}
 use Rattle.relay_core.specs.Indexes.{QueueState, shown_key}
 use Rattle.relay_core.proofs.QueueLemmas.{length-without}
 use Rattle.relay_core.proofs.relay.Relay.sent.Goals as goal

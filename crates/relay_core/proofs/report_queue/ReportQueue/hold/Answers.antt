@@ -1,6 +1,6 @@
 use Rattle.std.proofs.Common.{◌≡◌, ◌∷◌, ◌-◌, ◌≤◌, length, take, sym, ap, ◌∙◌, arith}
 use Rattle.std.proofs.lemmas.List.{take_all, length-map}
-use Rattle.relay_core.specs.Reports.{without}
+use Rattle.relay_core.specs.ReportsUp.{without}
 use Rattle.relay_core.specs.Indexes.{QueueState, shown_key}
 use Rattle.relay_core.specs.Queues.{shown_held}
 use Rattle.relay_core.proofs.report_queue.ReportQueue.hold.Goals as goal

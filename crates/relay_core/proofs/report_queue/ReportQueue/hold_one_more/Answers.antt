@@ -9,7 +9,7 @@ use Rattle.std.proofs.lemmas.Iterator.Adapters.{position_from-zero}
 use Rattle.report_text.specs.declared.report.Report.{Report}
 use Rattle.report_text.specs.Reports.{IsReport}
 use Rattle.relay_core.specs.ReportKeys.{key_of, same_key, queued_digest}
-use Rattle.relay_core.specs.Reports.{without}
+use Rattle.relay_core.specs.ReportsUp.{without}
 use Rattle.relay_core.specs.Indexes.{QueueState, shown_key, all_keys, state_of}
 use Rattle.relay_core.specs.Queues.{queue_of, shown_held}
 use Rattle.relay_core.proofs.QueueLemmas.{same_key_is, queued_state, not_placed, split_at, finds_held, distinct_held, without-held}

@@ -1,7 +1,7 @@
 use Rattle.std.proofs.Common.{◌≡◌, SFits, w64, ap}
 use Rattle.std.proofs.lemmas.Int.{to_z-of_z}
 use Rattle.script_run.specs.Asking.{When, when_of, known_in}
-use Rattle.script_run.specs.Places.{around, from}
+use Rattle.script_run.specs.RunPlaces.{around, from}
 use Rattle.script_run.proofs.Rounds.{advances, stop_later}
 use Rattle.script_run.proofs.run.Run.advance.Goals as goal
 

@@ -1,7 +1,7 @@
 use Rattle.std.proofs.Common.{refl, ap, ◌∙◌, arith}
 use Rattle.script_run.specs.declared.place.Place.TheVariants.{Asking}
 use Rattle.script_run.specs.Asking.{known_in}
-use Rattle.script_run.specs.Places.{todo_walk, todos_walk}
+use Rattle.script_run.specs.RunPlaces.{todo_walk, todos_walk}
 use Rattle.script_run.specs.Weights.{todos_weight}
 use Rattle.script_run.proofs.Moves.{step_from, memory_stops, falls_within, placed_walk}
 use Rattle.script_run.proofs.Choices.{choosing, asked_same, arm_steps}

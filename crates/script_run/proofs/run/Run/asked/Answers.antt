@@ -4,7 +4,7 @@ use Rattle.script_text.specs.declared.tree.Arm.{out-Arm}
 use Rattle.script_run.specs.declared.cause.Cause.TheVariants.{Relevance, MachineFault}
 use Rattle.script_run.specs.declared.place.Place.TheVariants.{Testing, Asking}
 use Rattle.script_run.specs.Asking.{known_in}
-use Rattle.script_run.specs.Places.{around}
+use Rattle.script_run.specs.RunPlaces.{around}
 use Rattle.script_run.proofs.Moves.{placed_walk, fails_walk}
 use Rattle.script_run.proofs.Choices.{choosing, arm_as}
 use Rattle.script_run.proofs.run.Run.asked.Goals as goal

@@ -1,9 +1,9 @@
 use Rattle.std.proofs.Common.{arith}
-use Rattle.script_run.specs.Places.{todos_walk}
+use Rattle.script_run.specs.RunPlaces.{todos_walk}
 use Rattle.script_run.specs.Asking.{known_in}
 use Rattle.script_run.proofs.Chains.{reach_none}
 use Rattle.script_run.proofs.Moves.{step_from, falls_within}
-use Rattle.script_run.specs.Steps.{Any}
+use Rattle.script_run.specs.RunSteps.{Any}
 use Rattle.script_run.proofs.run.Run.begin.Goals as goal
 
 pub returns-in-Some-clause-steps : goal.returns-in-Some-clause-steps

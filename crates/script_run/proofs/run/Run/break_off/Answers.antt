@@ -1,10 +1,10 @@
 use Rattle.std.proofs.Common.{refl}
 use Rattle.script_run.specs.declared.broken.Broken.TheVariants.{Failed, Memory}
 use Rattle.script_run.specs.Walks.{failing}
-use Rattle.script_run.specs.Lines.{line_walk}
+use Rattle.script_run.specs.LineWalks.{line_walk}
 use Rattle.script_run.specs.Asking.{known_in}
-use Rattle.script_run.specs.Steps.{Any}
-use Rattle.script_run.specs.Places.{around, from}
+use Rattle.script_run.specs.RunSteps.{Any}
+use Rattle.script_run.specs.RunPlaces.{around, from}
 use Rattle.script_run.proofs.Chains.{reach_none, reach_same}
 use Rattle.script_run.proofs.Moves.{goes_none, fails_walk}
 use Rattle.script_run.proofs.Carrying.{broken_as}

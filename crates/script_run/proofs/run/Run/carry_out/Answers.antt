@@ -1,11 +1,11 @@
 use Rattle.std.proofs.Common.{false, refl}
 use Rattle.script_run.specs.declared.lines.Prepared.TheVariants.{Passes, Held, Sets, Does, Awaits}
 use Rattle.script_run.specs.Walks.{doing, awaiting}
-use Rattle.script_run.specs.Lines.{line_walk, setting}
+use Rattle.script_run.specs.LineWalks.{line_walk, setting}
 use Rattle.script_run.specs.Machines.{view}
 use Rattle.script_run.specs.Asking.{when_of, known_in}
-use Rattle.script_run.specs.Steps.{Any}
-use Rattle.script_run.specs.Places.{around, from}
+use Rattle.script_run.specs.RunSteps.{Any}
+use Rattle.script_run.specs.RunPlaces.{around, from}
 use Rattle.script_run.proofs.Chains.{reach_none, reach_same}
 use Rattle.script_run.proofs.Moves.{line_step, restores, restored_rests, ready_walk}
 use Rattle.script_run.proofs.Carrying.{prepared_as}

@@ -1,6 +1,6 @@
 use Rattle.std.proofs.Common.{refl, ◌∙◌}
 use Rattle.script_run.specs.Asking.{known_in}
-use Rattle.script_run.specs.Steps.{Any}
+use Rattle.script_run.specs.RunSteps.{Any}
 use Rattle.script_run.proofs.Chains.{reach_none}
 use Rattle.script_run.proofs.Moves.{memory_stops, none_left}
 use Rattle.script_run.proofs.Choices.{choosing_same, choosing_first, choosing_none}

@@ -1,8 +1,8 @@
 use Rattle.std.proofs.Common.{refl, ◌∙◌}
 use Rattle.script_run.specs.declared.place.Place.TheVariants.{Placing, Supplied}
 use Rattle.script_run.specs.Asking.{known_in}
-use Rattle.script_run.specs.Places.{around}
-use Rattle.script_run.specs.Steps.{Any}
+use Rattle.script_run.specs.RunPlaces.{around}
+use Rattle.script_run.specs.RunSteps.{Any}
 use Rattle.script_run.proofs.Chains.{reach_none}
 use Rattle.script_run.proofs.Moves.{compared_same, compared_other, memory_stops, goes_none, placed_walk, fails_walk}
 use Rattle.script_run.proofs.run.Run.compare.Goals as goal

@@ -1,5 +1,5 @@
 use Rattle.script_run.specs.Asking.{when_of}
-use Rattle.script_run.specs.Places.{around}
+use Rattle.script_run.specs.RunPlaces.{around}
 use Rattle.script_run.proofs.run.Run.do_line.Goals as goal
 
 pub returns-in-Ok-clause-steps : goal.returns-in-Ok-clause-steps

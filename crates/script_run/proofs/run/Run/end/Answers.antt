@@ -1,5 +1,5 @@
 use Rattle.std.proofs.Common.{refl}
-use Rattle.script_run.specs.Steps.{Any}
+use Rattle.script_run.specs.RunSteps.{Any}
 use Rattle.script_run.proofs.Chains.{reach_none}
 use Rattle.script_run.proofs.run.Run.end.Goals as goal
 

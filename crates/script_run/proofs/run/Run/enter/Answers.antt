@@ -1,6 +1,6 @@
 use Rattle.std.proofs.Common.{ap, ◌∙◌}
 use Rattle.script_run.specs.Asking.{known_in}
-use Rattle.script_run.specs.Places.{todo_walk}
+use Rattle.script_run.specs.RunPlaces.{todo_walk}
 use Rattle.script_run.specs.Weights.{todo_weight}
 use Rattle.script_run.proofs.Choices.{pushed_first, entered_walk, entered_weight}
 use Rattle.script_run.proofs.run.Run.enter.Goals as goal

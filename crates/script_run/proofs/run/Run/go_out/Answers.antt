@@ -1,8 +1,8 @@
 use Rattle.std.proofs.Common.{sym, ap, ◌∙◌, arith}
-use Rattle.script_run.specs.Places.{todo_walk, todos_walk, place_walk}
+use Rattle.script_run.specs.RunPlaces.{todo_walk, todos_walk, place_walk}
 use Rattle.script_run.specs.Weights.{place_weight, todos_weight}
 use Rattle.script_run.specs.Asking.{known_in}
-use Rattle.script_run.specs.Steps.{Any}
+use Rattle.script_run.specs.RunSteps.{Any}
 use Rattle.script_run.proofs.Chains.{reach_none}
 use Rattle.script_run.proofs.Moves.{ready_waits, none_left}
 use Rattle.script_run.proofs.run.Run.go_out.Goals as goal

@@ -1,7 +1,7 @@
 use Rattle.std.proofs.Common.{rules, SFits, w64, refl, sym, ap, false}
 use Rattle.bf_world.specs.declared.command.Command.TheVariants.{Place}
 use Rattle.script_run.specs.Asking.{when_of, known_in}
-use Rattle.script_run.specs.Places.{place_walk, around, from}
+use Rattle.script_run.specs.RunPlaces.{place_walk, around, from}
 use Rattle.script_run.proofs.Moves.{act_without_memory, acts_view, act_steps, goes_none, memory_stops, placing_rests, placing_waits}
 use Rattle.script_run.proofs.Carrying.{acts_at}
 use Rattle.script_run.proofs.run.Run.put.Goals as goal

@@ -1,7 +1,7 @@
 use Rattle.std.proofs.Common.{refl, ◌∙◌, arith}
 use Rattle.script_run.specs.Asking.{when_of}
-use Rattle.script_run.specs.Steps.{Any}
-use Rattle.script_run.specs.Places.{from}
+use Rattle.script_run.specs.RunSteps.{Any}
+use Rattle.script_run.specs.RunPlaces.{from}
 use Rattle.script_run.proofs.Chains.{reach_none}
 use Rattle.script_run.proofs.Rounds.{round_goes, round_stops, moment_along, offset_along}
 use Rattle.script_run.proofs.run.Run.rounds.Goals as goal

@@ -1,8 +1,8 @@
 use Rattle.std.proofs.Common.{◌≡◌, ◌≤◌}
 use Rattle.script_run.specs.Machines.{view}
 use Rattle.script_run.specs.Asking.{when_of}
-use Rattle.script_run.specs.Steps.{Any}
-use Rattle.script_run.specs.Places.{WaitsBelow, from}
+use Rattle.script_run.specs.RunSteps.{Any}
+use Rattle.script_run.specs.RunPlaces.{WaitsBelow, from}
 use Rattle.script_run.specs.Weights.{run_weight}
 use Rattle.script_run.specs.Fills.{Reaches}
 use Rattle.script_run.proofs.run.Run.rounds.Given as goal

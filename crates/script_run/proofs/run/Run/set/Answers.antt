@@ -1,8 +1,8 @@
 use Rattle.std.proofs.Common.{refl, ◌∙◌}
 use Rattle.script_run.specs.declared.cause.Cause.TheVariants.{ParameterTwice}
 use Rattle.script_run.specs.Asking.{known_in}
-use Rattle.script_run.specs.Steps.{Any}
-use Rattle.script_run.specs.Places.{around, from}
+use Rattle.script_run.specs.RunSteps.{Any}
+use Rattle.script_run.specs.RunPlaces.{around, from}
 use Rattle.script_run.proofs.Chains.{reach_none}
 use Rattle.script_run.proofs.Moves.{line_none, fails_walk, set_twice, set_once, set_walk, name_is_new}
 use Rattle.script_run.proofs.run.Run.set.Goals as goal

@@ -1,7 +1,7 @@
 use Rattle.std.proofs.Common.{rules, SFits, w64, refl}
 use Rattle.script_run.specs.Walks.{polling}
 use Rattle.script_run.specs.Asking.{when_of, known_in}
-use Rattle.script_run.specs.Places.{around, from}
+use Rattle.script_run.specs.RunPlaces.{around, from}
 use Rattle.script_run.proofs.Moves.{act_without_memory, acts_view, act_steps, line_none, counts_below}
 use Rattle.script_run.proofs.Carrying.{acts_at}
 use Rattle.script_run.proofs.run.Run.start.Goals as goal

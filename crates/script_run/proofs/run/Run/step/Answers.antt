@@ -1,7 +1,7 @@
 use Rattle.std.proofs.Common.{sym, ◌∙◌}
 use Rattle.script_run.specs.declared.place.Place.TheVariants.{Ready, Wanting, Supplied, Placing, Doing, Waiting, Testing, Asking, Done, Failed}
 use Rattle.script_run.specs.Asking.{known_in}
-use Rattle.script_run.specs.Places.{around}
+use Rattle.script_run.specs.RunPlaces.{around}
 use Rattle.script_run.specs.Weights.{around_weight}
 use Rattle.script_run.proofs.Rounds.{step_at, falls_at}
 use Rattle.script_run.proofs.run.Run.step.Goals as goal

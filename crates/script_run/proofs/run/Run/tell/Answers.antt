@@ -1,6 +1,6 @@
 use Rattle.std.proofs.Common.{refl, sym, ap}
 use Rattle.script_run.specs.Walks.{Fails}
-use Rattle.script_run.specs.Steps.{Any}
+use Rattle.script_run.specs.RunSteps.{Any}
 use Rattle.script_run.proofs.Chains.{reach_none}
 use Rattle.script_run.proofs.Moves.{memory_stops}
 use Rattle.script_run.proofs.run.Run.tell.Goals as goal

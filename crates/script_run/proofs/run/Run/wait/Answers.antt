@@ -2,8 +2,8 @@ use Rattle.std.proofs.Common.{rules, SFits, w64, refl}
 use Rattle.std.proofs.lemmas.Int.{to_z-of_z}
 use Rattle.script_run.specs.declared.cause.Cause.TheVariants.{MachineFault}
 use Rattle.script_run.specs.Asking.{when_of, known_in}
-use Rattle.script_run.specs.Steps.{Any}
-use Rattle.script_run.specs.Places.{around, from}
+use Rattle.script_run.specs.RunSteps.{Any}
+use Rattle.script_run.specs.RunPlaces.{around, from}
 use Rattle.script_run.proofs.Chains.{reach_none}
 use Rattle.script_run.proofs.Moves.{polls_view, poll_exits, poll_fails, goes_none, exit_walk, fails_walk}
 use Rattle.script_run.proofs.run.Run.wait.Goals as goal

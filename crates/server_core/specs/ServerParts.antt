@@ -14,11 +14,11 @@ use Rattle.server_core.specs.declared.stop.Stop.TheVariants as stop
 use Rattle.server_core.specs.declared.text_error.TextError.{TextError}
 use Rattle.server_core.specs.declared.text_error.TextError.TheVariants as text
 use Rattle.server_core.specs.Entries.{Entry, Asked}
-use Rattle.server_core.specs.Readings.{Asks, IsGoodTarget, IsNoAction, IsRefusedSite, IsWrongTarget}
+use Rattle.server_core.specs.RequestTexts.{Asks, IsGoodTarget, IsNoAction, IsRefusedSite, IsWrongTarget}
 use Rattle.server_core.specs.Replies.{accepting_reply, reply, reply_to}
 use Rattle.server_core.specs.ActionStates.{stopped_text}
-use Rattle.server_core.specs.Answers.{after}
-use Rattle.server_core.specs.Tables.{puts, view}
+use Rattle.server_core.specs.CallAnswers.{after}
+use Rattle.server_core.specs.AcceptedTables.{puts, view}
 
 -- what was read of a text, or the line that is told; want of memory tells nothing
 abbrev pub Tells : {V : Type 0} → (Result V ℕ → Type 0) → Result V TextError → Type 0

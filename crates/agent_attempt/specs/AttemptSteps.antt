@@ -7,7 +7,7 @@ use Rattle.script_run.specs.declared.ran.Ran.TheVariants as ran
 use Rattle.script_run.specs.declared.run.Run.{Run}
 use Rattle.script_run.specs.Asking.{When}
 use Rattle.script_run.specs.Machines.{MachineView}
-use Rattle.script_run.specs.Places.{Stands}
+use Rattle.script_run.specs.RunPlaces.{Stands}
 use Rattle.agent_attempt.specs.declared.attempt.Part.{Part}
 use Rattle.agent_attempt.specs.declared.attempt.Stage.{Stage}
 use Rattle.agent_attempt.specs.declared.attempt.Stage.TheVariants as stage

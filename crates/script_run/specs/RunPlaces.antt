@@ -15,8 +15,8 @@ use Rattle.script_run.specs.declared.ran.Ran.{Ran}
 use Rattle.script_run.specs.declared.ran.Ran.TheVariants as ran
 use Rattle.script_run.specs.Causes.{HasTexts}
 use Rattle.script_run.specs.Walks.{Settled, Walk, Rest, ending, failing, testing, doing, polling}
-use Rattle.script_run.specs.Lines.{line_walk, fetching, placing}
-use Rattle.script_run.specs.Scripts.{walk, walk_all, fetch_all, after}
+use Rattle.script_run.specs.LineWalks.{line_walk, fetching, placing}
+use Rattle.script_run.specs.ScriptWalks.{walk, walk_all, fetch_all, after}
 use Rattle.script_run.specs.Asking.{known_in}
 
 -- statements one after another, as a run keeps them

@@ -7,8 +7,8 @@ use Rattle.agent_attempt.specs.declared.read_block.ReadBlock.{ReadBlock}
 use Rattle.fix_site.specs.declared.fixlet.Fixlet.{Fixlet}
 use Rattle.agent_attempt.specs.declared.read_site.Content.{Content as ReadContent}
 use Rattle.agent_attempt.specs.declared.read_site.Content.TheVariants as read
-use Rattle.agent_attempt.specs.Blocks.{shown_block}
-use Rattle.agent_attempt.specs.Contents.{Content, single, group, as_fixlet, block_at, content_at, fixlets_at}
+use Rattle.agent_attempt.specs.ReadBlocks.{shown_block}
+use Rattle.agent_attempt.specs.ActionContents.{Content, single, group, as_fixlet, block_at, content_at, fixlets_at}
 use denote.Ref.{Bor}
 
 abbrev pub FindsBlock : ℕ → List Block → Option (Bor ReadBlock) → Type 0

@@ -7,7 +7,7 @@ use Rattle.script_text.specs.declared.prefetch.Prefetch.{Prefetch}
 use Rattle.script_text.specs.Trees.{PlainStatement, act, choice, Statements, no_statements, more_statements, Arms, no_arms, more_arms}
 use Rattle.script_text.specs.Scripts.{PlainScript}
 use Rattle.script_run.specs.Walks.{Known, Settled, acted, Next, Does, Walk, Rest, ending, testing}
-use Rattle.script_run.specs.Lines.{line_walk, fetching}
+use Rattle.script_run.specs.LineWalks.{line_walk, fetching}
 
 abbrev mutual
   -- a line does what its kind does, and of an `if` one body is done

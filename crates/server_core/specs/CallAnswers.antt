@@ -7,9 +7,9 @@ use Rattle.server_core.specs.declared.request.Request.{Request}
 use Rattle.server_core.specs.declared.reply.Reply.{Reply}
 use Rattle.server_core.specs.declared.reply.Reply.TheVariants.{BadText, KeeperFault, Memory}
 use Rattle.server_core.specs.Entries.{Entry, Asked, Enters, Bad}
-use Rattle.server_core.specs.Readings.{Asks}
+use Rattle.server_core.specs.RequestTexts.{Asks}
 use Rattle.server_core.specs.Replies.{reply, reply_to}
-use Rattle.server_core.specs.Tables.{view}
+use Rattle.server_core.specs.AcceptedTables.{view}
 
 -- a reply that tells of a fault or of want of memory
 abbrev pub is_fault : Reply → Bool
