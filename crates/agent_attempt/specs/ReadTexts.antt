@@ -1,4 +1,4 @@
--- Texts of a site that are read once, and what stands for them in the code.
+-- Texts of a site that are read once, and what stands for them in the code. Only private functions and invariants cite these definitions.
 use Rattle.std.specs.Prelude.{◌⊎◌, ℕ, List, Option, Some, None, Ok, Err}
 use Rattle.rel_lexer.specs.declared.place.Place.{Place}
 use Rattle.rel_trace.specs.declared.kind.RelKind.{RelKind}

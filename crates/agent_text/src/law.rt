@@ -1,3 +1,4 @@
+// What holds of whatever an agent saves. The body of a law calls the laws that its proof stands on.
 ghost use Rattle.std.specs.Prelude.{◌≡◌, ◌≤◌, ◌<◌, ◌+◌, ◌^◌, ◌⊎◌, ℕ, ℤ, List, Result, length, IfSome, IsSomeAnd};
 ghost use Rattle.desk_base.specs.Moments.{IsMoment};
 ghost use Rattle.line_forms.specs.Numbers.{IsId};

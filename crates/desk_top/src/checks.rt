@@ -28,6 +28,7 @@ pub(crate) fn check_input<W: Sink>(alloc: Global, input: &[u8], sink: &mut W) ->
     ensures failed { result ≡ Status.Sink → Rose (W.faults sink.old) (W.faults sink.new) }
     ensures steady { result ≢ Status.Sink → W.faults sink.new ≡ W.faults sink.old }
 {
+    // Proof: a text with another finding is no good one.
     one_finding();
     let finding = check_site(alloc, input);
     let Some(status) = status_of_finding(&finding) else {

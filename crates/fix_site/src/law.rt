@@ -1,3 +1,4 @@
+// What holds of every site and action. The body of a law calls the laws that its proof stands on.
 ghost use Rattle.std.specs.Prelude.{◌≡◌, ◌≢◌, ◌≤◌, ◌⊎◌, ℕ, List, Result, length, All};
 ghost use Rattle.fix_site.specs.declared.action.Action.{Action};
 ghost use Rattle.fix_site.specs.declared.site.Site.{Site};

@@ -1,4 +1,4 @@
--- Sorts of commands.
+-- Sorts of commands. Only private functions cite these definitions.
 use Rattle.std.specs.Prelude.{⊤}
 use Rattle.bf_world.specs.declared.command.Command.{Command}
 use Rattle.bf_world.specs.declared.command.Command.TheVariants as command

@@ -1,4 +1,4 @@
--- The entries that a folder shows.
+-- The entries that a folder shows. Only private functions cite these definitions.
 use Rattle.std.specs.Prelude.{◌≡◌, List, map}
 use Rattle.std.specs.declared.cmp.Ordering.TheVariants.{Less}
 use Rattle.std.specs.List.{AllByRecursion}

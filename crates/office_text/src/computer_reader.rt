@@ -35,6 +35,7 @@ pub(crate) fn take_computer_order(
     let name = Text::from_str(alloc, names.computer)?;
     let relay = Text::from_str(alloc, names.relay)?;
     let taken = take_to(alloc, Last::End, lines)?;
+    // Proof: the lines that were taken are those of their text, which is read as a world.
     lines_make_the_text();
     lines_are_read_again();
     match read_named_world(alloc, names.computer, taken.text.as_slice()) {

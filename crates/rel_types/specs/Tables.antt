@@ -1,4 +1,4 @@
--- What the rows of the code's tables show.
+-- What the rows of the code's tables show. Only private functions cite these definitions.
 use Rattle.std.specs.Prelude.{option_map}
 use Rattle.rel_types.specs.declared.row.Asked.{Asked}
 use Rattle.rel_types.specs.declared.row.Asked.TheVariants.{OneOf, NoneOr, Integers, Anything}

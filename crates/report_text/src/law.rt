@@ -1,3 +1,4 @@
+// What holds of every report. The body of a law calls the laws that its proof stands on.
 ghost use Rattle.std.specs.Prelude.{◌≡◌, ◌≤◌, ◌⊎◌, ◌+◌, ◌*◌, Result, length};
 ghost use Rattle.line_forms.specs.FieldLists.{line_of};
 ghost use Rattle.report_text.specs.declared.form.Form.{Form};

@@ -1,4 +1,4 @@
--- The names of parameters, by which they are looked up.
+-- The names of parameters, by which they are looked up. Only private functions cite these definitions.
 use Rattle.std.specs.Prelude.{◌≡◌, ℕ, List, is_some, String}
 use Rattle.std.specs.declared.alloc.Global.{Global}
 use Rattle.std.specs.BTreeSet.{BTreeSet, contains_text}

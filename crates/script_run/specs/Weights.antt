@@ -1,4 +1,4 @@
--- How many steps a run can still make.
+-- How many steps a run can still make. Only private functions cite these definitions.
 use Rattle.std.specs.Prelude.{ℕ, ◌+◌, ◌*◌, List, [], ◌∷◌, length}
 use Rattle.script_text.specs.declared.tree.Statement.{Statement}
 use Rattle.script_text.specs.declared.tree.Arm.{Arm, out-Arm}

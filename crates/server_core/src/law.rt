@@ -1,4 +1,4 @@
-// What holds of every list of accepted requests.
+// What holds of every list of accepted requests. The body of a law calls the laws that its proof stands on.
 ghost use Rattle.std.specs.Prelude.{◌≡◌, ◌≢◌, ◌<◌, ◌↔◌, ℕ, true, List, Ok, Some, Contains, codes, count_by};
 ghost use Rattle.fix_site.specs.declared.action.Action.{Action};
 ghost use Rattle.fix_site.specs.declared.block.Block.TheVariants.{Action as action_block};

@@ -25,6 +25,7 @@ pub(crate) fn read_published(alloc: Global, text: &[u8]) -> Result<Site, TextErr
     if site.name.as_str() == "actionsite" {
         return Err(TextError::BadText(1));
     }
+    // Proof: each line of the site has a number of 32 bits.
     a_site_has_few_lines();
     match refusal_of_site(alloc, &site)? {
         Some(refusal) => Err(TextError::BadText(refused_line(refusal))),

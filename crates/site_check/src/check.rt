@@ -23,6 +23,7 @@ pub fn check_site(alloc: Global, text: &[u8]) -> Finding
         Ok(site) => site,
         Err(error) => return unread(error),
     };
+    // Proof: each line of the site has a number of 32 bits.
     a_site_has_few_lines();
     match refusal_of_site(alloc, &site) {
         Ok(Some(refusal)) => Finding::BadPiece(refusal),
@@ -52,6 +53,7 @@ pub fn refusal_of_site(alloc: Global, site: &Site) -> Result<Option<PieceRefusal
     ensures { IfOk result (λ refusal. JudgesPieces (pieces_of site.now) refusal) }
 {
     let pieces = pieces(alloc, site)?;
+    // Proof: so the lines of each piece have theirs.
     a_piece_stands_at_its_line();
     first_refusal(alloc, pieces.as_slice())
 }
