@@ -1,11 +1,11 @@
 use act_rules::Outcome;
-use desk_base::Room;
+use desk_base::{Bytes, Room};
 use line_forms::{Fields, Lines};
 use report_text::{
     Form, ReportError, ReportRows, a_report_is_read_again, digest, fill_component, fill_end,
     fill_exit, fill_line, fill_row_fields, one_report, outcome_field, read_attempt, read_end,
     read_exit, read_outcome, read_place, read_report, read_row, read_row_fields, reports_are_short,
-    take_report, take_row, write_report,
+    take_report, take_row, write_report, write_row_fields,
 };
 use std::alloc::Global;
 use std::test::Fail;
@@ -120,12 +120,20 @@ fn fields_are_written_into_given_room(rt: HostRuntime) -> Result<(), Fail> {
 }
 
 #[test]
-fn the_fields_of_a_row_are_written_into_given_room(rt: HostRuntime) -> Result<(), Fail> {
+fn the_fields_of_a_row_are_written_into_given_room_and_behind_bytes(
+    rt: HostRuntime,
+) -> Result<(), Fail> {
     reports_are_short();
     let row = read_row_fields(Form::Two, b"7 2 failed 1060 1061 3 0 9").ok_or("no row")?;
     let mut room = Room::with_capacity(rt.alloc(), 108)?;
     fill_row_fields(Form::Two, &row, &mut room);
     assert_eq!(rt; room.as_slice(), b"7 2 failed 1060 1061 3 0 9".as_slice());
+    let mut bytes = Bytes::from_slice(rt.alloc(), b"row ")?;
+    write_row_fields(&row, &mut bytes)?;
+    assert_eq!(rt;
+        bytes.as_slice(),
+        b"row 7 2 failed 1060 1061 3 0 9".as_slice()
+    );
     Ok(())
 }
 

@@ -2,6 +2,7 @@
 #![tactic(auto)]
 
 mod answer;
+mod bytes_writer;
 mod error;
 mod field;
 mod field_writer;
@@ -16,6 +17,7 @@ mod row_reader;
 mod writer;
 
 pub use answer::{Gathered, Verdict};
+pub use bytes_writer::write_row_fields;
 pub use error::ReportError;
 pub use field::{read_attempt, read_end, read_exit, read_outcome, read_place};
 pub use field_writer::{fill_component, fill_end, fill_exit, fill_line};
