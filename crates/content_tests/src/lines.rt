@@ -1,10 +1,10 @@
 use desk_base::{Bytes, Room};
 use line_forms::{
-    Fields, LineForm, Lines, a_cursor_stands_at_the_bad_line, after_word, fill_content,
-    fill_digest, fill_ended_line, fill_field, first_field, last_part, one_first_bad_line,
-    read_content, read_digest, read_i64, read_id, read_moment, read_name, read_number, read_offset,
-    read_part, read_path, read_rest, read_u32, read_version, version_numbers, write_content,
-    write_digest, write_field, write_line, write_number, write_signed_number,
+    Fields, LineForm, Lines, after_word, fill_content, fill_digest, fill_ended_line, fill_field,
+    first_field, last_part, one_first_bad_line, read_content, read_digest, read_i64, read_id,
+    read_moment, read_name, read_number, read_offset, read_part, read_path, read_rest, read_u32,
+    read_version, version_numbers, write_content, write_digest, write_field, write_line,
+    write_number, write_signed_number,
 };
 use std::test::Fail;
 
@@ -118,7 +118,6 @@ impl LineForm for End {
 }
 
 #[test]
-fn laws_hold_at_a_form() {
+fn the_law_holds_at_a_form() {
     one_first_bad_line::<End>();
-    a_cursor_stands_at_the_bad_line::<End>();
 }

@@ -1,5 +1,5 @@
 -- The first bad line of a text. Other crates may cite these lemmas.
-use Rattle.std.proofs.Common.{◌≡◌, ℕ, suc, ◌+◌, ◌-◌, ◌^◌, ◌<◌, ◌≤◌, List, [], ◌∷◌, ◌++◌, length, take, drop, refl, sym, ap, subst, ◌∙◌, inl, inr, arith, min, append_assoc, append-nil, length-append}
+use Rattle.std.proofs.Common.{◌≡◌, ℕ, suc, ◌+◌, ◌-◌, ◌<◌, ◌≤◌, List, [], ◌∷◌, ◌++◌, length, take, drop, refl, sym, ap, subst, ◌∙◌, inl, inr, arith, append_assoc, length-append}
 use Rattle.std.proofs.lemmas.Bool.{cases_lt}
 use Rattle.std.proofs.lemmas.List.{take-append-drop, take-take, take_all, take_at}
 use Rattle.line_forms.specs.LineStates.{LineState, lines_of, unended_of}
@@ -84,10 +84,3 @@ StandsBehind-next text line before old new stands takes =
 pub answers_bad_line-wrong : (AreGood : List (List ℕ) → Type 0) (text line : List ℕ) (before more : List (List ℕ)) (cursor : LineState) → StandsBehind text before cursor → cursor.lines ≡ line ∷ more → Begins AreGood before → ¬ Begins AreGood (before ++ line ∷ []) → AnswersBadLine AreGood text cursor.number
 answers_bad_line-wrong AreGood text line before more cursor stands ahead begins wrong =
     (length before + 1, first_bad_line-wrong AreGood text line before more (stands.lines ∙ ap (λ l. before ++ l) ahead) begins wrong, stands.number)
-
-pub answers_bad_line-ended : (AreGood : List (List ℕ) → Type 0) (text : List ℕ) (before : List (List ℕ)) (cursor : LineState) → StandsBehind text before cursor → cursor.lines ≡ [] → Begins AreGood before → ¬ IsTextOf AreGood text → AnswersBadLine AreGood text cursor.number
-answers_bad_line-ended AreGood text before cursor stands none begins other =
-    let all : lines_of text ≡ before = stands.lines ∙ ap (λ l. before ++ l) none ∙ append-nil before in
-    let P : List (List ℕ) → Type 0 = Begins AreGood in
-    let count : length (lines_of text) ≡ length before = ap (length {A = List ℕ}) all in
-    (length (lines_of text) + 1, first_bad_line-unended AreGood text (subst P (sym all) begins) other, stands.number ∙ ap (λ n. min (n + 1) (2 ^ 32 - 1)) (sym count))

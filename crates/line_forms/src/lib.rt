@@ -16,7 +16,7 @@ mod path;
 mod taking;
 mod version;
 
-pub use bad_line::{LineForm, a_cursor_stands_at_the_bad_line, one_first_bad_line};
+pub use bad_line::{LineForm, one_first_bad_line};
 pub use content::{one_content, read_content, write_content};
 pub use cut::{Cut, a_text_is_its_pieces};
 pub use digest::{one_digest, read_digest, write_digest};

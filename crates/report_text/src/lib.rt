@@ -23,7 +23,7 @@ pub use field::{read_attempt, read_end, read_exit, read_outcome, read_place};
 pub use field_writer::{fill_component, fill_end, fill_exit, fill_line};
 pub use form::Form;
 pub use law::{a_report_is_read_again, one_report, reports_are_short};
-pub use reader::{ReportLines, read_report, take_report};
+pub use reader::{read_report, take_report};
 pub use report::{Report, ReportRows};
 pub use report_row::ReportRow;
 pub use room_writer::{fill_report, fill_row_fields, outcome_field};

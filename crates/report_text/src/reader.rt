@@ -10,9 +10,7 @@ use crate::head::{take_computer, take_form, take_seq};
 use crate::report::{Report, ReportRows};
 use crate::report_row::ReportRow;
 use crate::row_reader::read_row;
-use line_forms::{
-    LineForm, Lines, a_cursor_stands_at_the_bad_line, a_cursor_stands_behind_its_lines,
-};
+use line_forms::{Lines, a_cursor_stands_behind_its_lines};
 use rel_lexer::Text;
 use std::alloc::{AllocError, Global};
 
@@ -22,15 +20,6 @@ const LONGEST_REPORT: usize = 65_536;
 /// The most rows of a report.
 const MOST_ROWS: usize = 500;
 
-/// The texts of reports, as a set of texts made of lines.
-pub struct ReportLines;
-
-impl LineForm for ReportLines {
-    ghost use Rattle.report_text.specs.Reports.{AreReportLines};
-
-    ghost are_good = { λ lines. AreReportLines lines };
-}
-
 /// Reads a report: its form, the computer, its number, the rows and `end`, a line each. A text that isn't a report is
 /// answered by its first bad line, one with too many bytes by `TooLong`.
 pub fn read_report(alloc: Global, text: &[u8]) -> Result<Report, ReportError>
@@ -39,8 +28,7 @@ pub fn read_report(alloc: Global, text: &[u8]) -> Result<Report, ReportError>
     if text.len() > LONGEST_REPORT {
         return Err(ReportError::TooLong);
     }
-    // what a cursor that is stuck, or has read a whole report, says of the text
-    a_cursor_stands_at_the_bad_line::<ReportLines>();
+    // Proof: what a cursor that has read a whole report says of the text.
     a_cursor_stands_behind_its_lines();
     let mut lines = Lines::new(text);
     let report = take_report(alloc, &mut lines)?;

@@ -18,4 +18,4 @@ pub use error::WorldError;
 pub use front::{WorldFront, world_front};
 pub use law::{a_world_is_read, one_addition, one_front, one_head_text, one_world};
 pub use named::read_named_world;
-pub use read::{WorldLines, read_world};
+pub use read::read_world;

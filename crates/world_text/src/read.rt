@@ -8,25 +8,14 @@ use crate::error::WorldError;
 use crate::fault::Fault;
 use crate::head::read_head;
 use bf_world::World;
-use line_forms::{LineForm, Lines, a_cursor_stands_at_the_bad_line};
+use line_forms::Lines;
 use rel_lexer::Text;
 use std::alloc::Global;
-
-/// The texts of worlds, as a set of texts made of lines.
-pub struct WorldLines;
-
-impl LineForm for WorldLines {
-    ghost use Rattle.world_text.specs.Texts.{AreWorldLines};
-
-    ghost are_good = { λ lines. AreWorldLines lines };
-}
 
 /// Reads a world text, whose last line is `end`. A text that describes no machine is answered by its first bad line.
 pub fn read_world(alloc: Global, text: &[u8]) -> Result<World, WorldError>
     ensures { ReadsWorld text.now result }
 {
-    // what a cursor that is stuck, or has read a whole world, says of the text
-    a_cursor_stands_at_the_bad_line::<WorldLines>();
     let mut lines = Lines::new(text);
     let world = match read_lines(alloc, &mut lines) {
         Ok(world) => world,

@@ -3,6 +3,7 @@ use Rattle.std.proofs.lemmas.Bool.{iff_false}
 use Rattle.line_forms.specs.BadLines.{AnswersBadLine}
 use Rattle.line_forms.specs.LineStates.{LineState}
 use Rattle.line_forms.specs.Readers.{IsStuck, Passes, ReadsPart}
+use Rattle.line_forms.proofs.Passing.{left_answers, stuck_answers}
 use Rattle.report_text.specs.declared.report.Report.{Report}
 use Rattle.report_text.specs.Reports.{AreReportLines, IsReport, report_lines}
 use Rattle.report_text.proofs.StopLemmas.{never_goes_on}
@@ -14,7 +15,7 @@ returns-in-None c =
     let Q : LineState → Type 0 = λ s. IsStuck AreReportLines s c.take_report.new.lines in
     let N : ℕ → Type 0 = λ n. AnswersBadLine AreReportLines c.args.text.now n in
     let stuck = subst Q c.new-lines.ensures (subst P c.in-None.is c.in_ok-report.ensures) in
-    (omega arith, subst N (sym c.number-line.ensures) (c.a_cursor_stands_at_the_bad_line.ensures.stuck c.args.text.now c.take_report.new.lines stuck))
+    (omega arith, subst N (sym c.number-line.ensures) (stuck_answers AreReportLines c.args.text.now c.take_report.new.lines stuck))
 
 pub returns-then-not-is_over : goal.returns-then-not-is_over
 returns-then-not-is_over c =
@@ -23,7 +24,7 @@ returns-then-not-is_over c =
     let N : ℕ → Type 0 = λ n. AnswersBadLine AreReportLines c.args.text.now n in
     let read = subst Q c.new-lines.ensures (subst P c.in-Some.is c.in_ok-report.ensures) in (
       omega arith,
-      subst N (sym c.number-line.ensures) (c.a_cursor_stands_at_the_bad_line.ensures.left c.args.text.now (report_lines c.in-Some.report) c.take_report.new.lines read.1
+      subst N (sym c.number-line.ensures) (left_answers AreReportLines c.args.text.now (report_lines c.in-Some.report) c.take_report.new.lines read.1
           (c.in-Some.report, read.0, refl) (never_goes_on c.in-Some.report read.0) (iff_false c.is_over.ensures c.if-not-is_over.true)),
     )
 
