@@ -11,7 +11,7 @@ use Rattle.rel_eval.specs.declared.cursor.Pulled.TheVariants as pulled
 use Rattle.rel_eval.specs.Cursors.{Nearer}
 
 -- a cursor whose node keeps its shape
-pub weighs : (n n' : Node) (left left' : ℕ) (s : Step) (r : Pulled) → shape n' ≡ shape n → left' ≤ left → (left' ≡ left → Falls s (quiet n) (quiet n')) → ((q q' : ℕ) → Falls s q q' → Nearer r q q') →
-    Nearer r (left * (cap (shape n) + 1) + quiet n) (left' * (cap (shape n') + 1) + quiet n')
-weighs n n' left left' s (pulled.Value v) e w f h = step_nearer n n' left left' e w (λ same. h (quiet n) (quiet n') (f same))
-weighs n n' left left' s _ e w f h = tt
+pub weighs : (n n' : Node) (budget budget' : ℕ) (s : Step) (r : Pulled) → shape n' ≡ shape n → budget' ≤ budget → (budget' ≡ budget → Falls s (quiet n) (quiet n')) → ((q q' : ℕ) → Falls s q q' → Nearer r q q') →
+    Nearer r (budget * (cap (shape n) + 1) + quiet n) (budget' * (cap (shape n') + 1) + quiet n')
+weighs n n' budget budget' s (pulled.Value v) e w f h = step_nearer n n' budget budget' e w (λ same. h (quiet n) (quiet n') (f same))
+weighs n n' budget budget' s _ e w f h = tt

@@ -28,11 +28,11 @@ state_rest Shut t = t
 
 -- what a cursor has still to give in a world
 abbrev pub cursor_rest : WorldState → Cursor → Trace
-cursor_rest w c = state_rest c.state (cut c.left (rest w c.scene.scene c.node alone))
+cursor_rest w c = state_rest c.state (cut c.budget (rest w c.scene.scene c.node alone))
 
 -- how many steps it can make at most
 abbrev pub weight : Cursor → ℕ
-weight c = c.left * (cap (shape c.node) + 1) + quiet c.node
+weight c = c.budget * (cap (shape c.node) + 1) + quiet c.node
 
 -- a value brings the end nearer
 abbrev pub Nearer : Pulled → ℕ → ℕ → Type 0

@@ -21,13 +21,13 @@ pub record Skips (t : Trace) (looks : List Key) (later : Trace) : Type 0 where
 -- one; an end or error is that of the trace, and stays; a failed look is the next event. Where memory ran out, what was looked up is
 -- that of some stretch before the next value.
 abbrev pub Pulls : Trace → Pulled → List Key → Trace → Type 0
-Pulls t (pulled.Value v) looks left = Skips t looks (After (Give (shown v)) left)
-Pulls t pulled.End looks left = Skips t looks (Ends Stop) × (left ≡ Ends Stop)
-Pulls t (pulled.Error kind place) looks left = Skips t looks (Ends (Error kind place)) × (left ≡ Ends (Error kind place))
-Pulls t (pulled.Failed place) looks left = Skips t looks left × LooksAt place left
-Pulls t pulled.Memory looks left = (u : Trace) × Skips t looks u
-Pulls t pulled.Closed looks left = looks ≡ []
+Pulls t (pulled.Value v) looks rest = Skips t looks (After (Give (shown v)) rest)
+Pulls t pulled.End looks rest = Skips t looks (Ends Stop) × (rest ≡ Ends Stop)
+Pulls t (pulled.Error kind place) looks rest = Skips t looks (Ends (Error kind place)) × (rest ≡ Ends (Error kind place))
+Pulls t (pulled.Failed place) looks rest = Skips t looks rest × LooksAt place rest
+Pulls t pulled.Memory looks rest = (u : Trace) × Skips t looks u
+Pulls t pulled.Closed looks rest = looks ≡ []
 
 -- The keys that a machine tells grow by those of the looks that were made.
 abbrev pub Draws : Option (List Key) → Trace → Pulled → Option (List Key) → Trace → Type 0
-Draws old t result new left = (looks : List Key) × Grows old new looks × Pulls t result looks left
+Draws old t result new rest = (looks : List Key) × Grows old new looks × Pulls t result looks rest

@@ -9,12 +9,12 @@ use Rattle.rel_eval.specs.declared.cursor.Pulled.TheVariants as pulled
 -- What was left where the node stopped, the answer, and what is left now. A failed look is still ahead; where memory ran out the
 -- cursor is shut.
 abbrev pub Meets : Trace → Pulled → Trace → Type 0
-Meets t (pulled.Value v) left = t ≡ After (Give (shown v)) left
-Meets t pulled.End left = t ≡ Ends Stop
-Meets t (pulled.Error kind place) left = t ≡ Ends (Error kind place)
-Meets t (pulled.Failed place) left = LooksAt place t × (t ≡ left)
-Meets t pulled.Memory left = Unit {0}
-Meets t pulled.Closed left = ⊥
+Meets t (pulled.Value v) rest = t ≡ After (Give (shown v)) rest
+Meets t pulled.End rest = t ≡ Ends Stop
+Meets t (pulled.Error kind place) rest = t ≡ Ends (Error kind place)
+Meets t (pulled.Failed place) rest = LooksAt place t × (t ≡ rest)
+Meets t pulled.Memory rest = Unit {0}
+Meets t pulled.Closed rest = ⊥
 
 -- an open cursor doesn't answer Closed
 abbrev pub IsNotClosed : Pulled → Type 0

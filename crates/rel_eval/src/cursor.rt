@@ -62,7 +62,7 @@ pub struct Cursor {
     node: Node,
     scene: SoundScene,
     /// How many looks and turns it may still make.
-    left: u64,
+    budget: u64,
     state: State,
     alloc: Global,
 }
@@ -72,13 +72,13 @@ impl Cursor {
     pub(crate) fn new(alloc: Global, node: Node, scene: SoundScene) -> Cursor
         ensures node { result.node ≡ node }
         ensures scene { result.scene ≡ scene }
-        ensures left { result.left ≡ limit }
+        ensures budget { result.budget ≡ limit }
         ensures state { result.state ≡ State.Open }
     {
         Cursor {
             node,
             scene,
-            left: LIMIT,
+            budget: LIMIT,
             state: State::Open,
             alloc,
         }
@@ -107,22 +107,22 @@ impl Cursor {
             State::Shut => return Pulled::Closed,
         }
         let kept = &self.scene;
-        let left = &mut self.left;
+        let budget = &mut self.budget;
         let step = self
             .node
-            .step(self.alloc, &ALONE, &kept.scene, machine, left);
-        let pulled = into_pulled(step, self.left);
+            .step(self.alloc, &ALONE, &kept.scene, machine, budget);
+        let pulled = into_pulled(step, self.budget);
         self.state = pulled.state();
         pulled
     }
 }
 
 /// What the step at which a node stopped is to a pull, with so many looks and turns left: a turn or a look more is one too many.
-fn into_pulled(step: Step, left: u64) -> Pulled
-    requires stop { IsStop left step }
-    requires room { steps.AsRoom (has_room left) step }
+fn into_pulled(step: Step, budget: u64) -> Pulled
+    requires stop { IsStop budget step }
+    requires room { steps.AsRoom (has_room budget) step }
     ensures meets { (t u : Trace) (looks : List Key) → steps.Goes [] t step looks u
-        → (looks ≡ []) × Meets (cut left t) result (cut left u) }
+        → (looks ≡ []) × Meets (cut budget t) result (cut budget u) }
     ensures not_closed { IsNotClosed result }
     ensures sound { GivesSound result }
     ensures nearer { (q r : ℕ) → steps.Falls step q r → Nearer result q r }

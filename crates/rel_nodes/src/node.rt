@@ -89,8 +89,8 @@ impl Node {
         }
     }
 
-    /// Goes on to the next value, the end or an error. Looks and turns on the way are made and counted down in `left`; where none
-    /// is left it stops before the next look (`Step::Full`), or behind the next turn, which is not counted then (`Step::Turned`).
+    /// Goes on to the next value, the end or an error. Looks and turns on the way are made and counted down in `budget`; where that
+    /// is used up it stops before the next look (`Step::Full`), or behind the next turn, which is not counted then (`Step::Turned`).
     /// After a failed look the next step makes the same one. At want of memory the looks that were made are counted; what the node
     /// would give from then on is not told.
     #[cycle(step)]
@@ -100,20 +100,20 @@ impl Node {
         scope: &Scope<'_>,
         scene: &Scene,
         machine: &mut M,
-        left: &mut u64,
+        budget: &mut u64,
     ) -> Step
         requires moment { IsMoment scene.now.moment }
         requires offset { IsOffset scene.now.offset }
-        ensures stop { IsStop left.new result }
+        ensures stop { IsStop budget.new result }
         ensures shape { shape self.new ≡ shape self.old }
         ensures goes { (w : WorldState) → M.world machine.old ≡ Some w
-            → Advances (M.looked machine.old) left.old (rest w scene.now self.old (seen scope.now)) result
-            (M.looked machine.new) left.new (rest w scene.now self.new (seen scope.now)) }
+            → Advances (M.looked machine.old) budget.old (rest w scene.now self.old (seen scope.now)) result
+            (M.looked machine.new) budget.new (rest w scene.now self.new (seen scope.now)) }
         ensures cause { HasCause (M.faults machine.old) (M.faults machine.new) result }
         ensures later { M.faults machine.old ≤ M.faults machine.new }
-        ensures room { AsRoom (has_room left.new) result }
-        ensures within { left.new ≤ left.old }
-        ensures falls { left.new ≡ left.old → Falls result (quiet self.old) (quiet self.new) }
+        ensures room { AsRoom (has_room budget.new) result }
+        ensures within { budget.new ≤ budget.old }
+        ensures falls { budget.new ≡ budget.old → Falls result (quiet self.old) (quiet self.new) }
         ensures world { M.world machine.new ≡ M.world machine.old }
         ensures acted { M.acted machine.new ≡ M.acted machine.old }
         ensures polled { M.polled machine.new ≡ M.polled machine.old }
@@ -122,21 +122,21 @@ impl Node {
         match self {
             Node::Nothing => Step::Over,
             Node::Pure { pure, given } => pure.tell_once(given, alloc, scope, scene),
-            Node::Property(property) => property.step(alloc, scope, scene, machine, left),
+            Node::Property(property) => property.step(alloc, scope, scene, machine, budget),
             Node::WithOne { part, state } => {
-                step_one(part, state, alloc, scope, scene, machine, left)
+                step_one(part, state, alloc, scope, scene, machine, budget)
             }
             Node::WithTwo {
                 first,
                 second,
                 state,
-            } => step_two(first, second, state, alloc, scope, scene, machine, left),
+            } => step_two(first, second, state, alloc, scope, scene, machine, budget),
             Node::WithChoice {
                 test,
                 yes,
                 no,
                 state,
-            } => step_choice(test, yes, no, state, alloc, scope, scene, machine, left),
+            } => step_choice(test, yes, no, state, alloc, scope, scene, machine, budget),
         }
     }
 }
@@ -151,29 +151,29 @@ fn step_one<M: Machine>(
     scope: &Scope<'_>,
     scene: &Scene,
     machine: &mut M,
-    left: &mut u64,
+    budget: &mut u64,
 ) -> Step
     requires moment { IsMoment scene.now.moment }
     requires offset { IsOffset scene.now.offset }
-    ensures stop { IsStop left.new result }
+    ensures stop { IsStop budget.new result }
     ensures part { shape part.new ≡ shape part.old }
     ensures kind { one_kind state.new ≡ one_kind state.old }
     ensures goes { (w : WorldState) → M.world machine.old ≡ Some w
-        → Advances (M.looked machine.old) left.old (one_left state.old (seen scope.now) scene.now.offset (rest w scene.now part.old (seen scope.now))) result
-        (M.looked machine.new) left.new (one_left state.new (seen scope.now) scene.now.offset (rest w scene.now part.new (seen scope.now))) }
+        → Advances (M.looked machine.old) budget.old (one_left state.old (seen scope.now) scene.now.offset (rest w scene.now part.old (seen scope.now))) result
+        (M.looked machine.new) budget.new (one_left state.new (seen scope.now) scene.now.offset (rest w scene.now part.new (seen scope.now))) }
     ensures cause { HasCause (M.faults machine.old) (M.faults machine.new) result }
     ensures later { M.faults machine.old ≤ M.faults machine.new }
-    ensures room { AsRoom (has_room left.new) result }
-    ensures within { left.new ≤ left.old }
-    ensures falls { left.new ≡ left.old → Falls result (one_quiet state.old (quiet part.old)) (one_quiet state.new (quiet part.new)) }
+    ensures room { AsRoom (has_room budget.new) result }
+    ensures within { budget.new ≤ budget.old }
+    ensures falls { budget.new ≡ budget.old → Falls result (one_quiet state.old (quiet part.old)) (one_quiet state.new (quiet part.new)) }
     ensures world { M.world machine.new ≡ M.world machine.old }
     ensures acted { M.acted machine.new ≡ M.acted machine.old }
     ensures polled { M.polled machine.new ≡ M.polled machine.old }
     ensures started { M.started machine.new ≡ M.started machine.old }
 {
     loop {
-        let step = go_on_one(part, state, alloc, scope, scene, machine, left);
-        if !pass_over(&step, left) {
+        let step = go_on_one(part, state, alloc, scope, scene, machine, budget);
+        if !pass_over(&step, budget) {
             return step;
         }
     }
@@ -188,20 +188,20 @@ fn go_on_one<M: Machine>(
     scope: &Scope<'_>,
     scene: &Scene,
     machine: &mut M,
-    left: &mut u64,
+    budget: &mut u64,
 ) -> Step
     requires moment { IsMoment scene.now.moment }
     requires offset { IsOffset scene.now.offset }
     ensures part { shape part.new ≡ shape part.old }
     ensures kind { one_kind state.new ≡ one_kind state.old }
     ensures goes { (w : WorldState) → M.world machine.old ≡ Some w
-        → Advances (M.looked machine.old) left.old (one_left state.old (seen scope.now) scene.now.offset (rest w scene.now part.old (seen scope.now))) result
-        (M.looked machine.new) left.new (one_left state.new (seen scope.now) scene.now.offset (rest w scene.now part.new (seen scope.now))) }
+        → Advances (M.looked machine.old) budget.old (one_left state.old (seen scope.now) scene.now.offset (rest w scene.now part.old (seen scope.now))) result
+        (M.looked machine.new) budget.new (one_left state.new (seen scope.now) scene.now.offset (rest w scene.now part.new (seen scope.now))) }
     ensures cause { HasCause (M.faults machine.old) (M.faults machine.new) result }
     ensures later { M.faults machine.old ≤ M.faults machine.new }
-    ensures room { AsRoom (has_room left.new) result }
-    ensures within { left.new ≤ left.old }
-    ensures falls { left.new ≡ left.old → Falls result (one_quiet state.old (quiet part.old)) (one_quiet state.new (quiet part.new)) }
+    ensures room { AsRoom (has_room budget.new) result }
+    ensures within { budget.new ≤ budget.old }
+    ensures falls { budget.new ≡ budget.old → Falls result (one_quiet state.old (quiet part.old)) (one_quiet state.new (quiet part.new)) }
     ensures world { M.world machine.new ≡ M.world machine.old }
     ensures acted { M.acted machine.new ≡ M.acted machine.old }
     ensures polled { M.polled machine.new ≡ M.polled machine.old }
@@ -210,7 +210,7 @@ fn go_on_one<M: Machine>(
     if state.is_done() {
         return Step::Over;
     }
-    let step = part.step(alloc, scope, scene, machine, left);
+    let step = part.step(alloc, scope, scene, machine, budget);
     state.after(alloc, step, *scope, scene.offset)
 }
 
@@ -225,30 +225,30 @@ fn step_two<M: Machine>(
     scope: &Scope<'_>,
     scene: &Scene,
     machine: &mut M,
-    left: &mut u64,
+    budget: &mut u64,
 ) -> Step
     requires moment { IsMoment scene.now.moment }
     requires offset { IsOffset scene.now.offset }
-    ensures stop { IsStop left.new result }
+    ensures stop { IsStop budget.new result }
     ensures first { shape first.new ≡ shape first.old }
     ensures second { shape second.new ≡ shape second.old }
     ensures kind { two_kind state.new ≡ two_kind state.old }
     ensures goes { (w : WorldState) → M.world machine.old ≡ Some w
-        → Advances (M.looked machine.old) left.old (two_left state.old (rest w scene.now first.old (seen scope.now)) (rest w scene.now second.old) (core w scene.now (shape second.old)) (seen scope.now)) result
-        (M.looked machine.new) left.new (two_left state.new (rest w scene.now first.new (seen scope.now)) (rest w scene.now second.new) (core w scene.now (shape second.new)) (seen scope.now)) }
+        → Advances (M.looked machine.old) budget.old (two_left state.old (rest w scene.now first.old (seen scope.now)) (rest w scene.now second.old) (core w scene.now (shape second.old)) (seen scope.now)) result
+        (M.looked machine.new) budget.new (two_left state.new (rest w scene.now first.new (seen scope.now)) (rest w scene.now second.new) (core w scene.now (shape second.new)) (seen scope.now)) }
     ensures cause { HasCause (M.faults machine.old) (M.faults machine.new) result }
     ensures later { M.faults machine.old ≤ M.faults machine.new }
-    ensures room { AsRoom (has_room left.new) result }
-    ensures within { left.new ≤ left.old }
-    ensures falls { left.new ≡ left.old → Falls result (two_quiet state.old (quiet first.old) (quiet second.old) (cap (shape second.old))) (two_quiet state.new (quiet first.new) (quiet second.new) (cap (shape second.new))) }
+    ensures room { AsRoom (has_room budget.new) result }
+    ensures within { budget.new ≤ budget.old }
+    ensures falls { budget.new ≡ budget.old → Falls result (two_quiet state.old (quiet first.old) (quiet second.old) (cap (shape second.old))) (two_quiet state.new (quiet first.new) (quiet second.new) (cap (shape second.new))) }
     ensures world { M.world machine.new ≡ M.world machine.old }
     ensures acted { M.acted machine.new ≡ M.acted machine.old }
     ensures polled { M.polled machine.new ≡ M.polled machine.old }
     ensures started { M.started machine.new ≡ M.started machine.old }
 {
     loop {
-        let step = go_on_two(first, second, state, alloc, scope, scene, machine, left);
-        if !pass_over(&step, left) {
+        let step = go_on_two(first, second, state, alloc, scope, scene, machine, budget);
+        if !pass_over(&step, budget) {
             return step;
         }
     }
@@ -264,7 +264,7 @@ fn go_on_two<M: Machine>(
     scope: &Scope<'_>,
     scene: &Scene,
     machine: &mut M,
-    left: &mut u64,
+    budget: &mut u64,
 ) -> Step
     requires moment { IsMoment scene.now.moment }
     requires offset { IsOffset scene.now.offset }
@@ -272,13 +272,13 @@ fn go_on_two<M: Machine>(
     ensures second { shape second.new ≡ shape second.old }
     ensures kind { two_kind state.new ≡ two_kind state.old }
     ensures goes { (w : WorldState) → M.world machine.old ≡ Some w
-        → Advances (M.looked machine.old) left.old (two_left state.old (rest w scene.now first.old (seen scope.now)) (rest w scene.now second.old) (core w scene.now (shape second.old)) (seen scope.now)) result
-        (M.looked machine.new) left.new (two_left state.new (rest w scene.now first.new (seen scope.now)) (rest w scene.now second.new) (core w scene.now (shape second.new)) (seen scope.now)) }
+        → Advances (M.looked machine.old) budget.old (two_left state.old (rest w scene.now first.old (seen scope.now)) (rest w scene.now second.old) (core w scene.now (shape second.old)) (seen scope.now)) result
+        (M.looked machine.new) budget.new (two_left state.new (rest w scene.now first.new (seen scope.now)) (rest w scene.now second.new) (core w scene.now (shape second.new)) (seen scope.now)) }
     ensures cause { HasCause (M.faults machine.old) (M.faults machine.new) result }
     ensures later { M.faults machine.old ≤ M.faults machine.new }
-    ensures room { AsRoom (has_room left.new) result }
-    ensures within { left.new ≤ left.old }
-    ensures falls { left.new ≡ left.old → Falls result (two_quiet state.old (quiet first.old) (quiet second.old) (cap (shape second.old))) (two_quiet state.new (quiet first.new) (quiet second.new) (cap (shape second.new))) }
+    ensures room { AsRoom (has_room budget.new) result }
+    ensures within { budget.new ≤ budget.old }
+    ensures falls { budget.new ≡ budget.old → Falls result (two_quiet state.old (quiet first.old) (quiet second.old) (cap (shape second.old))) (two_quiet state.new (quiet first.new) (quiet second.new) (cap (shape second.new))) }
     ensures world { M.world machine.new ≡ M.world machine.old }
     ensures acted { M.acted machine.new ≡ M.acted machine.old }
     ensures polled { M.polled machine.new ≡ M.polled machine.old }
@@ -289,12 +289,12 @@ fn go_on_two<M: Machine>(
             return state.after_second(Step::Over);
         }
         let inner = state.second_scope(*scope);
-        let step = second.step(alloc, &inner, scene, machine, left);
+        let step = second.step(alloc, &inner, scene, machine, budget);
         let step = state.after_second(step);
         release(second, state);
         return step;
     }
-    let step = first.step(alloc, scope, scene, machine, left);
+    let step = first.step(alloc, scope, scene, machine, budget);
     let next = state.after_first(step);
     if next.begins {
         second.reset();
@@ -305,7 +305,7 @@ fn go_on_two<M: Machine>(
 /// Gives up what was handed to a second part that has nothing left: a long tuple would keep all its beginnings otherwise.
 fn release(second: &Node, state: &mut Two)
     ensures kind { two_kind state.new ≡ two_kind state.old }
-    ensures left { (w : WorldState) (s : Scene) (t : Trace) (f : Around → Trace) (a : Around) → two_left state.new t (rest w s second.now) f a ≡ two_left state.old t (rest w s second.now) f a }
+    ensures rest { (w : WorldState) (s : Scene) (t : Trace) (f : Around → Trace) (a : Around) → two_left state.new t (rest w s second.now) f a ≡ two_left state.old t (rest w s second.now) f a }
     ensures falls { (q r c : ℕ) → two_quiet state.new q r c ≤ two_quiet state.old q r c }
 {
     if second.is_told() {
@@ -325,30 +325,30 @@ fn step_choice<M: Machine>(
     scope: &Scope<'_>,
     scene: &Scene,
     machine: &mut M,
-    left: &mut u64,
+    budget: &mut u64,
 ) -> Step
     requires moment { IsMoment scene.now.moment }
     requires offset { IsOffset scene.now.offset }
-    ensures stop { IsStop left.new result }
+    ensures stop { IsStop budget.new result }
     ensures test { shape test.new ≡ shape test.old }
     ensures yes { shape yes.new ≡ shape yes.old }
     ensures no { shape no.new ≡ shape no.old }
     ensures goes { (w : WorldState) → M.world machine.old ≡ Some w
-        → Advances (M.looked machine.old) left.old (choice_left state.old (rest w scene.now test.old (seen scope.now)) (rest w scene.now yes.old) (rest w scene.now no.old) (core w scene.now (shape yes.old)) (core w scene.now (shape no.old)) (seen scope.now)) result
-        (M.looked machine.new) left.new (choice_left state.new (rest w scene.now test.new (seen scope.now)) (rest w scene.now yes.new) (rest w scene.now no.new) (core w scene.now (shape yes.new)) (core w scene.now (shape no.new)) (seen scope.now)) }
+        → Advances (M.looked machine.old) budget.old (choice_left state.old (rest w scene.now test.old (seen scope.now)) (rest w scene.now yes.old) (rest w scene.now no.old) (core w scene.now (shape yes.old)) (core w scene.now (shape no.old)) (seen scope.now)) result
+        (M.looked machine.new) budget.new (choice_left state.new (rest w scene.now test.new (seen scope.now)) (rest w scene.now yes.new) (rest w scene.now no.new) (core w scene.now (shape yes.new)) (core w scene.now (shape no.new)) (seen scope.now)) }
     ensures cause { HasCause (M.faults machine.old) (M.faults machine.new) result }
     ensures later { M.faults machine.old ≤ M.faults machine.new }
-    ensures room { AsRoom (has_room left.new) result }
-    ensures within { left.new ≤ left.old }
-    ensures falls { left.new ≡ left.old → Falls result (choice_quiet state.old (quiet test.old) (quiet yes.old) (quiet no.old) (cap (shape yes.old)) (cap (shape no.old))) (choice_quiet state.new (quiet test.new) (quiet yes.new) (quiet no.new) (cap (shape yes.new)) (cap (shape no.new))) }
+    ensures room { AsRoom (has_room budget.new) result }
+    ensures within { budget.new ≤ budget.old }
+    ensures falls { budget.new ≡ budget.old → Falls result (choice_quiet state.old (quiet test.old) (quiet yes.old) (quiet no.old) (cap (shape yes.old)) (cap (shape no.old))) (choice_quiet state.new (quiet test.new) (quiet yes.new) (quiet no.new) (cap (shape yes.new)) (cap (shape no.new))) }
     ensures world { M.world machine.new ≡ M.world machine.old }
     ensures acted { M.acted machine.new ≡ M.acted machine.old }
     ensures polled { M.polled machine.new ≡ M.polled machine.old }
     ensures started { M.started machine.new ≡ M.started machine.old }
 {
     loop {
-        let step = go_on_choice(test, yes, no, state, alloc, scope, scene, machine, left);
-        if !pass_over(&step, left) {
+        let step = go_on_choice(test, yes, no, state, alloc, scope, scene, machine, budget);
+        if !pass_over(&step, budget) {
             return step;
         }
     }
@@ -365,7 +365,7 @@ fn go_on_choice<M: Machine>(
     scope: &Scope<'_>,
     scene: &Scene,
     machine: &mut M,
-    left: &mut u64,
+    budget: &mut u64,
 ) -> Step
     requires moment { IsMoment scene.now.moment }
     requires offset { IsOffset scene.now.offset }
@@ -373,13 +373,13 @@ fn go_on_choice<M: Machine>(
     ensures yes { shape yes.new ≡ shape yes.old }
     ensures no { shape no.new ≡ shape no.old }
     ensures goes { (w : WorldState) → M.world machine.old ≡ Some w
-        → Advances (M.looked machine.old) left.old (choice_left state.old (rest w scene.now test.old (seen scope.now)) (rest w scene.now yes.old) (rest w scene.now no.old) (core w scene.now (shape yes.old)) (core w scene.now (shape no.old)) (seen scope.now)) result
-        (M.looked machine.new) left.new (choice_left state.new (rest w scene.now test.new (seen scope.now)) (rest w scene.now yes.new) (rest w scene.now no.new) (core w scene.now (shape yes.new)) (core w scene.now (shape no.new)) (seen scope.now)) }
+        → Advances (M.looked machine.old) budget.old (choice_left state.old (rest w scene.now test.old (seen scope.now)) (rest w scene.now yes.old) (rest w scene.now no.old) (core w scene.now (shape yes.old)) (core w scene.now (shape no.old)) (seen scope.now)) result
+        (M.looked machine.new) budget.new (choice_left state.new (rest w scene.now test.new (seen scope.now)) (rest w scene.now yes.new) (rest w scene.now no.new) (core w scene.now (shape yes.new)) (core w scene.now (shape no.new)) (seen scope.now)) }
     ensures cause { HasCause (M.faults machine.old) (M.faults machine.new) result }
     ensures later { M.faults machine.old ≤ M.faults machine.new }
-    ensures room { AsRoom (has_room left.new) result }
-    ensures within { left.new ≤ left.old }
-    ensures falls { left.new ≡ left.old → Falls result (choice_quiet state.old (quiet test.old) (quiet yes.old) (quiet no.old) (cap (shape yes.old)) (cap (shape no.old))) (choice_quiet state.new (quiet test.new) (quiet yes.new) (quiet no.new) (cap (shape yes.new)) (cap (shape no.new))) }
+    ensures room { AsRoom (has_room budget.new) result }
+    ensures within { budget.new ≤ budget.old }
+    ensures falls { budget.new ≡ budget.old → Falls result (choice_quiet state.old (quiet test.old) (quiet yes.old) (quiet no.old) (cap (shape yes.old)) (cap (shape no.old))) (choice_quiet state.new (quiet test.new) (quiet yes.new) (quiet no.new) (cap (shape yes.new)) (cap (shape no.new))) }
     ensures world { M.world machine.new ≡ M.world machine.old }
     ensures acted { M.acted machine.new ≡ M.acted machine.old }
     ensures polled { M.polled machine.new ≡ M.polled machine.old }
@@ -387,7 +387,7 @@ fn go_on_choice<M: Machine>(
 {
     match state {
         Choice::Test => {
-            let step = test.step(alloc, scope, scene, machine, left);
+            let step = test.step(alloc, scope, scene, machine, budget);
             let next = state.after_test(step);
             if next.begins {
                 yes.reset();
@@ -396,11 +396,11 @@ fn go_on_choice<M: Machine>(
             next.step
         }
         Choice::Yes => {
-            let step = yes.step(alloc, scope, scene, machine, left);
+            let step = yes.step(alloc, scope, scene, machine, budget);
             state.after_branch(step)
         }
         Choice::No => {
-            let step = no.step(alloc, scope, scene, machine, left);
+            let step = no.step(alloc, scope, scene, machine, budget);
             state.after_branch(step)
         }
     }

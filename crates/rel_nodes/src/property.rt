@@ -52,27 +52,27 @@ impl Property {
         scope: &Scope<'_>,
         scene: &Scene,
         machine: &mut M,
-        left: &mut u64,
+        budget: &mut u64,
     ) -> Step
         requires { IsMoment scene.now.moment }
-        ensures stop { IsStop left.new result }
+        ensures stop { IsStop budget.new result }
         ensures row { row_core self.new ≡ row_core self.old }
         ensures goes { (w : WorldState) → M.world machine.old ≡ Some w
-            → Advances (M.looked machine.old) left.old (property_left w scene.now self.old self.old.walk (seen scope.now)) result
-            (M.looked machine.new) left.new (property_left w scene.now self.new self.new.walk (seen scope.now)) }
+            → Advances (M.looked machine.old) budget.old (property_left w scene.now self.old self.old.walk (seen scope.now)) result
+            (M.looked machine.new) budget.new (property_left w scene.now self.new self.new.walk (seen scope.now)) }
         ensures cause { HasCause (M.faults machine.old) (M.faults machine.new) result }
         ensures later { M.faults machine.old ≤ M.faults machine.new }
-        ensures room { AsRoom (has_room left.new) result }
-        ensures within { left.new ≤ left.old }
-        ensures falls { left.new ≡ left.old → Falls result (property_quiet self.old.walk) (property_quiet self.new.walk) }
+        ensures room { AsRoom (has_room budget.new) result }
+        ensures within { budget.new ≤ budget.old }
+        ensures falls { budget.new ≡ budget.old → Falls result (property_quiet self.old.walk) (property_quiet self.new.walk) }
         ensures world { M.world machine.new ≡ M.world machine.old }
         ensures acted { M.acted machine.new ≡ M.acted machine.old }
         ensures polled { M.polled machine.new ≡ M.polled machine.old }
         ensures started { M.started machine.new ≡ M.started machine.old }
     {
         loop {
-            let step = self.go_on(alloc, scope, scene, machine, *left > 0);
-            if !pass_over(&step, left) {
+            let step = self.go_on(alloc, scope, scene, machine, *budget > 0);
+            if !pass_over(&step, budget) {
                 return step;
             }
         }

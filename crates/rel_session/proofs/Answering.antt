@@ -69,7 +69,7 @@ answers_refusal world moment offset s text Memory held old new looked faults pre
 given_at_start : (world : Option WorldState) (moment offset : ℤ) (q : Question) (started : code_paused.Paused) (t : Trace) → IsStarted moment offset q started → IsGiven world (left_of started.cursor) t
     → IsGiven world (λ w. meaning_of w moment offset q) t
 given_at_start None moment offset q started t begins is = tt
-given_at_start (Some w) moment offset q started t begins is = is ∙ begins.left w
+given_at_start (Some w) moment offset q started t begins is = is ∙ begins.rest w
 
 -- a question is told
 pub answers_question : (world : Option WorldState) (moment offset : ℤ) (s : Session) (text : List ℕ) (started : code_paused.Paused) (run : Run) (s' : Session)
@@ -83,7 +83,7 @@ answers_question world moment offset s text started run s' (q, is, begins) (told
 
 -- nothing is paused, or the latest question goes on
 pub goes_on_latest : (world : Option WorldState) (offset : ℤ) (s : Session) (paused before : List Paused) (latest : Paused) (run : Run) (s' : Session) → paused ≡ before ++ latest ∷ [] → s.paused ≡ before ++ latest ∷ []
-    → TellsOf offset (record s { paused = before }) (IsGiven world (λ w. latest.left)) latest.span run s' → GoesOnWith world offset s paused run s'
+    → TellsOf offset (record s { paused = before }) (IsGiven world (λ w. latest.rest)) latest.span run s' → GoesOnWith world offset s paused run s'
 goes_on_latest world offset s [] before latest run s' is all tells =
     let long : 0 ≡ length before + 1 = ap length is ∙ length-append before (latest ∷ []) in
     absurd (omega arith)
@@ -299,7 +299,7 @@ pauses_behind world page page' items new latest same few is =
 -- ---- calls that are answered as they are
 
 -- a page is told
-pub tells_page : (offset : ℤ) (s : Session) (P : Trace → Type 0) (span : Place) (told : Telling) (room : Option ℕ) (s' : Session) → room ≡ room_of s.page → TellsSome offset span room P told → s' ≡ pausing s told.left span → TellsOf offset s P span (told_run told) s'
+pub tells_page : (offset : ℤ) (s : Session) (P : Trace → Type 0) (span : Place) (told : Telling) (room : Option ℕ) (s' : Session) → room ≡ room_of s.page → TellsSome offset span room P told → s' ≡ pausing s told.rest span → TellsOf offset s P span (told_run told) s'
 tells_page offset s P span told room s' is tells next = let In : Option ℕ → Type 0 = λ r. TellsSome offset span r P told in (told, subst In is tells, refl, next)
 
 -- nothing of it is written

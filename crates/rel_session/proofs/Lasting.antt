@@ -160,7 +160,7 @@ step_at_value world offset span room old_left new_left v left (Err error) old ne
 
 -- the question is over, and this is told of how it ended
 pub step_at_end : (world : Option WorldState) (offset : ℤ) (span : Place) (room : Option ℕ) (later : Option ℕ → Telling → Type 0) (P At : Trace → Type 0) (rest : Trace) (told : Telling) (old new : List ℕ) (looked looked' : Option (List Key)) (before now : ℕ)
-    → Drawn world P looked looked' At → ((t : Trace) → At t → Tells offset span room t told) → told.looks ≡ [] → told.left ≡ None → new ≡ old ++ told.bytes → RoseBy told.faults before now
+    → Drawn world P looked looked' At → ((t : Trace) → At t → Tells offset span room t told) → told.looks ≡ [] → told.rest ≡ None → new ≡ old ++ told.bytes → RoseBy told.faults before now
     → TellsStep world later (TellsSome offset span room P) (Out left.Nothing) rest old looked before new looked' now
 step_at_end world offset span room later P At rest told old new looked looked' before now d tells none over said rose = record {
   said = told.bytes;
@@ -251,7 +251,7 @@ ToldSoFar-flushed world first old rest held held' waits waits' looked faults bef
 -- it is over, or pauses
 pub ToldSoFar-out : (world : Option WorldState) (first : Telling → Type 0) (old : State) (rest : Telling → Type 0) (later : Option ℕ → Telling → Type 0) (step : Step) (why : Left) (left : Trace) (held : Option (List ℕ)) (waits waits' : List ℕ) (looked looked' : Option (List Key)) (faults faults' : ℕ)
     → step ≡ Out why → ToldSoFar world first old rest (state_of held waits looked faults) → TellsStep world later rest step left waits looked faults waits' looked' faults'
-    → (told : Telling) × first told × (IsLeft why told.left left × Says world old (state_of held waits' looked' faults') (told_run told))
+    → (told : Telling) × first told × (IsLeft why told.rest left × Says world old (state_of held waits' looked' faults') (told_run told))
 ToldSoFar-out world first old rest later step why left held waits waits' looked looked' faults faults' is before stepped =
     let At : Step → Type 0 = λ s. TellsStep world later rest s left waits looked faults waits' looked' faults' in
     let step : At (Out why) = subst At is stepped in

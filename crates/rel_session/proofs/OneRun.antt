@@ -62,7 +62,7 @@ tells_of_once : (offset : ℤ) (s : Session) (given : WorldState → Trace) (w :
 tells_of_once offset s given w span x y a b (told, (t, is, tells), ran, next) (told', (t', is', tells'), ran', next') none none' =
     let Of : Trace → Type 0 = λ z. Tells offset span (room_of s.page) z told' in
     let same : told ≡ told' = tells_once offset span (room_of s.page) t told told' tells (subst Of (is' ∙ sym is) tells') (sym (ap (λ r. r.faults) ran) ∙ none) (sym (ap (λ r. r.faults) ran') ∙ none') in
-    (ran ∙ ap (λ u. record { bytes = u.bytes; looks = u.looks; faults = u.faults }) same ∙ sym ran', next ∙ ap (λ u. pausing s u.left span) same ∙ sym next')
+    (ran ∙ ap (λ u. record { bytes = u.bytes; looks = u.looks; faults = u.faults }) same ∙ sym ran', next ∙ ap (λ u. pausing s u.rest span) same ∙ sym next')
 
 reading_answers_once : (w : WorldState) (moment offset : ℤ) (s : Session) (reading : Reading) (x y : Run) (a b : Session) → AnswersReading (Some w) moment offset s reading x a → AnswersReading (Some w) moment offset s reading y b → x.faults ≡ 0 → y.faults ≡ 0 → SameEnd x y a b
 reading_answers_once w moment offset s (question plan) x y a b p q none none' = tells_of_once offset s (λ v. meaning v (scene_at moment offset) plan) w (span_of_node plan) x y a b p q none none'
@@ -79,9 +79,9 @@ goes_on_with_once : (w : WorldState) (offset : ℤ) (s : Session) (paused : List
 goes_on_with_once w offset s [] x y a b p q none none' = (p.0 ∙ sym q.0, p.1 ∙ sym q.1)
 goes_on_with_once w offset s (first ∷ rest) x y a b (before, latest, is, tells) (before', latest', is', tells') none none' =
     let same = same_from_push before before' latest latest' (sym is ∙ is') in
-    let Before : List Paused → Type 0 = λ l. TellsOf offset (record s { paused = l }) (IsGiven (Some w) (λ v. latest'.left)) latest'.span y b in
-    let Latest : Paused → Type 0 = λ l. TellsOf offset (record s { paused = before }) (IsGiven (Some w) (λ v. l.left)) l.span y b in
-    tells_of_once offset (record s { paused = before }) (λ v. latest.left) w latest.span x y a b tells (subst Latest (sym same.1) (subst Before (sym same.0) tells')) none none'
+    let Before : List Paused → Type 0 = λ l. TellsOf offset (record s { paused = l }) (IsGiven (Some w) (λ v. latest'.rest)) latest'.span y b in
+    let Latest : Paused → Type 0 = λ l. TellsOf offset (record s { paused = before }) (IsGiven (Some w) (λ v. l.rest)) l.span y b in
+    tells_of_once offset (record s { paused = before }) (λ v. latest.rest) w latest.span x y a b tells (subst Latest (sym same.1) (subst Before (sym same.0) tells')) none none'
 
 page_begins : (line : List ℕ) (size : ℕ) → IsPageLine line size → begins_with_colon line ≡ true
 page_begins line size is = ap begins_with_colon is.1

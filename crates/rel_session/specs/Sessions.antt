@@ -16,7 +16,7 @@ use Rattle.rel_session.specs.Tellings.{Telling, TellsSome, room_of}
 
 -- a question that is paused: what it has still to give, where the world is told, and its span
 pub record Paused : Type 0 where
-  pub left : Trace
+  pub rest : Trace
   pub span : Place
 
 -- how many values are told at a time, 0 for all, and the paused questions, the latest one last
@@ -35,7 +35,7 @@ last_sixteen all = drop (length all - 16) all
 -- the question is paused with what is left of it, if something is; of seventeen the oldest is dropped
 abbrev pub pausing : Session → Option Trace → Place → Session
 pausing session None span = session
-pausing session (Some left) span = record session { paused = last_sixteen (session.paused ++ record { left = left; span = span } ∷ []) }
+pausing session (Some rest) span = record session { paused = last_sixteen (session.paused ++ record { rest = rest; span = span } ∷ []) }
 
 abbrev pub begins_with_colon : List ℕ → Bool
 begins_with_colon [] = false
@@ -89,7 +89,7 @@ IsGiven (Some w) given t = t ≡ given w
 
 -- What is told of a trace, of which P holds, goes on from a session to the next.
 abbrev pub TellsOf : ℤ → Session → (Trace → Type 0) → Place → Run → Session → Type 0
-TellsOf offset s P span run s' = (told : Telling) × TellsSome offset span (room_of s.page) P told × (run ≡ told_run told) × (s' ≡ pausing s told.left span)
+TellsOf offset s P span run s' = (told : Telling) × TellsSome offset span (room_of s.page) P told × (run ≡ told_run told) × (s' ≡ pausing s told.rest span)
 
 -- What a text is, is answered at a moment: a question by what it means, and else the refusal.
 abbrev pub AnswersReading : Option WorldState → ℤ → ℤ → Session → Reading → Run → Session → Type 0
@@ -105,7 +105,7 @@ AnswersText world moment offset s text run s' = (reading : Reading) × Reads tex
 abbrev pub GoesOnWith : Option WorldState → ℤ → Session → List Paused → Run → Session → Type 0
 GoesOnWith world offset s [] run s' = (run ≡ saying said_nothing_paused) × (s' ≡ s)
 GoesOnWith world offset s (first ∷ rest) run s' = (before : List Paused) × (latest : Paused) × (s.paused ≡ before ++ latest ∷ [])
-    × TellsOf offset (record s { paused = before }) (IsGiven world (λ w. latest.left)) latest.span run s'
+    × TellsOf offset (record s { paused = before }) (IsGiven world (λ w. latest.rest)) latest.span run s'
 
 -- A line that asks for this is answered, with the moments that it uses.
 abbrev pub Answers : Option WorldState → ℤ → Session → List ℕ → Line → List ℤ → Run → Session → Type 0

@@ -7,24 +7,24 @@ use Rattle.rel_trace.specs.declared.kind.RelKind.TheVariants.{TextTooLong}
 use Rattle.rel_trace.specs.Trace.{Stop, Error, Look, Turn, Give, Trace, Ends, After}
 use Rattle.rel_session.specs.Printed.{said_value, said_error, said_fault, said_more}
 
--- what was told: its bytes, the keys looked up, how many looks failed, and what is left where the question is paused
+-- what was told: its bytes, the keys looked up, how many looks failed, and what the question has still to give where it is paused
 pub record Telling : Type 0 where
   pub bytes : List ℕ
   pub looks : List Key
   pub faults : ℕ
-  pub left : Option Trace
+  pub rest : Option Trace
 
 -- these bytes, and the question is over
 abbrev pub ended : List ℕ → Telling
-ended bytes = record { bytes = bytes; looks = []; faults = 0; left = None }
+ended bytes = record { bytes = bytes; looks = []; faults = 0; rest = None }
 
 -- the look at this place failed
 abbrev pub faulted : Place → Telling
-faulted place = record { bytes = said_fault place; looks = []; faults = 1; left = None }
+faulted place = record { bytes = said_fault place; looks = []; faults = 1; rest = None }
 
--- the question is paused with this left
+-- the question is paused with this still to give
 abbrev pub paused : Trace → Telling
-paused left = record { bytes = said_more; looks = []; faults = 0; left = Some left }
+paused rest = record { bytes = said_more; looks = []; faults = 0; rest = Some rest }
 
 -- some bytes and looks first
 abbrev pub onto : List ℕ → List Key → Telling → Telling
@@ -34,9 +34,9 @@ onto bytes keys u = record u { bytes = bytes ++ u.bytes; looks = keys ++ u.looks
 
 -- After a value this is told: of what is left in the room that is left; or the question pauses, where it was the page's last value.
 abbrev pub GoesOn : Option ℕ → Trace → (Option ℕ → Telling → Type 0) → Telling → Type 0
-GoesOn None left tells told = tells None told
-GoesOn (Some zero) left tells told = told ≡ paused left
-GoesOn (Some (suc n)) left tells told = tells (Some n) told
+GoesOn None rest tells told = tells None told
+GoesOn (Some zero) rest tells told = told ≡ paused rest
+GoesOn (Some (suc n)) rest tells told = tells (Some n) told
 
 -- This is told of a trace by a question with its span there, in an offset, and with this room.
 unfoldable pub Tells : ℤ → Place → Option ℕ → Trace → Telling → Type 0

@@ -93,7 +93,7 @@ last_fifteen all = drop (length all - 15) all
 
 -- a paused question
 abbrev pub paused_of : Option WorldState → code_paused.Paused → Paused
-paused_of world p = record { left = some_given world (left_of p.cursor); span = p.span }
+paused_of world p = record { rest = some_given world (left_of p.cursor); span = p.span }
 
 -- a session
 abbrev pub session_of : Option WorldState → code_session.Session → Session
@@ -107,9 +107,9 @@ IsLeft left.More told rest = told ≡ Some rest
 -- What comes of one step: what is told of what is left, in the room that is left, is told of the whole with this said and these keys
 -- looked up before it; or this is told of the whole.
 abbrev pub Comes : (Option ℕ → Telling → Type 0) → (Telling → Type 0) → Step → Trace → List ℕ → List Key → ℕ → Type 0
-Comes later tells (On room) left said keys faults = ((u : Telling) → later room u → tells (onto said keys u)) × (faults ≡ 0)
-Comes later tells (Out why) left said keys faults =
-    (told : Telling) × tells told × IsLeft why told.left left × (said ≡ told.bytes) × (keys ≡ told.looks) × (faults ≡ told.faults)
+Comes later tells (On room) rest said keys faults = ((u : Telling) → later room u → tells (onto said keys u)) × (faults ≡ 0)
+Comes later tells (Out why) rest said keys faults =
+    (told : Telling) × tells told × IsLeft why told.rest rest × (said ≡ told.bytes) × (keys ≡ told.looks) × (faults ≡ told.faults)
 
 -- a value was told, and no look was made, whatever is left behind the value
 pub record TellsValue (offset : ℤ) (span : Place) (tells : Trace → Telling → Type 0) (step : Step) (old new : List ℕ) : Type 0 where
@@ -157,7 +157,7 @@ IsRead text result = Prepares text result
 
 -- A question is at its start in a scene of this moment and offset.
 pub record IsStarted (moment offset : ℤ) (question : Question) (started : code_paused.Paused) : Type 0 where
-  pub left : (w : WorldState) → left_of started.cursor w ≡ meaning_of w moment offset question
+  pub rest : (w : WorldState) → left_of started.cursor w ≡ meaning_of w moment offset question
   pub span : started.span ≡ span_of question
 
 -- The text is a question, which is at its start.

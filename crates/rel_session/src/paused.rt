@@ -65,7 +65,7 @@ impl Paused {
         requires offset { IsOffset asking.offset }
         ensures told { (told : Telling)
             × TellsLeft (M.world machine.old) asking.offset self.old.span self.old.cursor room told × MatchResult result
-            (λ left. IsLeft left told.left (some_given (M.world machine.old) (left_of self.new.cursor)) × Says (M.world machine.old)
+            (λ left. IsLeft left told.rest (some_given (M.world machine.old) (left_of self.new.cursor)) × Says (M.world machine.old)
             (state_of (W.held sink.old) out.old (M.looked machine.old) (M.faults machine.old))
             (state_of (W.held sink.new) out.new (M.looked machine.new) (M.faults machine.new))
             (told_run told))

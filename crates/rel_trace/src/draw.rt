@@ -35,7 +35,7 @@ impl Draw {
 
     pub(crate) fn reset(&mut self)
         ensures kind { draw_kind self.new ≡ draw_kind self.old }
-        ensures left { (s : Around) (offset : ℤ) (t : Trace) → draw_left self.new t ≡ one_whole (draw_kind self.old) s offset t }
+        ensures rest { (s : Around) (offset : ℤ) (t : Trace) → draw_left self.new t ≡ one_whole (draw_kind self.old) s offset t }
     {
         match self {
             Draw::Single { held, done, .. } => {

@@ -38,7 +38,7 @@ impl Filter {
 
     pub(crate) fn reset(&mut self)
         ensures kind { filter_kind self.new ≡ filter_kind self.old }
-        ensures left { (a : Trace) (b f : Around → Trace) (s : Around) → filter_rest self.new a b f s ≡ two_whole (filter_kind self.old) a f s }
+        ensures rest { (a : Trace) (b f : Around → Trace) (s : Around) → filter_rest self.new a b f s ≡ two_whole (filter_kind self.old) a f s }
     {
         drop(self.held.take());
     }

@@ -39,7 +39,7 @@ impl Folding {
     pub(crate) fn reset(&mut self)
         ensures kind { self.new.fold ≡ self.old.fold }
         ensures place { self.new.place ≡ self.old.place }
-        ensures left { (s : Around) (offset : ℤ) (t : Trace) → fold_left self.new s.argument t ≡ one_whole (fold_kind self.old.fold self.old.place) s offset t }
+        ensures rest { (s : Around) (offset : ℤ) (t : Trace) → fold_left self.new s.argument t ≡ one_whole (fold_kind self.old.fold self.old.place) s offset t }
     {
         self.held = self.fold.held_first();
         self.done = false;

@@ -87,7 +87,7 @@ impl Handing {
 
     pub(crate) fn reset(&mut self)
         ensures kind { handing_kind self.new ≡ handing_kind self.old }
-        ensures left { (a : Trace) (b f : Around → Trace) (s : Around) → handing_rest self.new a b f s ≡ two_whole (handing_kind self.old) a f s }
+        ensures rest { (a : Trace) (b f : Around → Trace) (s : Around) → handing_rest self.new a b f s ≡ two_whole (handing_kind self.old) a f s }
     {
         drop(self.held.take());
     }
@@ -96,7 +96,7 @@ impl Handing {
     pub(crate) fn release(&mut self)
         ensures kind { handing_kind self.new ≡ handing_kind self.old }
         ensures given_up { handing_on self.new ≡ false }
-        ensures left { (a : Trace) (b f : Around → Trace) (s : Around) → b (handed_down self.old s) ≡ none → handing_rest self.new a b f s ≡ handing_rest self.old a b f s }
+        ensures rest { (a : Trace) (b f : Around → Trace) (s : Around) → b (handed_down self.old s) ≡ none → handing_rest self.new a b f s ≡ handing_rest self.old a b f s }
         ensures falls { (q r c : ℕ) → handing_quiet self.new q r c ≤ handing_quiet self.old q r c }
     {
         drop(self.held.take());

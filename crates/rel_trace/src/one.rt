@@ -23,7 +23,7 @@ impl One {
     /// The one value of the part. None and a second one are errors at the head's place.
     pub fn single(place: Place) -> One
         ensures kind { one_kind result ≡ single_kind place }
-        ensures left { (s : Around) (offset : ℤ) (t : Trace) → one_left result s offset t ≡ one_whole (single_kind place) s offset t }
+        ensures rest { (s : Around) (offset : ℤ) (t : Trace) → one_left result s offset t ≡ one_whole (single_kind place) s offset t }
     {
         One::Draw(Draw::Single {
             place,
@@ -35,7 +35,7 @@ impl One {
     /// `exists`
     pub fn exists() -> One
         ensures kind { one_kind result ≡ exists_kind }
-        ensures left { (s : Around) (offset : ℤ) (t : Trace) → one_left result s offset t ≡ one_whole (exists_kind) s offset t }
+        ensures rest { (s : Around) (offset : ℤ) (t : Trace) → one_left result s offset t ≡ one_whole (exists_kind) s offset t }
     {
         One::Draw(Draw::Exists { done: false })
     }
@@ -43,7 +43,7 @@ impl One {
     /// An aggregate with its head at this place.
     pub fn fold(fold: Fold, place: Place) -> One
         ensures kind { one_kind result ≡ fold_kind fold place }
-        ensures left { (s : Around) (offset : ℤ) (t : Trace) → one_left result s offset t ≡ one_whole (fold_kind fold place) s offset t }
+        ensures rest { (s : Around) (offset : ℤ) (t : Trace) → one_left result s offset t ≡ one_whole (fold_kind fold place) s offset t }
     {
         One::Fold(Folding::new(fold, place))
     }
@@ -51,7 +51,7 @@ impl One {
     /// `-` before the part, at this place.
     pub fn negate(place: Place) -> One
         ensures kind { one_kind result ≡ negate_kind place }
-        ensures left { (s : Around) (offset : ℤ) (t : Trace) → one_left result s offset t ≡ one_whole (negate_kind place) s offset t }
+        ensures rest { (s : Around) (offset : ℤ) (t : Trace) → one_left result s offset t ≡ one_whole (negate_kind place) s offset t }
     {
         One::Apply(Apply::Negate { place })
     }
@@ -59,7 +59,7 @@ impl One {
     /// `not` before the part, at this place.
     pub fn not(place: Place) -> One
         ensures kind { one_kind result ≡ not_kind place }
-        ensures left { (s : Around) (offset : ℤ) (t : Trace) → one_left result s offset t ≡ one_whole (not_kind place) s offset t }
+        ensures rest { (s : Around) (offset : ℤ) (t : Trace) → one_left result s offset t ≡ one_whole (not_kind place) s offset t }
     {
         One::Apply(Apply::Not { place })
     }
@@ -67,7 +67,7 @@ impl One {
     /// A cast of the part, whose words are at this place.
     pub fn cast(to: Cast, place: Place) -> One
         ensures kind { one_kind result ≡ cast_kind to place }
-        ensures left { (s : Around) (offset : ℤ) (t : Trace) → one_left result s offset t ≡ one_whole (cast_kind to place) s offset t }
+        ensures rest { (s : Around) (offset : ℤ) (t : Trace) → one_left result s offset t ≡ one_whole (cast_kind to place) s offset t }
     {
         One::Apply(Apply::Cast { to, place })
     }
@@ -75,7 +75,7 @@ impl One {
     /// A sign between the left value in scope and the part's, at this place.
     pub fn sign(sign: BinarySign, place: Place) -> One
         ensures kind { one_kind result ≡ sign_kind sign place }
-        ensures left { (s : Around) (offset : ℤ) (t : Trace) → one_left result s offset t ≡ one_whole (sign_kind sign place) s offset t }
+        ensures rest { (s : Around) (offset : ℤ) (t : Trace) → one_left result s offset t ≡ one_whole (sign_kind sign place) s offset t }
     {
         One::Apply(Apply::Sign { sign, place })
     }
@@ -83,7 +83,7 @@ impl One {
     /// The left value in scope and the part's as a tuple. The place is the span of the left one's part.
     pub fn tuple(joining: Joining, span: Place) -> One
         ensures kind { one_kind result ≡ tuple_kind joining span }
-        ensures left { (s : Around) (offset : ℤ) (t : Trace) → one_left result s offset t ≡ one_whole (tuple_kind joining span) s offset t }
+        ensures rest { (s : Around) (offset : ℤ) (t : Trace) → one_left result s offset t ≡ one_whole (tuple_kind joining span) s offset t }
     {
         One::Apply(Apply::Tuple { joining, span })
     }
@@ -113,7 +113,7 @@ impl One {
     /// Begins anew. Its part does so too.
     pub fn reset(&mut self)
         ensures kind { one_kind self.new ≡ one_kind self.old }
-        ensures left { (s : Around) (offset : ℤ) (t : Trace) → one_left self.new s offset t ≡ one_whole (one_kind self.old) s offset t }
+        ensures rest { (s : Around) (offset : ℤ) (t : Trace) → one_left self.new s offset t ≡ one_whole (one_kind self.old) s offset t }
     {
         match self {
             One::Draw(draw) => draw.reset(),

@@ -39,7 +39,7 @@ impl Sequence {
 
     pub(crate) fn reset(&mut self)
         ensures kind { sequence_kind self.new ≡ sequence_kind self.old }
-        ensures left { (a : Trace) (b f : Around → Trace) (s : Around) → sequence_rest self.new a b f s ≡ two_whole (sequence_kind self.old) a f s }
+        ensures rest { (a : Trace) (b f : Around → Trace) (s : Around) → sequence_rest self.new a b f s ≡ two_whole (sequence_kind self.old) a f s }
     {
         self.on_second = false;
     }

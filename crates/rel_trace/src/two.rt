@@ -21,7 +21,7 @@ impl Two {
     /// The values of the first part, and then those of the second.
     pub fn then() -> Two
         ensures kind { two_kind result ≡ then_kind }
-        ensures left { (a : Trace) (b f : Around → Trace) (s : Around) → two_left result a b f s ≡ two_whole (then_kind) a f s }
+        ensures rest { (a : Trace) (b f : Around → Trace) (s : Around) → two_left result a b f s ≡ two_whole (then_kind) a f s }
     {
         Two::Sequence(Sequence::new(Order::Then))
     }
@@ -29,7 +29,7 @@ impl Two {
     /// `|`
     pub fn bar() -> Two
         ensures kind { two_kind result ≡ bar_kind }
-        ensures left { (a : Trace) (b f : Around → Trace) (s : Around) → two_left result a b f s ≡ two_whole (bar_kind) a f s }
+        ensures rest { (a : Trace) (b f : Around → Trace) (s : Around) → two_left result a b f s ≡ two_whole (bar_kind) a f s }
     {
         Two::Sequence(Sequence::new(Order::Bar))
     }
@@ -37,7 +37,7 @@ impl Two {
     /// `and` and `or`
     pub fn logical(logic: Logic) -> Two
         ensures kind { two_kind result ≡ logic_kind logic }
-        ensures left { (a : Trace) (b f : Around → Trace) (s : Around) → two_left result a b f s ≡ two_whole (logic_kind logic) a f s }
+        ensures rest { (a : Trace) (b f : Around → Trace) (s : Around) → two_left result a b f s ≡ two_whole (logic_kind logic) a f s }
     {
         Two::Sequence(Sequence::new(Order::Logical(logic)))
     }
@@ -45,7 +45,7 @@ impl Two {
     /// The second part for each value of the first as `it`, with the head at this place.
     pub fn each(head: Place) -> Two
         ensures kind { two_kind result ≡ each_kind head }
-        ensures left { (a : Trace) (b f : Around → Trace) (s : Around) → two_left result a b f s ≡ two_whole (each_kind head) a f s }
+        ensures rest { (a : Trace) (b f : Around → Trace) (s : Around) → two_left result a b f s ≡ two_whole (each_kind head) a f s }
     {
         Two::Handing(Handing::new(Hand::Each { head }))
     }
@@ -53,7 +53,7 @@ impl Two {
     /// The values of the first part that the second keeps, which sees each as `it`. The head is at this place.
     pub fn sift(head: Place) -> Two
         ensures kind { two_kind result ≡ sift_kind head }
-        ensures left { (a : Trace) (b f : Around → Trace) (s : Around) → two_left result a b f s ≡ two_whole (sift_kind head) a f s }
+        ensures rest { (a : Trace) (b f : Around → Trace) (s : Around) → two_left result a b f s ≡ two_whole (sift_kind head) a f s }
     {
         Two::Filter(Filter::new(head))
     }
@@ -61,7 +61,7 @@ impl Two {
     /// The second part with the value of the first as argument.
     pub fn argument() -> Two
         ensures kind { two_kind result ≡ argument_kind }
-        ensures left { (a : Trace) (b f : Around → Trace) (s : Around) → two_left result a b f s ≡ two_whole (argument_kind) a f s }
+        ensures rest { (a : Trace) (b f : Around → Trace) (s : Around) → two_left result a b f s ≡ two_whole (argument_kind) a f s }
     {
         Two::Handing(Handing::new(Hand::Argument))
     }
@@ -69,7 +69,7 @@ impl Two {
     /// The second part with the value of the first to its left.
     pub fn left() -> Two
         ensures kind { two_kind result ≡ left_kind }
-        ensures left { (a : Trace) (b f : Around → Trace) (s : Around) → two_left result a b f s ≡ two_whole (left_kind) a f s }
+        ensures rest { (a : Trace) (b f : Around → Trace) (s : Around) → two_left result a b f s ≡ two_whole (left_kind) a f s }
     {
         Two::Handing(Handing::new(Hand::Left))
     }
@@ -77,7 +77,7 @@ impl Two {
     /// A turn at the first part's span, and then the second part with the value of the first to its left.
     pub fn turned(span: Place) -> Two
         ensures kind { two_kind result ≡ turned_kind span }
-        ensures left { (a : Trace) (b f : Around → Trace) (s : Around) → two_left result a b f s ≡ two_whole (turned_kind span) a f s }
+        ensures rest { (a : Trace) (b f : Around → Trace) (s : Around) → two_left result a b f s ≡ two_whole (turned_kind span) a f s }
     {
         Two::Handing(Handing::new(Hand::Turned { span }))
     }
@@ -96,7 +96,7 @@ impl Two {
     /// Begins anew. The first part does so too, and the second where `Next::begins` says so.
     pub fn reset(&mut self)
         ensures kind { two_kind self.new ≡ two_kind self.old }
-        ensures left { (a : Trace) (b f : Around → Trace) (s : Around) → two_left self.new a b f s ≡ two_whole (two_kind self.old) a f s }
+        ensures rest { (a : Trace) (b f : Around → Trace) (s : Around) → two_left self.new a b f s ≡ two_whole (two_kind self.old) a f s }
     {
         match self {
             Two::Sequence(sequence) => sequence.reset(),
@@ -158,7 +158,7 @@ impl Two {
     pub fn release(&mut self)
         ensures kind { two_kind self.new ≡ two_kind self.old }
         ensures given_up { on_second self.new ≡ (waits_for_end (two_kind self.old) && on_second self.old) }
-        ensures left { (a : Trace) (b f : Around → Trace) (s : Around) → b (second_around self.old s) ≡ none → two_left self.new a b f s ≡ two_left self.old a b f s }
+        ensures rest { (a : Trace) (b f : Around → Trace) (s : Around) → b (second_around self.old s) ≡ none → two_left self.new a b f s ≡ two_left self.old a b f s }
         ensures falls { (q r c : ℕ) → two_quiet self.new q r c ≤ two_quiet self.old q r c }
     {
         match self {

@@ -7,4 +7,4 @@ use Rattle.rel_eval.proofs.cursor.into_pulled.Goals as goal
 
 pub returns-in-Failed-clause-meets : goal.returns-in-Failed-clause-meets
 returns-in-Failed-clause-meets c = λ t u looks h.
-    failed_meets c.args.left t u looks c.in-Failed.place (subst (λ (x : Step). AsRoom (has_room c.args.left) x) c.in-Failed.is c.requires.room) (subst (λ (x : Step). Goes [] t x looks u) c.in-Failed.is h)
+    failed_meets c.args.budget t u looks c.in-Failed.place (subst (λ (x : Step). AsRoom (has_room c.args.budget) x) c.in-Failed.is c.requires.room) (subst (λ (x : Step). Goes [] t x looks u) c.in-Failed.is h)

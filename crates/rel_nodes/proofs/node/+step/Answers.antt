@@ -45,7 +45,7 @@ pub step_one-returns-then-not-pass_over : goal.step_one-returns-then-not-pass_ov
 step_one-returns-then-not-pass_over g t c =
     let i = c.loop-alloc.invariant in
     let e = c.go_on_one-step.ensures in
-    let same = c.pass_over.ensures.left c.if-not-pass_over.true in
+    let same = c.pass_over.ensures.budget c.if-not-pass_over.true in
     record {
       stop = c.pass_over.ensures.stop c.if-not-pass_over.true;
       part = e.part ∙ i.0;
@@ -95,7 +95,7 @@ pub step_two-returns-then-not-pass_over : goal.step_two-returns-then-not-pass_ov
 step_two-returns-then-not-pass_over g t c =
     let i = c.loop-alloc.invariant in
     let e = c.go_on_two-step.ensures in
-    let same = c.pass_over.ensures.left c.if-not-pass_over.true in
+    let same = c.pass_over.ensures.budget c.if-not-pass_over.true in
     record {
       stop = c.pass_over.ensures.stop c.if-not-pass_over.true;
       first = e.first ∙ i.0;
@@ -146,7 +146,7 @@ pub step_choice-returns-then-not-pass_over : goal.step_choice-returns-then-not-p
 step_choice-returns-then-not-pass_over g t c =
     let i = c.loop-alloc.invariant in
     let e = c.go_on_choice-step.ensures in
-    let same = c.pass_over.ensures.left c.if-not-pass_over.true in
+    let same = c.pass_over.ensures.budget c.if-not-pass_over.true in
     record {
       stop = c.pass_over.ensures.stop c.if-not-pass_over.true;
       test = e.test ∙ i.0;
@@ -217,7 +217,7 @@ go_on_two-returns-then-on_second-clause-goes g t c =
     λ w h.
     let left = rest w c.args.scene.now c.args.first.now (seen c.args.scope.now) in
     let whole = core w c.args.scene.now (shape c.step-step.new.self) in
-    let same = c.release.ensures.left w c.args.scene.now left whole (seen c.args.scope.now) in
+    let same = c.release.ensures.rest w c.args.scene.now left whole (seen c.args.scope.now) in
     rw same (second_advances w c.args.scene.now c.args.state.now c.after_second-step.new.self c.args.first.now c.args.second.now c.step-step.new.self (seen c.args.scope.now) (seen c.second_scope-inner.result) _ _ _ _ c.step-step.result c.after_second-step.result (sym c.on_second.ensures ∙ c.if-on_second.true) c.after_second-step.ensures.goes c.second_scope-inner.ensures c.step-step.ensures.shape (c.step-step.ensures.goes w h))
 
 pub go_on_two-returns-then-on_second-clause-cause : goal.go_on_two-returns-then-on_second-clause-cause

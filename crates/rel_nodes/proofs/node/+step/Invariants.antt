@@ -19,15 +19,15 @@ invariant-step_one-loop-alloc g l =
     × (one_kind l.state ≡ one_kind l.fn.state)
     × (g.M.Machine.world l.machine ≡ g.M.Machine.world l.fn.machine)
     × (g.M.Machine.faults l.fn.machine ≤ g.M.Machine.faults l.machine)
-    × ((w : WorldState) → g.M.Machine.world l.fn.machine ≡ Some w → Advances (g.M.Machine.looked l.fn.machine) l.fn.left (one_left l.fn.state (seen l.scope) l.scene.offset (rest w l.scene l.fn.part (seen l.scope))) Quiet (g.M.Machine.looked l.machine) l.left (one_left l.state (seen l.scope) l.scene.offset (rest w l.scene l.part (seen l.scope))))
-    × (l.left ≤ l.fn.left)
-    × (l.left ≡ l.fn.left → one_quiet l.state (quiet l.part) ≤ one_quiet l.fn.state (quiet l.fn.part))
+    × ((w : WorldState) → g.M.Machine.world l.fn.machine ≡ Some w → Advances (g.M.Machine.looked l.fn.machine) l.fn.budget (one_left l.fn.state (seen l.scope) l.scene.offset (rest w l.scene l.fn.part (seen l.scope))) Quiet (g.M.Machine.looked l.machine) l.budget (one_left l.state (seen l.scope) l.scene.offset (rest w l.scene l.part (seen l.scope))))
+    × (l.budget ≤ l.fn.budget)
+    × (l.budget ≡ l.fn.budget → one_quiet l.state (quiet l.part) ≤ one_quiet l.fn.state (quiet l.fn.part))
     × (g.M.Machine.acted l.machine ≡ g.M.Machine.acted l.fn.machine)
     × (g.M.Machine.started l.machine ≡ g.M.Machine.started l.fn.machine)
     × (g.M.Machine.polled l.machine ≡ g.M.Machine.polled l.fn.machine)
 
 abbrev pub decreases-step_one-loop-alloc : goal.decreases-step_one-loop-alloc
-decreases-step_one-loop-alloc g l = l.left * (cap (shape l.part) + 1 + 1) + one_quiet l.state (quiet l.part)
+decreases-step_one-loop-alloc g l = l.budget * (cap (shape l.part) + 1 + 1) + one_quiet l.state (quiet l.part)
 
 abbrev pub invariant-step_two-loop-alloc : goal.invariant-step_two-loop-alloc
 invariant-step_two-loop-alloc g l =
@@ -36,15 +36,15 @@ invariant-step_two-loop-alloc g l =
     × (two_kind l.state ≡ two_kind l.fn.state)
     × (g.M.Machine.world l.machine ≡ g.M.Machine.world l.fn.machine)
     × (g.M.Machine.faults l.fn.machine ≤ g.M.Machine.faults l.machine)
-    × ((w : WorldState) → g.M.Machine.world l.fn.machine ≡ Some w → Advances (g.M.Machine.looked l.fn.machine) l.fn.left (two_left l.fn.state (rest w l.scene l.fn.first (seen l.scope)) (rest w l.scene l.fn.second) (core w l.scene (shape l.fn.second)) (seen l.scope)) Quiet (g.M.Machine.looked l.machine) l.left (two_left l.state (rest w l.scene l.first (seen l.scope)) (rest w l.scene l.second) (core w l.scene (shape l.second)) (seen l.scope)))
-    × (l.left ≤ l.fn.left)
-    × (l.left ≡ l.fn.left → two_quiet l.state (quiet l.first) (quiet l.second) (cap (shape l.second)) ≤ two_quiet l.fn.state (quiet l.fn.first) (quiet l.fn.second) (cap (shape l.fn.second)))
+    × ((w : WorldState) → g.M.Machine.world l.fn.machine ≡ Some w → Advances (g.M.Machine.looked l.fn.machine) l.fn.budget (two_left l.fn.state (rest w l.scene l.fn.first (seen l.scope)) (rest w l.scene l.fn.second) (core w l.scene (shape l.fn.second)) (seen l.scope)) Quiet (g.M.Machine.looked l.machine) l.budget (two_left l.state (rest w l.scene l.first (seen l.scope)) (rest w l.scene l.second) (core w l.scene (shape l.second)) (seen l.scope)))
+    × (l.budget ≤ l.fn.budget)
+    × (l.budget ≡ l.fn.budget → two_quiet l.state (quiet l.first) (quiet l.second) (cap (shape l.second)) ≤ two_quiet l.fn.state (quiet l.fn.first) (quiet l.fn.second) (cap (shape l.fn.second)))
     × (g.M.Machine.acted l.machine ≡ g.M.Machine.acted l.fn.machine)
     × (g.M.Machine.started l.machine ≡ g.M.Machine.started l.fn.machine)
     × (g.M.Machine.polled l.machine ≡ g.M.Machine.polled l.fn.machine)
 
 abbrev pub decreases-step_two-loop-alloc : goal.decreases-step_two-loop-alloc
-decreases-step_two-loop-alloc g l = l.left * (two_cap (two_kind l.state) (cap (shape l.first)) (cap (shape l.second)) + 1) + two_quiet l.state (quiet l.first) (quiet l.second) (cap (shape l.second))
+decreases-step_two-loop-alloc g l = l.budget * (two_cap (two_kind l.state) (cap (shape l.first)) (cap (shape l.second)) + 1) + two_quiet l.state (quiet l.first) (quiet l.second) (cap (shape l.second))
 
 abbrev pub invariant-step_choice-loop-alloc : goal.invariant-step_choice-loop-alloc
 invariant-step_choice-loop-alloc g l =
@@ -53,15 +53,15 @@ invariant-step_choice-loop-alloc g l =
     × (shape l.no ≡ shape l.fn.no)
     × (g.M.Machine.world l.machine ≡ g.M.Machine.world l.fn.machine)
     × (g.M.Machine.faults l.fn.machine ≤ g.M.Machine.faults l.machine)
-    × ((w : WorldState) → g.M.Machine.world l.fn.machine ≡ Some w → Advances (g.M.Machine.looked l.fn.machine) l.fn.left (choice_left l.fn.state (rest w l.scene l.fn.test (seen l.scope)) (rest w l.scene l.fn.yes) (rest w l.scene l.fn.no) (core w l.scene (shape l.fn.yes)) (core w l.scene (shape l.fn.no)) (seen l.scope)) Quiet (g.M.Machine.looked l.machine) l.left (choice_left l.state (rest w l.scene l.test (seen l.scope)) (rest w l.scene l.yes) (rest w l.scene l.no) (core w l.scene (shape l.yes)) (core w l.scene (shape l.no)) (seen l.scope)))
-    × (l.left ≤ l.fn.left)
-    × (l.left ≡ l.fn.left → choice_quiet l.state (quiet l.test) (quiet l.yes) (quiet l.no) (cap (shape l.yes)) (cap (shape l.no)) ≤ choice_quiet l.fn.state (quiet l.fn.test) (quiet l.fn.yes) (quiet l.fn.no) (cap (shape l.fn.yes)) (cap (shape l.fn.no)))
+    × ((w : WorldState) → g.M.Machine.world l.fn.machine ≡ Some w → Advances (g.M.Machine.looked l.fn.machine) l.fn.budget (choice_left l.fn.state (rest w l.scene l.fn.test (seen l.scope)) (rest w l.scene l.fn.yes) (rest w l.scene l.fn.no) (core w l.scene (shape l.fn.yes)) (core w l.scene (shape l.fn.no)) (seen l.scope)) Quiet (g.M.Machine.looked l.machine) l.budget (choice_left l.state (rest w l.scene l.test (seen l.scope)) (rest w l.scene l.yes) (rest w l.scene l.no) (core w l.scene (shape l.yes)) (core w l.scene (shape l.no)) (seen l.scope)))
+    × (l.budget ≤ l.fn.budget)
+    × (l.budget ≡ l.fn.budget → choice_quiet l.state (quiet l.test) (quiet l.yes) (quiet l.no) (cap (shape l.yes)) (cap (shape l.no)) ≤ choice_quiet l.fn.state (quiet l.fn.test) (quiet l.fn.yes) (quiet l.fn.no) (cap (shape l.fn.yes)) (cap (shape l.fn.no)))
     × (g.M.Machine.acted l.machine ≡ g.M.Machine.acted l.fn.machine)
     × (g.M.Machine.started l.machine ≡ g.M.Machine.started l.fn.machine)
     × (g.M.Machine.polled l.machine ≡ g.M.Machine.polled l.fn.machine)
 
 abbrev pub decreases-step_choice-loop-alloc : goal.decreases-step_choice-loop-alloc
-decreases-step_choice-loop-alloc g l = l.left * (choice_cap (cap (shape l.test)) (cap (shape l.yes)) (cap (shape l.no)) + 1) + choice_quiet l.state (quiet l.test) (quiet l.yes) (quiet l.no) (cap (shape l.yes)) (cap (shape l.no))
+decreases-step_choice-loop-alloc g l = l.budget * (choice_cap (cap (shape l.test)) (cap (shape l.yes)) (cap (shape l.no)) + 1) + choice_quiet l.state (quiet l.test) (quiet l.yes) (quiet l.no) (cap (shape l.yes)) (cap (shape l.no))
 
 abbrev pub decreases-Node::step : goal.decreases-Node::step
 decreases-Node::step g l = 3 * levels (shape l.self.now)

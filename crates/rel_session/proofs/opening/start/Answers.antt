@@ -14,7 +14,7 @@ returns c =
     let offset : SFits w64 c.args.asked.asking.offset = search rules in
     let plan = plan_of c.args.question.now in
     record {
-      left = λ w. c.in_ok-cursor.ensures.rest w
+      rest = λ w. c.in_ok-cursor.ensures.rest w
           ∙ ap (λ z. meaning w (record { moment = z; offset = to_z w64 (of_z w64 asked.asking.offset); parameters = c.new.result; exit = None }) plan) (to_z-of_z w64 asked.moment moment)
           ∙ ap (λ z. meaning w (record { moment = asked.moment; offset = z; parameters = c.new.result; exit = None }) plan) (to_z-of_z w64 asked.asking.offset offset)
           ∙ ap (λ l. meaning w (record { moment = asked.moment; offset = asked.asking.offset; parameters = l; exit = None }) plan) c.new.ensures;

@@ -26,7 +26,7 @@ loop-alloc-preserved g c =
       omega (arith, e.later, i.2),
       λ w h. advance_then _ _ _ _ _ _ _ _ _ Quiet (i.3 w h) (advance_over _ _ _ _ _ _ _ c.go_on-step.result on (went_once _ _ _ _ _ c.go_on-step.result (e.goes w (i.1 ∙ h)))),
       omega (arith, less, i.4),
-      λ q. omega (arith, over_falls c.go_on-step.result c.loop-alloc.left c.loop-alloc.left c.pass_over.new.left _ _ (omega arith) on (λ z. e.falls) (omega (arith, q, less, i.4)), i.5 (omega (arith, q, less, i.4))),
+      λ q. omega (arith, over_falls c.go_on-step.result c.loop-alloc.budget c.loop-alloc.budget c.pass_over.new.budget _ _ (omega arith) on (λ z. e.falls) (omega (arith, q, less, i.4)), i.5 (omega (arith, q, less, i.4))),
       e.acted ∙ i.6,
       e.started ∙ i.7,
       e.polled ∙ i.8,
@@ -36,7 +36,7 @@ pub returns-then-not-pass_over : goal.returns-then-not-pass_over
 returns-then-not-pass_over g c =
     let i = c.loop-alloc.invariant in
     let e = c.go_on-step.ensures in
-    let same = c.pass_over.ensures.left c.if-not-pass_over.true in
+    let same = c.pass_over.ensures.budget c.if-not-pass_over.true in
     record {
       stop = c.pass_over.ensures.stop c.if-not-pass_over.true;
       row = e.row ∙ i.0;
