@@ -1,7 +1,7 @@
 //! A run of lines over a described machine and a stepping clock, worked out by hand, and what is said of errors.
 use bf_machine::{Key, PlainMachine, World, read_world};
 use desk_base::{Bytes, MemorySink, StepClock};
-use rel_eval::RelKind;
+use rel_eval::{RelKind, prepare, write_place};
 use rel_lexer::{Place, Text};
 use rel_session::{Asking, Halt, answer_lines, put, say_error, say_undefined};
 use std::alloc::{AllocError, Global};
@@ -113,5 +113,20 @@ fn errors_are_said(rt: HostRuntime) -> Result<(), AllocError> {
     let wanted: &[u8] =
         b"E: Division by zero. (4..11)\nE: The operator \"printers\" is not defined. (4..11)\n";
     assert_eq!(rt; sink.as_slice(), wanted);
+    Ok(())
+}
+
+#[test]
+fn a_refusal_is_located_and_its_place_is_written(rt: HostRuntime) -> Result<(), AllocError> {
+    let found = match prepare(rt.alloc(), b"1 + printers") {
+        Ok(_) => None,
+        Err(refusal) => refusal.located(),
+    };
+    let mut out = Bytes::from_slice(rt.alloc(), b"at ")?;
+    if let Some(found) = found {
+        assert!(rt; found.kind == RelKind::NotDefined);
+        write_place(rt.alloc(), found.place, &mut out)?;
+    }
+    assert_eq!(rt; out.as_slice(), b"at (4..12)".as_slice());
     Ok(())
 }
