@@ -1,4 +1,4 @@
--- What is answered to a text that is read as a saved one, and the laws of such texts.
+-- What is answered to a text that is read as a saved one, and the laws of such texts. Other crates may cite these lemmas.
 use Rattle.std.proofs.Common.{ℕ, ◌≡◌, ◌≢◌, List, [], ◌++◌, length, take, true, false, map, arith, refl, sym, ap, subst, ◌∙◌, All, Ok, Err, ◌⊎◌, inl, inr, append-nil}
 use Rattle.std.specs.declared.result.Result.{Result}
 use Rattle.std.proofs.lemmas.List.{length-map, take_at}

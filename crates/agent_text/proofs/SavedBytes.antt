@@ -1,4 +1,4 @@
--- The bytes of a saved text: no LF stands in a line, and there are not too many.
+-- The bytes of a saved text: no LF stands in a line, and there are not too many. Other crates may cite these lemmas.
 use Rattle.std.proofs.Common.{ℕ, ◌≡◌, ◌≢◌, ◌+◌, ◌*◌, ◌≤◌, ◌==◌, ℤ, pos, negsuc, List, [], ◌∷◌, ◌++◌, length, true, refl, ap, sym, ◌∙◌, arith, All, Option, Some, None, inl, inr, map, append_assoc, length-append, subst}
 use Rattle.std.specs.List.{list_all}
 use Rattle.std.specs.Prelude.{codes, decimal, not, flat_map, sum_by, IfSome}

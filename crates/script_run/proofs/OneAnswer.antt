@@ -1,4 +1,4 @@
--- Where no look fails and memory lasts, a text has one answer in a world.
+-- Where no look fails and memory lasts, a text has one answer in a world. Other crates may cite these lemmas.
 use Rattle.std.proofs.Common.{◌≡◌, ◌≢◌, ℕ, Bool, true, false, List, [], ◌∷◌, Option, Some, refl, sym, ap, subst, ◌∙◌, inl, inr, arith}
 use Rattle.bf_world.specs.declared.key.Key.{Key}
 use Rattle.bf_world.specs.Worlds.{WorldState}
