@@ -151,11 +151,12 @@ abbrev pub Through : When → PlainAttempt → List Part → Goes
 Through at a [] = Ends
 Through at a (part ∷ left) = FromComing at a part left (Through at a left)
 
--- the component at hand goes on from its stage
+-- The component at hand goes on from its stage. A script that wants a file waits for it.
 abbrev pub FromStage : When → PlainAttempt → Part → List Part → PlainStage → Goes
 FromStage at a part left coming = FromComing at a part left (Through at a left)
 FromStage at a part left starting = FromStarting at a part left (Through at a left)
-FromStage at a part left (running walk wanted) = FromRunning at a part left walk (Through at a left)
+FromStage at a part left (running walk None) = FromRunning at a part left walk (Through at a left)
+FromStage at a part left (running walk (Some digest)) = Stays a (part ∷ left) (running walk (Some digest)) (went.Wants digest)
 FromStage at a part left (judging exit) = FromJudging at a part left exit (Through at a left)
 
 -- the components that are left go on; without any the attempt has ended

@@ -7,7 +7,7 @@ use Rattle.script_text.specs.Scripts.{PlainScript}
 use Rattle.script_run.specs.declared.ran.Ran.{Ran}
 use Rattle.script_run.specs.declared.ran.Ran.TheVariants as ran
 use Rattle.script_run.specs.declared.run.Run.{Run}
-use Rattle.script_run.specs.Walks.{Settled, faults_in, is_midway}
+use Rattle.script_run.specs.Walks.{Settled, Walk, faults_in, is_midway}
 use Rattle.script_run.specs.ScriptWalks.{after, commands_in}
 use Rattle.script_run.specs.Machines.{MachineView}
 use Rattle.script_run.specs.Asking.{When}
@@ -32,3 +32,9 @@ pub record GoesOn (at : When) (script : PlainScript) (given : List Pair) (settle
 abbrev pub wanted_by : Ran → Option (List ℕ)
 wanted_by (ran.Wants line digest) = Some digest
 wanted_by _ = None
+
+-- A run that wants a file wants it again, and nothing else changes.
+pub record WantsAgain (digest : List ℕ) (old : MachineView) (rest : Walk) (answer : Ran) (new : MachineView) (left : Walk) : Type 0 where
+  pub answer : wanted_by answer ≡ Some digest
+  pub machine : new ≡ old
+  pub same : left ≡ rest

@@ -1,5 +1,5 @@
 // Going on with a script.
-ghost use Rattle.std.specs.Prelude.{◌≡◌, ◌≤◌, List, Some};
+ghost use Rattle.std.specs.Prelude.{◌≡◌, ◌≤◌, ℕ, List, Some};
 ghost use Rattle.desk_base.specs.Moments.{IsMoment};
 ghost use Rattle.line_forms.specs.Numbers.{IsOffset};
 ghost use Rattle.rel_sources.specs.declared.pair.Pair.{Pair};
@@ -9,7 +9,7 @@ ghost use Rattle.script_run.specs.Machines.{view};
 ghost use Rattle.script_run.specs.Asking.{when_of};
 ghost use Rattle.script_run.specs.RunPlaces.{MemoryLeaves, Stands, WaitsBelow, from, wanted_at};
 ghost use Rattle.script_run.specs.Weights.{run_weight};
-ghost use Rattle.script_run.specs.Advances.{GoesOn, wanted_by};
+ghost use Rattle.script_run.specs.Advances.{GoesOn, WantsAgain, wanted_by};
 ghost use Rattle.script_run.specs.Fills.{StepsTo, Falls, Rests};
 
 use crate::place::Place;
@@ -39,9 +39,12 @@ impl Run {
             (view (M.world machine.new) (M.looked machine.new) (M.acted machine.new) (M.polled machine.new) (M.faults machine.new)) self.new }
         ensures waits { WaitsBelow (M.started machine.new) self.new.place }
         ensures started { M.started machine.old ≤ M.started machine.new }
-        // What is wanted is what was answered, and memory runs out before a line of which nothing is done.
+        // What is wanted is what was answered, until it is supplied, and memory runs out before a line of which nothing is done.
         ensures wanted { wanted_at self.new.place ≡ wanted_by result }
         ensures memory { MemoryLeaves result self.new.place }
+        ensures again { (digest : List ℕ) → wanted_at self.old.place ≡ Some digest → WantsAgain digest
+            (view (M.world machine.old) (M.looked machine.old) (M.acted machine.old) (M.polled machine.old) (M.faults machine.old)) (from self.old) result
+            (view (M.world machine.new) (M.looked machine.new) (M.acted machine.new) (M.polled machine.new) (M.faults machine.new)) (from self.new) }
         ensures later { M.faults machine.old ≤ M.faults machine.new }
     {
         self.kept.set_time(moment, offset);
