@@ -3,4 +3,5 @@ pub mod Rises
 pub mod Looks
 pub mod Acts
 pub mod Polls
+pub mod Numbers
 pub mod Plain

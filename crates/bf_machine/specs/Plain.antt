@@ -1,6 +1,5 @@
 -- The machine over a described world, as contracts see it, and what a call does to it beyond what its trait says.
-use Rattle.std.specs.Prelude.{◌≡◌, ℕ, ◌+◌, List, [], length, None, Some}
-use Rattle.std.specs.declared.option.Option.{Option}
+use Rattle.std.specs.Prelude.{◌≡◌, ℕ, ◌+◌, List, [], length, Some}
 use Rattle.std.proofs.Common.{ap}
 use Rattle.desk_base.specs.CallStates.{CallState, IsListed, no_calls}
 use Rattle.desk_base.specs.MemoryStates.{Succeeds, Fails}
@@ -14,11 +13,12 @@ use Rattle.bf_world.specs.Worlds.{WorldState}
 use Rattle.bf_machine.specs.declared.machine.Looked.{Looked}
 use Rattle.bf_machine.specs.declared.machine.Looked.TheVariants as looked
 
--- the world, the keys looked up and the commands done, and the calls of each sort
+-- the world, the keys looked up, the commands done and the numbers polled, and the calls of each sort
 pub record PlainState : Type 0 where
   pub world : WorldState
   pub looked : List Key
   pub acted : List Command
+  pub polled : List ℕ
   pub looks : CallState
   pub acts : CallState
   pub polls : CallState
@@ -29,14 +29,11 @@ unasked world looks acts polls = record {
   world = world;
   looked = [];
   acted = [];
+  polled = [];
   looks = no_calls looks;
   acts = no_calls acts;
   polls = no_calls polls;
 }
-
--- It tells no polls: a poll takes no memory, and so keeps nothing.
-abbrev pub untold : Option (List ℕ)
-untold = None
 
 -- how many calls have failed
 abbrev pub faults_of : PlainState → ℕ

@@ -3,7 +3,9 @@
 #![tactic(auto)]
 
 mod machine;
+mod number_chain;
 mod plain;
+mod polled_numbers;
 
 pub use bf_world::{
     Acted, Answer, Command, Entry, EntryList, Key, NameList, PackageList, PackageRow, Polled,

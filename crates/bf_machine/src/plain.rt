@@ -8,8 +8,9 @@ ghost use Rattle.bf_machine.specs.Told.{Told, Grows};
 ghost use Rattle.bf_machine.specs.Looks.{Shows, keys_added, IsGood, Ascends};
 ghost use Rattle.bf_machine.specs.Acts.{Acts, commands_added, CountsStarted};
 ghost use Rattle.bf_machine.specs.Polls.{Polls, numbers_added};
-ghost use Rattle.bf_machine.specs.Plain.{unasked, untold, counted, faults_of, LooksPlain, ActsPlain, PollsPlain};
+ghost use Rattle.bf_machine.specs.Plain.{unasked, counted, faults_of, LooksPlain, ActsPlain, PollsPlain};
 
+use crate::polled_numbers::PolledNumbers;
 use crate::{Looked, Machine};
 use bf_world::{Acted, Answer, Command, Key, Polled, ProcessNo, World};
 use desk_base::Calls;
@@ -17,12 +18,13 @@ use rel_lexer::Text;
 use std::alloc::{AllocError, Global};
 use std::marker::Model;
 
-/// The machine over a described world. It keeps what was looked up and done.
+/// The machine over a described world. It keeps what was looked up and done, and tells what was polled.
 #[derive(Drop)]
 pub struct PlainMachine {
     world: World,
     looked: Vec<Key>,
     acted: Vec<Command>,
+    polled: PolledNumbers,
     looks: Calls,
     acts: Calls,
     polls: Calls,
@@ -37,6 +39,7 @@ impl Model for PlainMachine {
       world = m.world;
       looked = m.looked.items;
       acted = m.acted.items;
+      polled = m.polled;
       looks = m.looks;
       acts = m.acts;
       polls = m.polls;
@@ -58,6 +61,7 @@ impl PlainMachine {
             world,
             looked: Vec::new(alloc),
             acted: Vec::new(alloc),
+            polled: PolledNumbers::new(),
             looks: Calls::new(alloc, looks),
             acts: Calls::new(alloc, acts),
             polls: Calls::new(alloc, polls),
@@ -135,7 +139,7 @@ impl Machine for PlainMachine {
 
     ghost acted = { λ m. Some m.acted };
 
-    ghost polled = { λ _. untold };
+    ghost polled = { λ m. Some m.polled };
 
     ghost started = { λ m. length m.world.started };
 
@@ -145,7 +149,7 @@ impl Machine for PlainMachine {
         ensures world { Some self.new.world ≡ Some self.old.world }
         ensures looked { Some self.new.looked ≡ Some self.old.looked }
         ensures acted { Some self.new.acted ≡ Some self.old.acted }
-        ensures polled { untold ≡ untold }
+        ensures polled { Some self.new.polled ≡ Some self.old.polled }
         ensures started { length self.new.world.started ≡ length self.old.world.started }
         ensures steady { faults_of self.new ≡ faults_of self.old }
         ensures plain { self.new ≡ self.old }
@@ -160,7 +164,7 @@ impl Machine for PlainMachine {
         ensures world { Some self.new.world ≡ Some self.old.world }
         ensures looked { Grows (Some self.old.looked) (Some self.new.looked) (keys_added key.now result) }
         ensures acted { Some self.new.acted ≡ Some self.old.acted }
-        ensures polled { untold ≡ untold }
+        ensures polled { Some self.new.polled ≡ Some self.old.polled }
         ensures started { length self.new.world.started ≡ length self.old.world.started }
         ensures later { faults_of self.old ≤ faults_of self.new }
         ensures failed { result ≡ Looked.Failed → Rose (faults_of self.old) (faults_of self.new) }
@@ -186,7 +190,7 @@ impl Machine for PlainMachine {
         ensures fits { FitsCommand command.now result }
         ensures looked { Some self.new.looked ≡ Some self.old.looked }
         ensures acted { Grows (Some self.old.acted) (Some self.new.acted) (commands_added command.now result) }
-        ensures polled { untold ≡ untold }
+        ensures polled { Some self.new.polled ≡ Some self.old.polled }
         ensures started { CountsStarted (length self.old.world.started) (length self.new.world.started) result }
         ensures by_start { StartsByStart command.now (length self.old.world.started) (length self.new.world.started) }
         ensures later { faults_of self.old ≤ faults_of self.new }
@@ -207,7 +211,7 @@ impl Machine for PlainMachine {
         ensures polls { Told (Some self.old.world) (Some self.new.world) (λ old new. Polls old new process.0 result) }
         ensures looked { Some self.new.looked ≡ Some self.old.looked }
         ensures acted { Some self.new.acted ≡ Some self.old.acted }
-        ensures polled { Grows untold untold (numbers_added process.0 result) }
+        ensures polled { Grows (Some self.old.polled) (Some self.new.polled) (numbers_added process.0 result) }
         ensures started { length self.new.world.started ≡ length self.old.world.started }
         ensures later { faults_of self.old ≤ faults_of self.new }
         ensures failed { result ≡ Polled.Failed → Rose (faults_of self.old) (faults_of self.new) }
@@ -219,6 +223,7 @@ impl Machine for PlainMachine {
             self.polls.fault();
             return Polled::Failed;
         }
+        self.polled.push(process.0);
         self.world.poll(process.0)
     }
 
