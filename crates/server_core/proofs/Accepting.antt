@@ -25,14 +25,14 @@ use Rattle.desk_keep.specs.Tables.{AreRows}
 use Rattle.desk_keep.proofs.Following.{AreRows-nil}
 use Rattle.desk_keep.proofs.Putting.{AreRows-put_all, fits_found}
 use Rattle.server_core.specs.declared.limits.Limits.{Limits}
-use Rattle.server_core.specs.declared.reply.Reply.{Reply}
-use Rattle.server_core.specs.declared.reply.Reply.TheVariants.{Full}
-use Rattle.server_core.specs.declared.request.Request.{Request}
-use Rattle.server_core.specs.declared.request.Request.TheVariants as request
-use Rattle.server_core.specs.ActionStates.{is_stopped}
+use Rattle.server_text.specs.declared.reply.Reply.{Reply}
+use Rattle.server_text.specs.declared.reply.Reply.TheVariants.{Full}
+use Rattle.server_text.specs.declared.request.Request.{Request}
+use Rattle.server_text.specs.declared.request.Request.TheVariants as request
+use Rattle.server_text.specs.ActionStates.{is_stopped}
 use Rattle.server_core.specs.CallAnswers.{AreAccepted}
-use Rattle.server_core.specs.Entries.{Asked, Bad, Enters, Entry, FileBytes, Filed, Issued, Published, Reported, Results, SiteText, Stopped, Versions}
-use Rattle.server_core.specs.RequestTexts.{Asks, ReadsIssued, ReadsPublished, ReadsReported, asked_of}
+use Rattle.server_text.specs.Entries.{Asked, Bad, Enters, Entry, FileBytes, Filed, Issued, Published, Reported, Results, SiteText, Stopped, Versions}
+use Rattle.server_text.specs.RequestTexts.{Asks, ReadsIssued, ReadsPublished, ReadsReported, asked_of}
 use Rattle.server_core.specs.Replies.{first_of, full_of_actions, full_version, reply_to, reply_to_action, reply_to_stop}
 use Rattle.server_core.specs.AcceptedTables.{action_at, actions_version, has_later, next_version_row, puts, result_of, stopped_row, view}
 

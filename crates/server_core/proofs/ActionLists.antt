@@ -24,10 +24,11 @@ use Rattle.desk_keep.specs.Tables.{put, put_all, row_at}
 use Rattle.desk_keep.proofs.KeyOrder.{same_exact, same_itself}
 use Rattle.desk_keep.proofs.Putting.{AreAbove, none_at}
 use Rattle.server_core.specs.CallAnswers.{AreAccepted}
-use Rattle.server_core.specs.Entries.{Entry, Filed, Issued, Published, Reported, Stopped}
-use Rattle.server_core.specs.AcceptedTables.{action_at, action_texts, has_later, next_version_row, puts, result_of, stopped_row, view}
+use Rattle.server_text.specs.Entries.{Entry, Filed, Issued, Published, Reported, Stopped}
+use Rattle.server_text.specs.ToldRows.{action_texts}
+use Rattle.server_core.specs.AcceptedTables.{action_at, has_later, next_version_row, puts, result_of, stopped_row, view}
 use Rattle.server_core.proofs.Accepting.{IsEntry, entry_of}
-use Rattle.server_core.proofs.ActionTexts.{is_action, stops_text}
+use Rattle.server_text.proofs.ActionTexts.{is_action, stops_text}
 use Rattle.server_core.proofs.KeptActions.{Shown, kept, key_for, stands}
 use Rattle.server_core.proofs.RowsAfter.{cons_head, cons_tail, in_cons, in_nothing}
 use Rattle.server_core.proofs.Staying.{member_is}

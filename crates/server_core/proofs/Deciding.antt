@@ -5,7 +5,7 @@ use Rattle.std.proofs.lemmas.List.Elements.{All-cons, All-nil}
 use Rattle.line_forms.specs.Numbers.{IsId}
 use Rattle.desk_keep.specs.Forms.{Fits}
 use Rattle.desk_keep.specs.Keys.{Key, key_of}
-use Rattle.server_core.specs.ActionStates.{is_stopped, stopped_text}
+use Rattle.server_text.specs.ActionStates.{is_stopped, stopped_text}
 use Rattle.server_core.proofs.Accepting.{actionsite_name, not_so}
 use Rattle.std.specs.declared.option.Option.{Option}
 use Rattle.std.proofs.lemmas.Bool.Decides.{nat_tests}
@@ -14,14 +14,15 @@ use Rattle.desk_keep.specs.declared.change.Change.TheVariants as change
 use Rattle.desk_keep.specs.declared.table.Table.TheVariants as table
 use Rattle.desk_keep.specs.Tables.{is_of, put_all, without_text}
 use Rattle.server_core.specs.declared.limits.Limits.{Limits}
-use Rattle.server_core.specs.declared.reply.Reply.{Reply}
-use Rattle.server_core.specs.declared.reply.Reply.TheVariants.{Again, Full, Same}
-use Rattle.server_core.specs.declared.reply.Reply.TheVariants as told
-use Rattle.server_core.specs.Actionsite.{actionsite_text, longest_actionsite}
-use Rattle.server_core.specs.Entries.{Entry, Stopped}
+use Rattle.server_text.specs.declared.reply.Reply.{Reply}
+use Rattle.server_text.specs.declared.reply.Reply.TheVariants.{Again, Full, Same}
+use Rattle.server_text.specs.declared.reply.Reply.TheVariants as told
+use Rattle.server_text.specs.Actionsite.{actionsite_text, longest_actionsite}
+use Rattle.server_text.specs.Entries.{Entry, Stopped}
 use Rattle.server_core.specs.ServerParts.{AnswersEntry}
 use Rattle.server_core.specs.Replies.{accepting_reply, first_of, full_of_actions, full_version, reply_to, reply_to_stop, site_reply}
-use Rattle.server_core.specs.AcceptedTables.{action_at, action_texts, actions_version, next_version_row, puts, site_version, site_at, stopped_row, version_row}
+use Rattle.server_text.specs.ToldRows.{action_texts, site_version}
+use Rattle.server_core.specs.AcceptedTables.{action_at, actions_version, next_version_row, puts, site_at, stopped_row, version_row}
 
 -- what isn't accepted leaves the rows
 pub declined : (limits : Limits) (rows : List Change) (entry : Entry) (reply : Reply) (new : Option (List Change)) → reply_to limits rows entry ≡ Some reply → new ≡ Some rows → AnswersEntry limits rows entry reply new

@@ -14,14 +14,14 @@ use Rattle.desk_keep.specs.declared.find.Find.TheVariants as find
 use Rattle.desk_keep.specs.Keys.{Key, asked_key, key_of, same_key}
 use Rattle.desk_keep.proofs.KeyOrder.{same_exact, same_itself}
 use Rattle.server_core.specs.declared.limits.Limits.{Limits}
-use Rattle.server_core.specs.ActionStates.{is_stopped, stopped_text}
+use Rattle.server_text.specs.ActionStates.{is_stopped, stopped_text}
 use Rattle.server_core.specs.CallAnswers.{AreAccepted}
-use Rattle.server_core.specs.Entries.{Entry, Filed, Issued, Published, Reported, Stopped}
+use Rattle.server_text.specs.Entries.{Entry, Filed, Issued, Published, Reported, Stopped}
 use Rattle.server_core.specs.Replies.{reply_to, reply_to_action, reply_to_stop}
 use Rattle.server_core.specs.AcceptedTables.{action_at, has_later, next_version_row, puts, result_of, stopped_row, view}
 use Rattle.server_core.specs.TableViews.{ShowsAction}
 use Rattle.server_core.proofs.Accepting.{IsEntry, entry_of, not_so}
-use Rattle.server_core.proofs.ActionTexts.{stops_text}
+use Rattle.server_text.proofs.ActionTexts.{stops_text}
 use Rattle.server_core.proofs.RowsAfter.{cons_head, cons_tail, in_cons, in_nothing, other_key, row_after, row_at-put_all}
 
 -- an action, stopped or not

@@ -13,7 +13,7 @@ use Rattle.desk_keep.specs.declared.find.Find.TheVariants as find
 use Rattle.desk_keep.specs.Keys.{Key, asked_key, key_of, same_key}
 use Rattle.desk_keep.specs.Tables.{put_all, row_at}
 use Rattle.desk_keep.proofs.KeyOrder.{same_exact}
-use Rattle.server_core.specs.Entries.{Entry, Filed, Issued, Published, Reported, Stopped}
+use Rattle.server_text.specs.Entries.{Entry, Filed, Issued, Published, Reported, Stopped}
 use Rattle.server_core.specs.AcceptedTables.{action_at, file_at, has_later, next_version_row, puts, result_of, stopped_row, view}
 use Rattle.server_core.specs.TableViews.{ShowsFile}
 use Rattle.server_core.proofs.RowsAfter.{cons_head, cons_tail, in_cons, in_nothing, other_key, row_after, row_at-put_all}

@@ -15,7 +15,7 @@ use Rattle.desk_keep.specs.Keys.{Key, asked_key, key_of, same_key}
 use Rattle.desk_keep.proofs.KeyOrder.{same_exact}
 use Rattle.server_core.specs.declared.limits.Limits.{Limits}
 use Rattle.server_core.specs.CallAnswers.{AreAccepted, is_accepted}
-use Rattle.server_core.specs.Entries.{Entry, Filed, Issued, Published, Reported, Stopped}
+use Rattle.server_text.specs.Entries.{Entry, Filed, Issued, Published, Reported, Stopped}
 use Rattle.server_core.specs.Replies.{reply_to_report}
 use Rattle.server_core.specs.AcceptedTables.{action_at, computer_at, has_later, next_version_row, puts, report_at, result_of, stopped_row, view}
 use Rattle.server_core.specs.TableViews.{IsReportOf, ShowsComputer, ShowsReport}

@@ -12,7 +12,7 @@ use Rattle.desk_keep.specs.declared.change.Change.TheVariants as change
 use Rattle.desk_keep.specs.declared.find.Find.TheVariants as find
 use Rattle.desk_keep.specs.Keys.{Key, asked_key, key_of, same_key}
 use Rattle.desk_keep.proofs.KeyOrder.{same_exact}
-use Rattle.server_core.specs.Entries.{Entry, Filed, Issued, Published, Reported, Stopped}
+use Rattle.server_text.specs.Entries.{Entry, Filed, Issued, Published, Reported, Stopped}
 use Rattle.server_core.specs.AcceptedTables.{action_at, has_later, is_later, next_version_row, puts, result_at, result_of, stopped_row, view}
 use Rattle.server_core.specs.TableViews.{IsReportOf, IsRowOf, ShowsResult}
 use Rattle.server_core.proofs.KeptReports.{not_action, not_file, not_site, not_stop, same_report}

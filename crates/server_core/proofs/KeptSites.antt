@@ -14,7 +14,7 @@ use Rattle.desk_keep.specs.declared.find.Find.TheVariants as find
 use Rattle.desk_keep.specs.Keys.{Key, asked_key, key_of, same_key}
 use Rattle.desk_keep.proofs.KeyOrder.{same_exact}
 use Rattle.server_core.specs.CallAnswers.{AreAccepted}
-use Rattle.server_core.specs.Entries.{Entry, Filed, Issued, Published, Reported, Stopped}
+use Rattle.server_text.specs.Entries.{Entry, Filed, Issued, Published, Reported, Stopped}
 use Rattle.server_core.specs.AcceptedTables.{action_at, actions_version, has_later, next_version_row, puts, result_of, site_at, stopped_row, version_in, view}
 use Rattle.server_core.specs.TableViews.{IsLastSite, ShowsSite, changes_actions}
 use Rattle.server_core.proofs.Accepting.{IsEntry, entry_of}

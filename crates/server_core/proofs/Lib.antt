@@ -4,14 +4,9 @@ pub mod KeptFiles
 pub mod KeptReports
 pub mod KeptResults
 pub mod KeptSites
-pub mod Refusing
-pub mod Gathering
 pub mod Deciding
 pub mod Talking
 pub mod Running
-pub mod ReadAgain
-pub mod Meaning
-pub mod ActionTexts
 pub mod KeptActions
 pub mod Staying
 pub mod ActionLists

@@ -19,21 +19,22 @@ use Rattle.desk_keep.specs.Keys.{Key, key_of}
 use Rattle.desk_keep.specs.Tables.{AreRows, put, put_all, row_at, rows_above, rows_below}
 use Rattle.desk_keep.proofs.Putting.{AreRows-put, around, found_key, split}
 use Rattle.server_core.specs.declared.limits.Limits.{Limits}
-use Rattle.server_core.specs.declared.reply.Reply.TheVariants.{Full}
-use Rattle.server_core.specs.ActionStates.{stopped_text}
-use Rattle.server_core.specs.Actionsite.{longest_actionsite}
+use Rattle.server_text.specs.declared.reply.Reply.TheVariants.{Full}
+use Rattle.server_text.specs.ActionStates.{stopped_text}
+use Rattle.server_text.specs.Actionsite.{longest_actionsite}
 use Rattle.server_core.specs.CallAnswers.{AreAccepted}
-use Rattle.server_core.specs.Entries.{Entry, Filed, Issued, Published, Reported, Stopped}
-use Rattle.server_core.specs.ServerParts.{most_bytes}
+use Rattle.server_text.specs.Entries.{Entry, Filed, Issued, Published, Reported, Stopped}
+use Rattle.server_text.specs.TextParts.{most_bytes}
 use Rattle.server_core.specs.Replies.{full_if, full_of_actions, full_version, reply_to, reply_to_action, reply_to_stop}
-use Rattle.server_core.specs.AcceptedTables.{action_at, action_texts, has_later, next_version_row, puts, result_of, text_in, view}
+use Rattle.server_text.specs.ToldRows.{action_texts, text_in}
+use Rattle.server_core.specs.AcceptedTables.{action_at, has_later, next_version_row, puts, result_of, view}
 use Rattle.server_core.proofs.Accepting.{IsEntry, entry_of, first_two, not_so, puts_fit, tables_are_rows}
-use Rattle.server_core.proofs.ActionTexts.{stops_text}
-use Rattle.server_core.proofs.Gathering.{longest, most_of-append}
+use Rattle.server_text.proofs.ActionTexts.{stops_text}
+use Rattle.server_text.proofs.ActionsiteBytes.{longest, most_of-append}
 use Rattle.server_core.proofs.KeptActions.{Shown, action_row, kept, key_for, stands, stop_rows}
 
 -- the bytes of the actions of rows, each stopped
-abbrev pub measure : List Change → ℕ
+abbrev measure : List Change → ℕ
 measure rows = most_bytes (action_texts rows)
 
 -- those of the row of a key, if there is one
@@ -178,6 +179,9 @@ measured_after limits entry before are is free h = step entry is free
     step (Reported report) is free =
         same (puts (view before) (Reported report)) ((λ e. cc), ((λ e. cc), results_other report (filter (has_later (view before) report) report.rows))) (puts_fit limits (view before) (Reported report) is ordered free)
 
-pub measured_short : (accepted : List Entry) → AreAccepted accepted → 105 + measure (view accepted) ≤ 4194304
+measured_short : (accepted : List Entry) → AreAccepted accepted → 105 + measure (view accepted) ≤ 4194304
 measured_short [] are = omega arith
 measured_short (entry ∷ before) are = measured_after are.1.0 entry before are.2 (entry_of are.0.0 entry are.0.1) are.1.1 (measured_short before are.2)
+
+pub actionsite_short : (accepted : List Entry) → AreAccepted accepted → longest_actionsite (action_texts (view accepted)) ≤ 4194304
+actionsite_short accepted are = subst (λ n. n ≤ 4194304) (sym (longest (action_texts (view accepted)))) (measured_short accepted are)

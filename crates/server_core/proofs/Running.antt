@@ -4,10 +4,10 @@ use Rattle.std.specs.declared.option.Option.{Option}
 use Rattle.std.proofs.lemmas.List.{take_more}
 use Rattle.desk_keep.specs.declared.change.Change.{Change}
 use Rattle.server_core.specs.declared.limits.Limits.{Limits}
-use Rattle.server_core.specs.declared.reply.Reply.{Reply}
-use Rattle.server_core.specs.declared.request.Request.{Request}
+use Rattle.server_text.specs.declared.reply.Reply.{Reply}
+use Rattle.server_text.specs.declared.request.Request.{Request}
 use Rattle.server_core.specs.CallAnswers.{Answers, AnswersAll, AreTables}
-use Rattle.server_core.specs.Entries.{Entry}
+use Rattle.server_text.specs.Entries.{Entry}
 
 pub all_push : (limits : Limits) (accepted : List Entry) (asked : List Request) (replies : List Reply) (last : List Entry) (q : Request) (a : Reply) (later : List Entry) → AnswersAll limits accepted asked replies last → Answers limits last q a later
     → AnswersAll limits accepted (asked ++ q ∷ []) (replies ++ a ∷ []) later

@@ -13,15 +13,15 @@ use Rattle.desk_keep.specs.declared.change.Change.TheVariants as change
 use Rattle.desk_keep.specs.Keys.{key_of, same_key}
 use Rattle.desk_keep.proofs.KeyOrder.{same_exact, same_itself}
 use Rattle.server_core.specs.declared.limits.Limits.{Limits}
-use Rattle.server_core.specs.declared.reply.Reply.{Reply}
-use Rattle.server_core.specs.declared.reply.Reply.TheVariants.{Again, Older}
+use Rattle.server_text.specs.declared.reply.Reply.{Reply}
+use Rattle.server_text.specs.declared.reply.Reply.TheVariants.{Again, Older}
 use Rattle.server_core.specs.CallAnswers.{AreAccepted, after}
-use Rattle.server_core.specs.Entries.{Enters, Entry, Filed, Issued, Published, Reported, Stopped}
+use Rattle.server_text.specs.Entries.{Enters, Entry, Filed, Issued, Published, Reported, Stopped}
 use Rattle.server_core.specs.Replies.{full_version, reply_to, reply_to_action, reply_to_file, reply_to_report, reply_to_site, reply_to_stop}
 use Rattle.server_core.specs.AcceptedTables.{action_at, actions_version, file_at, has_later, puts, report_at, site_at, view}
 use Rattle.server_core.specs.TableViews.{ShowsFile, ShowsReport}
 use Rattle.server_core.proofs.Accepting.{IsEntry, entry_of, not_so}
-use Rattle.server_core.proofs.ActionTexts.{stopped_known}
+use Rattle.server_text.proofs.ActionTexts.{stopped_known}
 use Rattle.server_core.proofs.KeptActions.{Shown, kept, stands}
 use Rattle.server_core.proofs.KeptFiles.{files_shown}
 use Rattle.server_core.proofs.KeptReports.{reports_shown}

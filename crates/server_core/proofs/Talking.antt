@@ -8,18 +8,18 @@ use Rattle.fix_site.specs.declared.action.Action.{Action}
 use Rattle.report_text.specs.declared.report.Report.{Report}
 use Rattle.desk_keep.specs.declared.change.Change.{Change}
 use Rattle.server_core.specs.declared.limits.Limits.{Limits}
-use Rattle.server_core.specs.declared.reply.Reply.{Reply}
-use Rattle.server_core.specs.declared.reply.Reply.TheVariants as told
-use Rattle.server_core.specs.declared.request.Request.{Request}
-use Rattle.server_core.specs.declared.request.Request.TheVariants as request
+use Rattle.server_text.specs.declared.reply.Reply.{Reply}
+use Rattle.server_text.specs.declared.reply.Reply.TheVariants as told
+use Rattle.server_text.specs.declared.request.Request.{Request}
+use Rattle.server_text.specs.declared.request.Request.TheVariants as request
 use Rattle.server_core.specs.declared.stop.Stop.{Stop}
-use Rattle.server_core.specs.declared.text_error.TextError.{TextError}
-use Rattle.server_core.specs.declared.text_error.TextError.TheVariants as text
+use Rattle.server_text.specs.declared.text_error.TextError.{TextError}
+use Rattle.server_text.specs.declared.text_error.TextError.TheVariants as text
 use Rattle.desk_keep.specs.Calls.{IfTold}
 use Rattle.server_core.specs.CallAnswers.{Answers, AreTables, TellsBad, after, is_accepted, is_fault}
-use Rattle.server_core.specs.Entries.{Asked, Bad, Enters, Entry, Issued, Published, Reported}
-use Rattle.server_core.specs.ServerParts.{AnswersEntry, AnswersRequest, IsUnread, Tells, is_plain}
-use Rattle.server_core.specs.RequestTexts.{Asks, ReadsIssued, ReadsPublished, ReadsReported}
+use Rattle.server_text.specs.Entries.{Asked, Bad, Enters, Entry, Issued, Published, Reported}
+use Rattle.server_core.specs.ServerParts.{AnswersEntry, AnswersRequest, IsUnread, is_plain}
+use Rattle.server_text.specs.RequestTexts.{Asks, ReadsIssued, ReadsPublished, ReadsReported, Tells}
 use Rattle.server_core.specs.Replies.{reply}
 use Rattle.server_core.specs.AcceptedTables.{view}
 use Rattle.server_core.proofs.Accepting.{not_so}

@@ -1,5 +1,5 @@
 -- The tables of what a server has accepted.
-use Rattle.std.specs.Prelude.{ℕ, ◌+◌, Bool, true, nat_lt, List, [], ◌∷◌, ◌++◌, map, filter, filter_map, codes, Some, None}
+use Rattle.std.specs.Prelude.{ℕ, ◌+◌, Bool, true, nat_lt, List, [], ◌∷◌, ◌++◌, map, filter, codes, Some}
 use Rattle.std.specs.declared.option.Option.{Option}
 use Rattle.sha2.specs.Sha256.{sha256}
 use Rattle.fix_site.specs.Actions.{action_text}
@@ -10,12 +10,10 @@ use Rattle.report_text.specs.Reports.{report_text}
 use Rattle.desk_keep.specs.declared.change.Change.{Change}
 use Rattle.desk_keep.specs.declared.change.Change.TheVariants as change
 use Rattle.desk_keep.specs.declared.find.Find.TheVariants as find
-use Rattle.desk_keep.specs.declared.result_row.ResultRow.{ResultRow}
 use Rattle.desk_keep.specs.Keys.{asked_key}
 use Rattle.desk_keep.specs.Tables.{put_all, row_at}
-use Rattle.server_core.specs.declared.site_versions.SiteVersion.{SiteVersion}
-use Rattle.server_core.specs.ActionStates.{stopped_text}
-use Rattle.server_core.specs.Entries.{Entry, Published, Issued, Stopped, Filed, Reported}
+use Rattle.server_text.specs.ActionStates.{stopped_text}
+use Rattle.server_text.specs.Entries.{Entry, Published, Issued, Stopped, Filed, Reported}
 
 -- the row of a site, an action, a file, a computer, a report, a result
 abbrev pub site_at : List ℕ → List Change → Option Change
@@ -87,22 +85,3 @@ puts rows (Reported report) =
 abbrev pub view : List Entry → List Change
 view [] = []
 view (entry ∷ before) = put_all (puts (view before) entry) (view before)
-
--- the text in the row of an action
-abbrev pub text_in : Change → Option (List ℕ)
-text_in (change.Action id text digest) = Some text
-text_in other = None
-
--- the texts of the actions, in ascending order of their ids
-abbrev pub action_texts : List Change → List (List ℕ)
-action_texts rows = filter_map text_in rows
-
--- the name and the version in the row of a site
-abbrev pub site_version : Change → Option SiteVersion
-site_version (change.Site name version text) = Some (record { name = name; version = version })
-site_version other = None
-
--- the result in its row
-abbrev pub result_row : Change → Option ResultRow
-result_row (change.Result result) = Some result
-result_row other = None

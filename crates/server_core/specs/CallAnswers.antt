@@ -3,11 +3,11 @@ use Rattle.std.specs.Prelude.{◌≡◌, Bool, true, false, if◌then◌else◌,
 use Rattle.std.specs.declared.option.Option.{Option}
 use Rattle.desk_keep.specs.declared.change.Change.{Change}
 use Rattle.server_core.specs.declared.limits.Limits.{Limits}
-use Rattle.server_core.specs.declared.request.Request.{Request}
-use Rattle.server_core.specs.declared.reply.Reply.{Reply}
-use Rattle.server_core.specs.declared.reply.Reply.TheVariants.{BadText, KeeperFault, Memory}
-use Rattle.server_core.specs.Entries.{Entry, Asked, Enters, Bad}
-use Rattle.server_core.specs.RequestTexts.{Asks}
+use Rattle.server_text.specs.declared.request.Request.{Request}
+use Rattle.server_text.specs.declared.reply.Reply.{Reply}
+use Rattle.server_text.specs.declared.reply.Reply.TheVariants.{BadText, KeeperFault, Memory}
+use Rattle.server_text.specs.Entries.{Entry, Asked, Enters, Bad}
+use Rattle.server_text.specs.RequestTexts.{Asks}
 use Rattle.server_core.specs.Replies.{reply, reply_to}
 use Rattle.server_core.specs.AcceptedTables.{view}
 

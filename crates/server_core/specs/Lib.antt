@@ -1,10 +1,5 @@
-pub mod Entries
-pub mod RequestTexts
-pub mod ActionStates
-pub mod Actionsite
 pub mod AcceptedTables
 pub mod Replies
 pub mod CallAnswers
 pub mod TableViews
-pub mod Bodies
 pub mod ServerParts

@@ -13,13 +13,14 @@ use Rattle.desk_keep.specs.declared.change.Change.{Change}
 use Rattle.desk_keep.specs.declared.change.Change.TheVariants as change
 use Rattle.desk_keep.specs.Tables.{is_of, is_result_of}
 use Rattle.server_core.specs.declared.limits.Limits.{Limits}
-use Rattle.server_core.specs.declared.reply.Reply.{Reply}
-use Rattle.server_core.specs.declared.reply.Reply.TheVariants.{Ok, Again, Digest, Sites, Same, Content, Rows, BadText, Conflict, NoSuch, Older, Full}
-use Rattle.server_core.specs.declared.reply.Reply.TheVariants as told
-use Rattle.server_core.specs.ActionStates.{before_state, is_stopped}
-use Rattle.server_core.specs.Actionsite.{actionsite_text, longest_actionsite}
-use Rattle.server_core.specs.Entries.{Entry, Published, Issued, Stopped, Filed, Reported, Asked, Enters, Versions, SiteText, FileBytes, Results, Bad}
-use Rattle.server_core.specs.AcceptedTables.{action_at, action_texts, actions_version, computer_at, file_at, report_at, result_row, site_at, site_version, view}
+use Rattle.server_text.specs.declared.reply.Reply.{Reply}
+use Rattle.server_text.specs.declared.reply.Reply.TheVariants.{Ok, Again, Digest, Sites, Same, Content, Rows, BadText, Conflict, NoSuch, Older, Full}
+use Rattle.server_text.specs.declared.reply.Reply.TheVariants as told
+use Rattle.server_text.specs.ActionStates.{before_state, is_stopped}
+use Rattle.server_text.specs.Actionsite.{actionsite_text, longest_actionsite}
+use Rattle.server_text.specs.Entries.{Entry, Published, Issued, Stopped, Filed, Reported, Asked, Enters, Versions, SiteText, FileBytes, Results, Bad}
+use Rattle.server_text.specs.ToldRows.{action_texts, result_row, site_version}
+use Rattle.server_core.specs.AcceptedTables.{action_at, actions_version, computer_at, file_at, report_at, site_at, view}
 
 -- the first reply, if there is one
 abbrev pub first_of : List (Option Reply) → Option Reply

@@ -11,7 +11,7 @@ use Rattle.report_text.specs.declared.report_row.ReportRow.{ReportRow}
 use Rattle.report_text.specs.Reports.{report_text}
 use Rattle.desk_keep.specs.declared.change.Change.{Change}
 use Rattle.desk_keep.specs.declared.change.Change.TheVariants as change
-use Rattle.server_core.specs.Entries.{Entry, Published, Issued, Stopped, Filed, Reported}
+use Rattle.server_text.specs.Entries.{Entry, Published, Issued, Stopped, Filed, Reported}
 use Rattle.server_core.specs.AcceptedTables.{result_of}
 
 -- the site of this name is the last one of it that was published

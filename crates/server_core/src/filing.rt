@@ -2,16 +2,16 @@
 ghost use Rattle.std.specs.Prelude.{◌≡◌, ◌≤◌, true, IfOk, IsErrOf, OnErr};
 ghost use Rattle.desk_base.specs.Counts.{Rose};
 ghost use Rattle.desk_keep.specs.Calls.{IfTold};
-ghost use Rattle.server_core.specs.Entries.{Filed};
+ghost use Rattle.server_text.specs.Entries.{Filed};
 ghost use Rattle.server_core.specs.ServerParts.{AnswersEntry, is_plain};
 
 use crate::keeping::put;
 use crate::limits::Limits;
 use crate::looking::{count_of, has_row};
-use crate::reply::Reply;
 use crate::stop::Stop;
 use desk_base::Bytes;
 use desk_keep::{Change, Find, Keeper, Table};
+use server_text::Reply;
 use sha2::{Digest, Sha256};
 
 /// Keeps a file of these bytes, if it is accepted.

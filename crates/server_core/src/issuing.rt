@@ -3,22 +3,20 @@ ghost use Rattle.std.specs.Prelude.{◌≡◌, ◌≤◌, [], ◌∷◌, true, I
 ghost use Rattle.desk_base.specs.Counts.{Rose};
 ghost use Rattle.fix_site.specs.Actions.{IsAction, action_text};
 ghost use Rattle.desk_keep.specs.Calls.{IfTold};
-ghost use Rattle.server_core.specs.Entries.{Issued, Stopped};
+ghost use Rattle.server_text.specs.Entries.{Issued, Stopped};
 ghost use Rattle.server_core.specs.declared.limits.Limits.{Limits};
 ghost use Rattle.server_core.specs.Replies.{first_of, full_of_actions, full_version, known_action, reply_to};
 ghost use Rattle.server_core.specs.ServerParts.{AnswersEntry, is_plain};
 
-use crate::action_state::{before_state, is_stopped, stopped_text};
-use crate::actionsite::longest_actionsite;
 use crate::keeping::{next_version, put, version_row};
 use crate::limits::Limits;
 use crate::looking::{actions_of, count_of, row_of};
-use crate::reply::Reply;
 use crate::stop::Stop;
 use desk_base::Bytes;
 use desk_keep::{Change, Find, Keeper, Table};
 use fix_site::Action;
 use line_forms::LAST_ID;
+use server_text::{Reply, before_state, is_stopped, longest_actionsite, stopped_text};
 use sha2::{Digest, Sha256};
 use std::alloc::Global;
 

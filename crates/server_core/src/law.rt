@@ -1,64 +1,23 @@
 // What holds of every list of accepted requests. The body of a law calls the laws that its proof stands on.
-ghost use Rattle.std.specs.Prelude.{◌≡◌, ◌≢◌, ◌<◌, ◌↔◌, ℕ, true, List, Ok, Some, Contains, codes, count_by};
+ghost use Rattle.std.specs.Prelude.{◌≡◌, ◌≢◌, ◌<◌, ◌↔◌, ℕ, List, Ok, Some, Contains, codes, count_by};
 ghost use Rattle.fix_site.specs.declared.action.Action.{Action};
 ghost use Rattle.fix_site.specs.declared.block.Block.TheVariants.{Action as action_block};
 ghost use Rattle.fix_site.specs.declared.site.Site.{Site};
 ghost use Rattle.fix_site.specs.Actions.{IsAction, action_text};
 ghost use Rattle.fix_site.specs.Answers.{ReadsSite};
-ghost use Rattle.report_text.specs.declared.report.Report.{Report as TheReport};
-ghost use Rattle.report_text.specs.Reports.{IsReport, report_text};
 ghost use Rattle.desk_keep.specs.declared.change.Change.TheVariants as change;
 ghost use Rattle.desk_keep.specs.Tables.{AreRows};
 ghost use Rattle.server_core.specs.declared.limits.Limits.{Limits};
-ghost use Rattle.server_core.specs.declared.reply.Reply.TheVariants as told;
-ghost use Rattle.server_core.specs.declared.request.Request.{Request};
-ghost use Rattle.server_core.specs.declared.request.Request.TheVariants as asking;
-ghost use Rattle.server_core.specs.ActionStates.{before_state, is_stopped, stopped_text};
+ghost use Rattle.server_text.specs.declared.reply.Reply.TheVariants as told;
+ghost use Rattle.server_text.specs.Entries.{Enters, Entry, SiteText};
 ghost use Rattle.server_core.specs.CallAnswers.{AreAccepted, after};
-ghost use Rattle.server_core.specs.Entries.{Asked, Enters, Entry, Reported, SiteText};
-ghost use Rattle.server_core.specs.RequestTexts.{Asks};
 ghost use Rattle.server_core.specs.Replies.{reply};
 ghost use Rattle.server_core.specs.AcceptedTables.{action_at, actions_version, computer_at, file_at, report_at, result_at, site_at, view};
 ghost use Rattle.server_core.specs.TableViews.{ShowsAction, ShowsComputer, ShowsFile, ShowsReport, ShowsResult, ShowsSite, changes_actions};
 
 use desk_keep::{a_row_is_found_where_it_was_put, one_key, rows_stay_rows};
-use fix_site::{an_action_is_read_again, one_action, one_reading};
-use rel_eval::one_plan;
-use report_text::{a_report_is_read_again, one_report};
-use site_check::one_finding;
-
-/// A request asks one thing.
-pub fn one_meaning()
-    ensures { (request : Request) (asked other : Asked) → Asks request asked → Asks request other → asked ≡ other }
-{
-    one_reading();
-    one_finding();
-    one_plan();
-    one_action();
-    an_action_is_read_again();
-    one_report();
-    a_report_is_read_again();
-}
-
-/// The text of a report that can be spelled is never refused as a text.
-pub fn a_written_report_is_read()
-    ensures { (report : TheReport) (asked : Asked) → IsReport report
-        → Asks (asking.Report (report_text report)) asked → asked ≡ Enters (Reported report) }
-{
-    a_report_is_read_again();
-    one_report();
-}
-
-/// The text of a stopped action is that of the action with `state stopped`, and the rest of an action's text tells which one it is.
-pub fn the_state_ends_an_action()
-    ensures stopped { (action : Action) → is_stopped (action_text action) ≡ action.stopped }
-    ensures stops { (action : Action) → stopped_text (action_text action) ≡ action_text (record action { stopped = true }) }
-    ensures same { (action other : Action) → IsAction action → IsAction other
-        → before_state (action_text action) ≡ before_state (action_text other)
-        → action ≡ record other { stopped = action.stopped } }
-{
-    one_action();
-}
+use fix_site::{one_action, one_site};
+use server_text::{actionsite_is_a_site, the_state_ends_an_action};
 
 /// The tables are rows in order and in their forms.
 pub fn the_tables_are_rows()
@@ -150,6 +109,7 @@ pub fn an_answered_site_is_read()
         → Contains site.blocks (action_block action)
         ↔ ((digest : List ℕ) × (action_at action.id (view accepted) ≡ Some (change.Action action.id (action_text action) digest))) }
 {
-    one_reading();
+    actionsite_is_a_site();
+    one_site();
     one_action();
 }

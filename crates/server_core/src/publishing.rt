@@ -3,7 +3,7 @@ ghost use Rattle.std.specs.Prelude.{◌≡◌, ◌≤◌, nat_le, true, IfOk, If
 ghost use Rattle.desk_base.specs.Counts.{Rose};
 ghost use Rattle.fix_site.specs.Sites.{IsSite, site_text};
 ghost use Rattle.desk_keep.specs.Calls.{IfTold};
-ghost use Rattle.server_core.specs.Entries.{Published};
+ghost use Rattle.server_text.specs.Entries.{Published};
 ghost use Rattle.server_core.specs.Replies.{full_if, reply_to_site, site_count};
 ghost use Rattle.server_core.specs.AcceptedTables.{site_at};
 ghost use Rattle.server_core.specs.ServerParts.{AnswersEntry, is_plain};
@@ -11,12 +11,12 @@ ghost use Rattle.server_core.specs.ServerParts.{AnswersEntry, is_plain};
 use crate::keeping::put;
 use crate::limits::Limits;
 use crate::looking::{count_of, has_row, row_of};
-use crate::reply::Reply;
 use crate::stop::Stop;
 use desk_base::Bytes;
 use desk_keep::{Change, Find, Keeper, Table};
 use fix_site::Site;
 use rel_lexer::Text;
+use server_text::Reply;
 use std::alloc::Global;
 
 /// Keeps a site, of which this is the text, if it is accepted.

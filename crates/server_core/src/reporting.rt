@@ -6,7 +6,7 @@ ghost use Rattle.report_text.specs.ReportRows.{IsReportRow};
 ghost use Rattle.report_text.specs.Reports.{IsReport, report_text};
 ghost use Rattle.desk_keep.specs.Calls.{IfTold};
 ghost use Rattle.desk_keep.specs.Forms.{Fits};
-ghost use Rattle.server_core.specs.Entries.{Reported};
+ghost use Rattle.server_text.specs.Entries.{Reported};
 ghost use Rattle.server_core.specs.Replies.{full_of_reports, known_report, reply_to};
 ghost use Rattle.server_core.specs.AcceptedTables.{has_later, puts, result_of};
 ghost use Rattle.server_core.specs.ServerParts.{AnswersEntry, is_plain};
@@ -14,10 +14,10 @@ ghost use Rattle.server_core.specs.ServerParts.{AnswersEntry, is_plain};
 use crate::keeping::put;
 use crate::limits::Limits;
 use crate::looking::{count_of, has_row, row_of};
-use crate::reply::Reply;
 use crate::stop::Stop;
 use desk_keep::{Change, Changes, Find, Keeper, ReportRow, ResultRow, Table};
 use report_text::Report;
+use server_text::Reply;
 use std::alloc::{AllocError, Global};
 
 /// Keeps a report, the text of which has this digest, if it is accepted.

@@ -1,11 +1,10 @@
 ghost use Rattle.std.specs.Prelude.{◌≡◌, ◌≤◌, ◌++◌, [], ◌∷◌, List, IfOk, OnOk, OnErr};
-ghost use Rattle.server_core.specs.Entries.{Entry};
+ghost use Rattle.server_text.specs.Entries.{Entry};
 ghost use Rattle.server_core.specs.CallAnswers.{AnswersAll, AreTables};
 
-use crate::reply::Reply;
-use crate::request::Request;
 use crate::server::Server;
 use desk_keep::Keeper;
+use server_text::{Reply, Request};
 use std::alloc::{AllocError, Global};
 use std::marker::Model;
 
@@ -17,7 +16,7 @@ pub struct Replies {
 
 impl Model for Replies {
     ghost use Rattle.std.specs.Prelude.{List};
-    ghost use Rattle.server_core.specs.declared.reply.Reply.{Reply};
+    ghost use Rattle.server_text.specs.declared.reply.Reply.{Reply};
 
     ghost Value = { List Reply };
 

@@ -1,6 +1,6 @@
 ghost use Rattle.std.specs.Prelude.{◌≡◌, ◌≤◌, List, true, false, IfOk, IsErrOf, OnErr};
 ghost use Rattle.desk_base.specs.Counts.{Rose};
-ghost use Rattle.server_core.specs.Entries.{Entry};
+ghost use Rattle.server_text.specs.Entries.{Entry};
 ghost use Rattle.server_core.specs.CallAnswers.{Answers, AreTables, TellsBad, is_fault};
 ghost use Rattle.server_core.specs.ServerParts.{AnswersRequest, IsUnread};
 
@@ -9,14 +9,11 @@ use crate::filing::keep_file;
 use crate::issuing::{issue_action, stop_action};
 use crate::limits::Limits;
 use crate::publishing::publish_site;
-use crate::reading::{read_issued, read_published, read_reported};
-use crate::reply::Reply;
 use crate::reporting::keep_report;
-use crate::request::Request;
 use crate::stop::Stop;
-use crate::text_error::TextError;
 use desk_base::Bytes;
 use desk_keep::Keeper;
+use server_text::{Reply, Request, TextError, read_issued, read_published, read_reported};
 use sha2::{Digest, Sha256};
 use std::alloc::Global;
 

@@ -1,6 +1,7 @@
 use crate::talk::{AMPLE, Said, keeper, request, tables, told};
 use crate::texts::*;
-use server_core::{Limits, Reply, Server, answer_all};
+use server_core::{Limits, Server, answer_all};
+use server_text::Reply;
 use std::test::Fail;
 
 #[test]

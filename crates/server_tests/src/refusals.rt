@@ -1,7 +1,8 @@
 use crate::talk::{AMPLE, Said, answered, keeper, tables, told};
 use crate::texts::*;
 use desk_base::Bytes;
-use server_core::{Limits, Request};
+use server_core::Limits;
+use server_text::Request;
 use std::alloc::Global;
 use std::test::Fail;
 

@@ -1,7 +1,8 @@
 use desk_base::Bytes;
 use desk_keep::{Change, Keeper, Listed, MemoryKeeper, Table};
 use rel_lexer::Text;
-use server_core::{Limits, Request, Server, say_reply};
+use server_core::{Limits, Server};
+use server_text::{Request, say_reply};
 use sha2::{Digest, Sha256};
 use std::alloc::Global;
 use std::test::Fail;

@@ -2,7 +2,7 @@ use Rattle.std.proofs.Common.{[], ◌∷◌, ◌∙◌, ap, sym}
 use Rattle.sha2.specs.Sha256.{sha256}
 use Rattle.fix_site.specs.Actions.{action_text}
 use Rattle.desk_keep.specs.declared.change.Change.TheVariants as change
-use Rattle.server_core.specs.Entries.{Issued}
+use Rattle.server_text.specs.Entries.{Issued}
 use Rattle.server_core.specs.AcceptedTables.{version_row}
 use Rattle.server_core.proofs.Deciding.{accepted, act_accepted, batch_fits, next_is, none_left, version_is_id}
 use Rattle.server_core.proofs.issuing.issue_new_action.Goals as goal

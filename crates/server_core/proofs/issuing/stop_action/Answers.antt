@@ -2,8 +2,8 @@ use Rattle.std.proofs.Common.{Some, [], ◌∷◌, ◌∙◌, ap, sym}
 use Rattle.desk_keep.specs.declared.change.Change.TheVariants as change
 use Rattle.desk_keep.specs.declared.find.Find.TheVariants as find
 use Rattle.desk_keep.specs.Keys.{asked_key}
-use Rattle.server_core.specs.ActionStates.{is_stopped, stopped_text}
-use Rattle.server_core.specs.Entries.{Stopped}
+use Rattle.server_text.specs.ActionStates.{is_stopped, stopped_text}
+use Rattle.server_text.specs.Entries.{Stopped}
 use Rattle.server_core.specs.AcceptedTables.{version_row}
 use Rattle.server_core.proofs.Deciding.{accepted, batch_fits, next_is, own_id, stop_accepted, stop_puts, version_is_id}
 use Rattle.server_core.proofs.issuing.stop_action.Goals as goal

@@ -1,5 +1,5 @@
 use Rattle.std.proofs.Common.{◌∙◌, sym}
-use Rattle.server_core.specs.Entries.{Reported}
+use Rattle.server_text.specs.Entries.{Reported}
 use Rattle.server_core.proofs.Deciding.{accepted, none_left}
 use Rattle.server_core.proofs.reporting.keep_new_report.Goals as goal
 

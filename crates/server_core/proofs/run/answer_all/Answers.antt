@@ -1,5 +1,5 @@
 use Rattle.std.proofs.Common.{arith, ◌<◌, length, List}
-use Rattle.server_core.specs.declared.request.Request.{Request}
+use Rattle.server_text.specs.declared.request.Request.{Request}
 use Rattle.server_core.proofs.Running.{ran_more}
 use Rattle.server_core.proofs.run.answer_all.Goals as goal
 

@@ -1,5 +1,5 @@
 use Rattle.std.proofs.Common.{◌≤◌, List, take}
-use Rattle.server_core.specs.Entries.{Entry}
+use Rattle.server_text.specs.Entries.{Entry}
 use Rattle.server_core.specs.CallAnswers.{AnswersAll, AreTables}
 use Rattle.server_core.proofs.run.answer_all.Given as goal
 

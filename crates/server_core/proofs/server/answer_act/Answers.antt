@@ -1,9 +1,8 @@
 use Rattle.std.proofs.Common.{ℕ, List, subst}
 use Rattle.std.specs.Prelude.{Err, Ok}
-use Rattle.server_core.specs.declared.request.Request.TheVariants as request
-use Rattle.server_core.specs.Entries.{Issued}
-use Rattle.server_core.specs.ServerParts.{Tells}
-use Rattle.server_core.specs.RequestTexts.{ReadsIssued}
+use Rattle.server_text.specs.declared.request.Request.TheVariants as request
+use Rattle.server_text.specs.Entries.{Issued}
+use Rattle.server_text.specs.RequestTexts.{ReadsIssued, Tells}
 use Rattle.server_core.proofs.Talking.{bad_act, entry_result, good_act, told_line, unread_answers, unread_tells}
 use Rattle.server_core.proofs.server.answer_act.Goals as goal
 

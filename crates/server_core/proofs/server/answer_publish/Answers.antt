@@ -1,9 +1,8 @@
 use Rattle.std.proofs.Common.{ℕ, List, subst}
 use Rattle.std.specs.Prelude.{Err, Ok}
-use Rattle.server_core.specs.declared.request.Request.TheVariants as request
-use Rattle.server_core.specs.Entries.{Published}
-use Rattle.server_core.specs.ServerParts.{Tells}
-use Rattle.server_core.specs.RequestTexts.{ReadsPublished}
+use Rattle.server_text.specs.declared.request.Request.TheVariants as request
+use Rattle.server_text.specs.Entries.{Published}
+use Rattle.server_text.specs.RequestTexts.{ReadsPublished, Tells}
 use Rattle.server_core.proofs.Talking.{bad_publish, entry_result, good_publish, told_line, unread_answers, unread_tells}
 use Rattle.server_core.proofs.server.answer_publish.Goals as goal
 

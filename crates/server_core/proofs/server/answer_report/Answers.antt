@@ -1,9 +1,8 @@
 use Rattle.std.proofs.Common.{ℕ, List, subst}
 use Rattle.std.specs.Prelude.{Err, Ok}
-use Rattle.server_core.specs.declared.request.Request.TheVariants as request
-use Rattle.server_core.specs.Entries.{Reported}
-use Rattle.server_core.specs.ServerParts.{Tells}
-use Rattle.server_core.specs.RequestTexts.{ReadsReported}
+use Rattle.server_text.specs.declared.request.Request.TheVariants as request
+use Rattle.server_text.specs.Entries.{Reported}
+use Rattle.server_text.specs.RequestTexts.{ReadsReported, Tells}
 use Rattle.server_core.proofs.Talking.{bad_report, entry_result, good_report, told_line, unread_answers, unread_tells}
 use Rattle.server_core.proofs.server.answer_report.Goals as goal
 

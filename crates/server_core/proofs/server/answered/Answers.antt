@@ -1,7 +1,7 @@
 use Rattle.std.proofs.Common.{refl, subst, sym}
-use Rattle.server_core.specs.declared.request.Request.{Request}
-use Rattle.server_core.specs.Entries.{Enters, FileBytes, Filed, Results, SiteText, Stopped}
-use Rattle.server_core.specs.RequestTexts.{Asks}
+use Rattle.server_text.specs.declared.request.Request.{Request}
+use Rattle.server_text.specs.Entries.{Enters, FileBytes, Filed, Results, SiteText, Stopped}
+use Rattle.server_text.specs.RequestTexts.{Asks}
 use Rattle.server_core.specs.Replies.{file_reply, results_reply, site_reply}
 use Rattle.server_core.specs.AcceptedTables.{file_at, site_at}
 use Rattle.server_core.proofs.Talking.{entry_result, question_result, stop_result}

@@ -1,8 +1,0 @@
-use Rattle.std.proofs.Common.{◌≡◌, take}
-use Rattle.std.specs.Prelude.{filter_map}
-use Rattle.server_core.specs.AcceptedTables.{result_row}
-use Rattle.server_core.proofs.asking.result_rows.Given as goal
-
--- the results of the rows so far
-abbrev pub invariant-loop-row : goal.invariant-loop-row
-invariant-loop-row l = l.results ≡ filter_map result_row (take l.row-index l.rows)

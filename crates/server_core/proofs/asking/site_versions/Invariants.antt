@@ -1,8 +1,0 @@
-use Rattle.std.proofs.Common.{◌≡◌, take}
-use Rattle.std.specs.Prelude.{filter_map}
-use Rattle.server_core.specs.AcceptedTables.{site_version}
-use Rattle.server_core.proofs.asking.site_versions.Given as goal
-
--- the sites of the rows so far
-abbrev pub invariant-loop-row : goal.invariant-loop-row
-invariant-loop-row l = l.sites ≡ filter_map site_version (take l.row-index l.rows)

@@ -1,5 +1,0 @@
-use Rattle.server_core.proofs.Refusing.{no_action}
-use Rattle.server_core.proofs.reading.read_issued.Goals as goal
-
-pub returns-in-Err : goal.returns-in-Err
-returns-in-Err c = no_action c.args.text.now c.unread_action.result (c.unread_action.ensures c.args.text.now c.in-Err.ensures)
