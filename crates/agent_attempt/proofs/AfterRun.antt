@@ -1,5 +1,6 @@
 -- What comes after a script went on, by what it came to.
 use Rattle.std.proofs.Common.{◌≡◌, ℕ, ◌+◌, ◌*◌, ◌<◌, ℤ, List, ◌∷◌, length, Option, Some, None, refl, sym, ap, subst, ◌∙◌, arith}
+use Rattle.std.proofs.lemmas.Option.{same_Some}
 use Rattle.rel_sources.specs.declared.pair.Pair.{Pair}
 use Rattle.script_text.specs.Scripts.{PlainScript}
 use Rattle.script_run.specs.declared.cause.Cause.{Cause}
@@ -18,22 +19,46 @@ use Rattle.agent_attempt.specs.declared.went.Went.TheVariants as went
 use Rattle.agent_attempt.specs.declared.attempt.Part.{Part}
 use Rattle.agent_attempt.specs.declared.attempt.Stage.{Stage}
 use Rattle.agent_attempt.specs.declared.attempt.Stage.TheVariants as stage
-use Rattle.agent_attempt.specs.Attempts.{PlainAttempt, PlainStage, StageWaitsBelow, running, judging}
-use Rattle.agent_attempt.specs.Going.{held_at, Advances, exit_at, AfterRun, Fails, FromJudging, Through, GoesOn}
+use Rattle.agent_attempt.specs.Attempts.{PlainAttempt, PlainStage, Past, StageWaitsBelow, running, judging}
+use Rattle.agent_attempt.specs.Going.{held_at, Stays, Advances, exit_at, AfterRun, Fails, FromJudging, FromStage, Through, GoesOn}
 use Rattle.agent_attempt.specs.Stages.{AttemptState, IsRun, IsStage, shown_attempt, shown_stage}
 use Rattle.agent_attempt.specs.AttemptSteps.{StepsBy, StepsTo, first_component, stage_behind, stage_weight, weight_of, with_stage}
 use Rattle.agent_attempt.proofs.Alike.{judging_alike, through_alike}
 use Rattle.agent_attempt.proofs.Runs.{advances_from, left_runs, exit_from, walk_waits}
 use Rattle.agent_attempt.proofs.Stepping.{fail_from, steps_at}
 
+-- an answer by the file that it wants
+is_wanted : (came : Ran) (digest : List ℕ) → wanted_by came ≡ Some digest → (line : ℕ) × (came ≡ ran.Wants line digest)
+is_wanted (ran.Wants line own) digest e = (line, ap (ran.Wants line) (same_Some own digest e))
+is_wanted came digest e = absurd (cc)
+
+-- a script that waits for a file wants it again
+wants_stays : (at : When) (a : PlainAttempt) (part : Part) (left : List Part) (past : Past) (walk further : Walk) (digest : List ℕ) (old mid : MachineView) (came : Ran) → advance.WantsAgain digest old walk came mid further →
+    (answer : Went) (later : MachineView) (after : Option PlainAttempt) → AfterRun at a part left (Through at a left) came further past mid answer later after →
+    Stays a (part ∷ left) (running walk (Some digest)) (went.Wants digest) past old answer later after
+wants_stays at a part left past walk further digest old mid came again answer later after k =
+    let is = is_wanted came digest again.wants in
+    let stays : Stays a (part ∷ left) (running further (Some digest)) (went.Wants digest) past mid answer later after =
+    subst (λ (r : Ran). AfterRun at a part left (Through at a left) r further past mid answer later after) is.1 k in
+    (stays.0, stays.1 ∙ again.machine, stays.2 ∙ (λ i. Some (held_at a (part ∷ left) (running (again.same i) (Some digest)) past)))
+
+-- the stage of a script that went on, by the file that it wanted
+run_leads : (at : When) (a : PlainAttempt) (part : Part) (left : List Part) (past : Past) (walk further : Walk) (wanted : Option (List ℕ)) (old mid : MachineView) (came : Ran) → Advances at old walk came mid further →
+    ((digest : List ℕ) → wanted ≡ Some digest → advance.WantsAgain digest old walk came mid further) →
+    (answer : Went) (later : MachineView) (after : Option PlainAttempt) → AfterRun at a part left (Through at a left) came further past mid answer later after →
+    FromStage at a part left (running walk wanted) past old answer later after
+run_leads at a part left past walk further None old mid came advances again answer later after k = (came, mid, further, advances, k)
+run_leads at a part left past walk further (Some digest) old mid came advances again answer later after k =
+    wants_stays at a part left past walk further digest old mid came (again digest refl) answer later after k
+
 -- the script went on, and then this step was made
 pub run_steps : (at : When) (s : AttemptState) (part : Part) (left : List Part) (walk further : Walk) (wanted : Option (List ℕ)) (old mid now : MachineView) (came : Ran) (result : Option Went) (new : PlainAttempt) →
-    s.left ≡ part ∷ left → Advances at old walk came mid further →
+    s.left ≡ part ∷ left → Advances at old walk came mid further → ((digest : List ℕ) → wanted ≡ Some digest → advance.WantsAgain digest old walk came mid further) →
     StepsBy at (AfterRun at (with_stage (running walk wanted) (shown_attempt s)) part left (Through at (with_stage (running walk wanted) (shown_attempt s)) left) came further) s.past mid result now new →
     StepsTo at (with_stage (running walk wanted) (shown_attempt s)) old result now new
-run_steps at s part left walk further wanted old mid now came result new e advances h =
+run_steps at s part left walk further wanted old mid now came result new e advances again h =
     let b = with_stage (running walk wanted) (shown_attempt s) in
-    steps_at at b part left (AfterRun at b part left (Through at b left) came further) s.past old mid now result new e (λ answer later after k. (came, mid, further, advances, k)) h
+    steps_at at b part left (AfterRun at b part left (Through at b left) came further) s.past old mid now result new e (run_leads at b part left s.past walk further wanted old mid came advances again) h
 
 -- the attempt with one stage, where another stood before
 stands_at : (before plain : PlainStage) (s : AttemptState) (part : Part) (left : List Part) → s.left ≡ part ∷ left → shown_stage s.stage ≡ plain →

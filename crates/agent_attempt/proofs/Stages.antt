@@ -43,25 +43,24 @@ come_starts at s a part left machine is e answer later after k =
     starting_alike at (shown_attempt s) (part ∷ left) starting s.past part left _ _ (through_alike at (shown_attempt s) (part ∷ left) starting s.past left) s.past machine answer later after there
 
 -- ---- starting
--- the script begins, and stands before its first line
-pub start_runs : (at : When) (s a : AttemptState) (part : Part) (left : List Part) (script : PlainScript) (run : Run) (machine : MachineView) → a ≡ s → s.left ≡ part ∷ left →
+-- the script begins, and stands before its first line, where no file is wanted
+pub start_runs : (at : When) (s a : AttemptState) (part : Part) (left : List Part) (script : PlainScript) (run : Run) (machine : MachineView) → a ≡ s → s.left ≡ part ∷ left → wanted_at run.place ≡ None →
     IsVerdict part.fixlet.script (Ok script) → Stands script (issue_date (shown_attempt s)) run [] →
     StepsTo at (with_stage starting (shown_attempt s)) machine None machine (shown_attempt (record a { stage = stage.Running run }))
-start_runs at s a part left script run machine is e verdict stands =
+start_runs at s a part left script run machine is e none verdict stands =
     let b = with_stage starting (shown_attempt s) in
     let walk : Walk = from run in
-    let wanted = wanted_at run.place in
     let same : walk ≡ standing script (issue_date (shown_attempt s)) = λ i more. sym (stands more) i in
     steps_at at b part left (FromStarting at b part left (Through at b left)) s.past machine machine machine None (shown_attempt (record a { stage = stage.Running run })) e (λ answer later after k. k)
     (λ answer later after k.
-    let there : GoesOn at (held_at b (part ∷ left) (running walk wanted) s.past) machine answer later after =
+    let there : GoesOn at (held_at b (part ∷ left) (running walk None) s.past) machine answer later after =
     subst (λ (x : PlainAttempt). GoesOn at x machine answer later after)
-    (ap (λ (x : AttemptState). shown_attempt (record x { stage = stage.Running run })) is ∙ (λ i. held_at b (e i) (running walk wanted) s.past)) k in
+    (ap (λ (x : AttemptState). shown_attempt (record x { stage = stage.Running run })) is ∙ (λ i. held_at b (e i) (running walk (none i)) s.past)) k in
     inr (
       script,
       verdict,
       subst (λ (w : Walk). FromRunning at b part left w (Through at b left) s.past machine answer later after) same
-          (running_alike at b (part ∷ left) (running walk wanted) s.past part left walk _ _ (through_alike at b (part ∷ left) (running walk wanted) s.past left) s.past machine answer later after there),
+          (running_alike at b (part ∷ left) (running walk None) s.past part left walk _ _ (through_alike at b (part ∷ left) (running walk None) s.past left) s.past machine answer later after there),
     ))
 
 -- the script has still to begin

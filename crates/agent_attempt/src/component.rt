@@ -97,6 +97,7 @@ impl Attempt {
         ensures opens { IfOk result (λ run. (part : Part) (left : List Part) → self.now.left ≡ part ∷ left
             → OpensRun part.fixlet.script (issue_date (shown_attempt self.now)) run) }
         ensures waits { IfOk result (λ run. (started : ℕ) → WaitsBelow started run.place) }
+        ensures wanted { IfOk result (λ run. wanted_at run.place ≡ None) }
     {
         let script = self.script()?;
         let parameters = self.parameters(alloc)?;

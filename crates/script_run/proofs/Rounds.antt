@@ -16,20 +16,23 @@ use Rattle.rel_eval.specs.declared.told.OneText.{OneText}
 use Rattle.rel_eval.specs.declared.told.OneText.TheVariants as one_text
 use Rattle.rel_eval.specs.declared.told.Truth.{Truth}
 use Rattle.rel_eval.specs.declared.told.Truth.TheVariants as truth
+use Rattle.script_text.specs.declared.prefetch.Prefetch.{Prefetch}
 use Rattle.script_text.specs.Scripts.{PlainScript}
 use Rattle.script_run.specs.declared.ran.Ran.{Ran}
 use Rattle.script_run.specs.declared.ran.Ran.TheVariants as ran
 use Rattle.script_run.specs.declared.place.Place.{Place}
+use Rattle.script_run.specs.declared.place.Place.TheVariants.{Wanting}
 use Rattle.script_run.specs.declared.run.Run.{Run}
 use Rattle.script_run.specs.Walks.{Known, Settled, said, judged, acted, polled, fault_in, faults_in, Next, is_midway, Says, Tests, Pauses, Does, Polls, Stop, Walk, Rest}
+use Rattle.script_run.specs.LineWalks.{fetching}
 use Rattle.script_run.specs.ScriptWalks.{standing, after, command_of, commands_in}
 use Rattle.script_run.specs.Machines.{MachineView, ActsOn, PollsOn}
 use Rattle.script_run.specs.Asking.{When, when_of, known_in, SaysOn, JudgesOn}
 use Rattle.script_run.specs.RunSteps.{Settles, Comes, Any, IsTextOf, StarvesAsking, Starves, Holds, Stops}
-use Rattle.script_run.specs.RunPlaces.{MemoryLeaves, WaitsBelow, place_walk, from}
+use Rattle.script_run.specs.RunPlaces.{MemoryLeaves, WaitsBelow, place_walk, from, wanted_at}
 use Rattle.script_run.specs.Weights.{place_weight}
-use Rattle.script_run.specs.Advances.{GoesOn}
-use Rattle.script_run.specs.Fills.{Reaches, StepsTo, Falls}
+use Rattle.script_run.specs.Advances.{GoesOn, WantsAgain}
+use Rattle.script_run.specs.Fills.{Again, Falls, Reaches, StepsTo, Unmoved}
 use Rattle.script_run.proofs.Chains.{comes_along, reach_then}
 use Rattle.script_run.proofs.Fresh.{fresh_from}
 
@@ -45,6 +48,17 @@ pub falls_at : (x y : Place) (around new : ℕ) (result : Option Ran) → x ≡ 
 falls_at x y around new result e h =
     let P : Place → Type 0 = λ p. Falls result (place_weight p + around) new in
     subst P (sym e) h
+
+-- a file that is wanted, seen from the place by its name
+pub again_at : (old : MachineView) (x : Place) (fetch : Prefetch) (rest : Rest) (known : Known) (result : Option Ran) (new : MachineView) (left : Walk) →
+    x ≡ Wanting fetch → Again (Some fetch.sha256) old (fetching fetch rest known) result new left → Again (wanted_at x) old (λ more. place_walk x rest known more) result new left
+again_at old x fetch rest known result new left e h =
+    let P : Place → Type 0 = λ p. Again (wanted_at p) old (λ more. place_walk p rest known more) result new left in
+    subst P (sym e) h
+
+-- elsewhere no file is wanted
+pub none_again : (wanted : Option (List ℕ)) (old : MachineView) (f : Walk) (result : Option Ran) (new : MachineView) (left : Walk) → wanted ≡ None → Again wanted old f result new left
+none_again wanted old f result new left e = let P : Option (List ℕ) → Type 0 = λ w. Again w old f result new left in subst P (sym e) tt
 
 -- ---- what results leave
 settled_grows : (at : When) (known : Known) (next : Next) (old : MachineView) (result : Settled) (new : MachineView) →
@@ -172,6 +186,28 @@ round_stops at own old f mid g result r new left e some a h =
     let k : StepsTo at mid g (Some r) new left = subst (λ (q : Option Ran). P at q) some (subst (λ (w : When). P w result) e h) in
     (k.0, reach_then Any at old f mid g k.0 left a k.1, k.2)
 
+-- before the first step nothing is moved
+pub unmoved_first : (wanted : Option (List ℕ)) (old : MachineView) (f : Walk) → Unmoved wanted old f wanted old f
+unmoved_first None old f = tt
+unmoved_first (Some digest) old f = (refl, refl, refl)
+
+-- a step that goes on isn't made where a file is wanted
+pub unmoved_goes : (first wanted later : Option (List ℕ)) (old : MachineView) (f : Walk) (mid : MachineView) (g : Walk) (result : Option Ran) (new : MachineView) (left : Walk) →
+    result ≡ None → Unmoved first old f wanted mid g → Again wanted mid g result new left → Unmoved first old f later new left
+unmoved_goes None wanted later old f mid g result new left none a h = tt
+unmoved_goes (Some digest) wanted later old f mid g result new left none a h =
+    let P : Option (List ℕ) → Option Ran → Type 0 = λ w r. Again w mid g r new left in
+    let k : ⊥ = subst (λ (r : Option Ran). P (Some digest) r) none (subst (λ (w : Option (List ℕ)). P w result) a.0 h) in
+    absurd k
+
+pub again_stops : (first wanted : Option (List ℕ)) (old : MachineView) (f : Walk) (mid : MachineView) (g : Walk) (result : Option Ran) (r : Ran) (new : MachineView) (left : Walk) →
+    result ≡ Some r → Unmoved first old f wanted mid g → Again wanted mid g result new left → Again first old f (Some r) new left
+again_stops None wanted old f mid g result r new left some a h = tt
+again_stops (Some digest) wanted old f mid g result r new left some a h =
+    let P : Option (List ℕ) → Option Ran → Type 0 = λ w q. Again w mid g q new left in
+    let k : WantsAgain digest mid g r new left = subst (λ (q : Option Ran). P (Some digest) q) some (subst (λ (w : Option (List ℕ)). P w result) a.0 h) in
+    record { wants = k.wants; machine = k.machine ∙ a.1; same = k.same ∙ a.2 }
+
 pub moment_along : (a b : When) → a ≡ b → IsMoment b.moment → IsMoment a.moment
 moment_along a b e h = let P : When → Type 0 = λ w. IsMoment w.moment in subst P (sym e) h
 
@@ -222,3 +258,12 @@ pub advances : (at : When) (script : PlainScript) (given : List Pair) (settled :
 advances at script given settled old r new place rest before now run known time stood h leaves =
     let P : When → Type 0 = λ w. StepsTo w old (λ more. place_walk place rest (known_in now) more) (Some r) new (from run) in
     goes_on at script given settled old r new (λ more. place_walk place rest (known_in now) more) run (λ more. stood more ∙ ap (λ (k : Known). place_walk place rest k more) (sym known)) (subst P time h) leaves
+
+-- a file that is wanted is wanted again, where the time was set before
+pub advances_again : (digest : List ℕ) (old : MachineView) (r : Ran) (new : MachineView) (place : Place) (rest : Rest) (before now : Scene) (left : Walk) →
+    known_in now ≡ known_in before → wanted_at place ≡ Some digest → Again (wanted_at place) old (λ more. place_walk place rest (known_in now) more) (Some r) new left →
+    WantsAgain digest old (λ more. place_walk place rest (known_in before) more) r new left
+advances_again digest old r new place rest before now left known wants h =
+    let P : Option (List ℕ) → Type 0 = λ w. Again w old (λ more. place_walk place rest (known_in now) more) (Some r) new left in
+    let k : WantsAgain digest old (λ more. place_walk place rest (known_in now) more) r new left = subst P wants h in
+    record { wants = k.wants; machine = k.machine; same = k.same ∙ (λ i more. place_walk place rest (known i) more) }

@@ -35,6 +35,6 @@ wanted_by _ = None
 
 -- A run that wants a file wants it again, and nothing else changes.
 pub record WantsAgain (digest : List ℕ) (old : MachineView) (rest : Walk) (answer : Ran) (new : MachineView) (left : Walk) : Type 0 where
-  pub answer : wanted_by answer ≡ Some digest
+  pub wants : wanted_by answer ≡ Some digest
   pub machine : new ≡ old
   pub same : left ≡ rest

@@ -33,7 +33,7 @@ use Rattle.script_run.specs.Machines.{MachineView}
 use Rattle.script_run.specs.Asking.{When, SaysText, JudgesText}
 use Rattle.script_run.specs.RunPlaces.{place_walk, todo_walk, WaitsBelow, wanted_at, MemoryLeaves}
 use Rattle.script_run.specs.Weights.{place_weight, todo_weight}
-use Rattle.script_run.specs.Advances.{wanted_by}
+use Rattle.script_run.specs.Advances.{WantsAgain, wanted_by}
 use Rattle.script_run.specs.RunSteps.{Comes, Any, IsTextOf, Starves, Holds, Stops}
 
 -- From a walk on results came, and this is left of it.
@@ -117,6 +117,17 @@ pub record IsRestored (line : ℕ) (what : Line) (old new : Run) : Type 0 where
 abbrev pub Rests : Option Ran → Place → Type 0
 Rests None place = ⊤
 Rests (Some ran) place = (wanted_at place ≡ wanted_by ran) × MemoryLeaves ran place
+
+-- Where a file is wanted the one step is that it is wanted again.
+abbrev pub Again : Option (List ℕ) → MachineView → Walk → Option Ran → MachineView → Walk → Type 0
+Again None old rest result new left = ⊤
+Again (Some digest) old rest None new left = ⊥
+Again (Some digest) old rest (Some ran) new left = WantsAgain digest old rest ran new left
+
+-- Where a file was wanted no step was made.
+abbrev pub Unmoved : Option (List ℕ) → MachineView → Walk → Option (List ℕ) → MachineView → Walk → Type 0
+Unmoved None old rest wanted new left = ⊤
+Unmoved (Some digest) old rest wanted new left = (wanted ≡ Some digest) × (new ≡ old) × (left ≡ rest)
 
 -- Of a list the first line was taken out, and the place is before it; or it is empty.
 abbrev pub BeginsAt : Todo → Option Place → Todo → Type 0

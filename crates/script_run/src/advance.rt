@@ -10,7 +10,7 @@ ghost use Rattle.script_run.specs.Asking.{when_of};
 ghost use Rattle.script_run.specs.RunPlaces.{MemoryLeaves, Stands, WaitsBelow, from, wanted_at};
 ghost use Rattle.script_run.specs.Weights.{run_weight};
 ghost use Rattle.script_run.specs.Advances.{GoesOn, WantsAgain, wanted_by};
-ghost use Rattle.script_run.specs.Fills.{StepsTo, Falls, Rests};
+ghost use Rattle.script_run.specs.Fills.{Again, StepsTo, Falls, Rests};
 
 use crate::place::Place;
 use crate::{Ran, Run};
@@ -62,6 +62,9 @@ impl Run {
         ensures waits { WaitsBelow (M.started machine.new) self.new.place }
         ensures started { M.started machine.old ≤ M.started machine.new }
         ensures rests { Rests (Some result) self.new.place }
+        ensures again { Again (wanted_at self.old.place)
+            (view (M.world machine.old) (M.looked machine.old) (M.acted machine.old) (M.polled machine.old) (M.faults machine.old)) (from self.old) (Some result)
+            (view (M.world machine.new) (M.looked machine.new) (M.acted machine.new) (M.polled machine.new) (M.faults machine.new)) (from self.new) }
     {
         'rounds: loop {
             match self.step(alloc, machine) {
@@ -83,6 +86,9 @@ impl Run {
         ensures waits { WaitsBelow (M.started machine.new) self.new.place }
         ensures started { M.started machine.old ≤ M.started machine.new }
         ensures rests { Rests result self.new.place }
+        ensures again { Again (wanted_at self.old.place)
+            (view (M.world machine.old) (M.looked machine.old) (M.acted machine.old) (M.polled machine.old) (M.faults machine.old)) (from self.old) result
+            (view (M.world machine.new) (M.looked machine.new) (M.acted machine.new) (M.polled machine.new) (M.faults machine.new)) (from self.new) }
         ensures falls { Falls result (run_weight self.old) (run_weight self.new) }
         ensures time { when_of self.new.kept.scene ≡ when_of self.old.kept.scene }
     {

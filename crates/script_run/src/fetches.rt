@@ -1,5 +1,5 @@
 // The steps of a prefetch line: its file is wanted, compared and placed.
-ghost use Rattle.std.specs.Prelude.{◌≡◌, ◌+◌, ◌≤◌, ℕ, false, List, None};
+ghost use Rattle.std.specs.Prelude.{◌≡◌, ◌+◌, ◌≤◌, ℕ, false, List, Some, None};
 ghost use Rattle.desk_base.specs.Moments.{IsMoment};
 ghost use Rattle.line_forms.specs.Numbers.{IsOffset};
 ghost use Rattle.script_run.specs.Walks.{doing};
@@ -8,7 +8,7 @@ ghost use Rattle.script_run.specs.Machines.{MachineView, view};
 ghost use Rattle.script_run.specs.Asking.{When, when_of, known_in};
 ghost use Rattle.script_run.specs.RunPlaces.{WaitsBelow, around, from};
 ghost use Rattle.script_run.specs.Weights.{around_weight, run_weight};
-ghost use Rattle.script_run.specs.Fills.{StepsTo, Falls, Rests};
+ghost use Rattle.script_run.specs.Fills.{Again, StepsTo, Falls, Rests};
 
 use crate::compare::mismatch;
 use crate::place::Place;
@@ -28,6 +28,7 @@ impl Run {
         ensures time { when_of self.new.kept.scene ≡ when_of self.old.kept.scene }
         ensures waits { (started : ℕ) → WaitsBelow started self.new.place }
         ensures rests { Rests result self.new.place }
+        ensures again { (machine : MachineView) → Again (Some fetch.sha256) machine (fetching fetch (around self.old) (known_in self.old.kept.scene)) result machine (from self.new) }
     {
         let ran = Ran::Wants(fetch.line, fetch.sha256);
         self.place = Place::Wanting { fetch };

@@ -28,7 +28,7 @@ returns-clause-steps g c =
     let moment : SFits w64 c.moment.result = search rules in
     let offset : SFits w64 c.offset.result = search rules in
     let a = run_advances c.args.time.now _ c.args.run left _ _ c.advance-ran.result c.requires.run (λ i. record { moment = (to_z-of_z w64 c.moment.result moment ∙ c.moment.ensures.value) i; offset = (to_z-of_z w64 c.offset.result offset ∙ c.offset.ensures.value) i }) c.advance-ran.ensures.goes_on in
-    run_steps c.args.time.now s p.0 p.1 (from c.args.run) (from left) (wanted_at c.args.run.place) _ _ _ c.advance-ran.result c.after_run.result (shown_attempt c.after_run.new.self) p.2 a.0
+    run_steps c.args.time.now s p.0 p.1 (from c.args.run) (from left) (wanted_at c.args.run.place) _ _ _ c.advance-ran.result c.after_run.result (shown_attempt c.after_run.new.self) p.2 a.0 c.advance-ran.ensures.again
     (after_named c.args.time.now before s _ p.0 p.1 (from left) _ c.advance-ran.result c.after_run.result (shown_attempt c.after_run.new.self) c.self.view_is
     (c.after_run.ensures.steps c.args.time.now before left _ p.0 p.1 (ap (λ (x : AttemptState). x.left) c.self.view_is ∙ p.2) c.stage_behind.ensures c.advance-ran.ensures.wanted (run_exit left c.exit-exit.result a.1 c.exit-exit.ensures)))
 

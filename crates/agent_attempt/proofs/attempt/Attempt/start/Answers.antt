@@ -11,7 +11,7 @@ pub returns-in-Ok-clause-steps : goal.returns-in-Ok-clause-steps
 returns-in-Ok-clause-steps c = λ at machine.
     let p = first_of c.args.self.now.left c.requires.some in
     let o = c.in-Ok.ensures.opens p.0 p.1 p.2 in
-    start_runs at c.args.self.now _ p.0 p.1 o.0 c.in-Ok.run' machine c.self.view_is p.2 o.1 o.2
+    start_runs at c.args.self.now _ p.0 p.1 o.0 c.in-Ok.run' machine c.self.view_is p.2 c.in-Ok.ensures.wanted o.1 o.2
 
 pub returns-in-Ok-clause-waits : goal.returns-in-Ok-clause-waits
 returns-in-Ok-clause-waits c = λ started. walk_waits started c.in-Ok.run' (c.in-Ok.ensures.waits started)

@@ -1,9 +1,9 @@
-use Rattle.std.proofs.Common.{sym, ◌∙◌}
+use Rattle.std.proofs.Common.{sym, ap, ◌∙◌}
 use Rattle.script_run.specs.declared.place.Place.TheVariants.{Ready, Wanting, Supplied, Placing, Doing, Waiting, Testing, Asking, Done, Failed}
 use Rattle.script_run.specs.Asking.{known_in}
-use Rattle.script_run.specs.RunPlaces.{around}
+use Rattle.script_run.specs.RunPlaces.{around, wanted_at}
 use Rattle.script_run.specs.Weights.{around_weight}
-use Rattle.script_run.proofs.Rounds.{step_at, falls_at}
+use Rattle.script_run.proofs.Rounds.{step_at, falls_at, again_at, none_again}
 use Rattle.script_run.proofs.run.Run.step.Goals as goal
 
 pub returns-in-Ready-clause-steps : goal.returns-in-Ready-clause-steps
@@ -103,3 +103,34 @@ returns-in-Done-clause-waits g c = c.end.ensures.waits (g.M.Machine.started c.ar
 
 pub returns-in-Failed-clause-waits : goal.returns-in-Failed-clause-waits
 returns-in-Failed-clause-waits g c = c.tell.ensures.waits (g.M.Machine.started c.args.machine.now)
+
+pub returns-in-Ready-clause-again : goal.returns-in-Ready-clause-again
+returns-in-Ready-clause-again g c = none_again (wanted_at c.args.self.now.place) _ _ _ _ _ (ap wanted_at (sym c.replace.ensures.value ∙ c.in-Ready.is))
+
+pub returns-in-Wanting-clause-again : goal.returns-in-Wanting-clause-again
+returns-in-Wanting-clause-again g c =
+    again_at _ c.args.self.now.place c.in-Wanting.fetch (around c.args.self.now) (known_in c.args.self.now.kept.scene) _ _ _ (sym c.replace.ensures.value ∙ c.in-Wanting.is) (c.want.ensures.again _)
+
+pub returns-in-Supplied-clause-again : goal.returns-in-Supplied-clause-again
+returns-in-Supplied-clause-again g c = none_again (wanted_at c.args.self.now.place) _ _ _ _ _ (ap wanted_at (sym c.replace.ensures.value ∙ c.in-Supplied.is))
+
+pub returns-in-Placing-clause-again : goal.returns-in-Placing-clause-again
+returns-in-Placing-clause-again g c = none_again (wanted_at c.args.self.now.place) _ _ _ _ _ (ap wanted_at (sym c.replace.ensures.value ∙ c.in-Placing.is))
+
+pub returns-in-Doing-clause-again : goal.returns-in-Doing-clause-again
+returns-in-Doing-clause-again g c = none_again (wanted_at c.args.self.now.place) _ _ _ _ _ (ap wanted_at (sym c.replace.ensures.value ∙ c.in-Doing.is))
+
+pub returns-in-Waiting-clause-again : goal.returns-in-Waiting-clause-again
+returns-in-Waiting-clause-again g c = none_again (wanted_at c.args.self.now.place) _ _ _ _ _ (ap wanted_at (sym c.replace.ensures.value ∙ c.in-Waiting.is))
+
+pub returns-in-Testing-clause-again : goal.returns-in-Testing-clause-again
+returns-in-Testing-clause-again g c = none_again (wanted_at c.args.self.now.place) _ _ _ _ _ (ap wanted_at (sym c.replace.ensures.value ∙ c.in-Testing.is))
+
+pub returns-in-Asking-clause-again : goal.returns-in-Asking-clause-again
+returns-in-Asking-clause-again g c = none_again (wanted_at c.args.self.now.place) _ _ _ _ _ (ap wanted_at (sym c.replace.ensures.value ∙ c.in-Asking.is))
+
+pub returns-in-Done-clause-again : goal.returns-in-Done-clause-again
+returns-in-Done-clause-again g c = none_again (wanted_at c.args.self.now.place) _ _ _ _ _ (ap wanted_at (sym c.replace.ensures.value ∙ c.in-Done.is))
+
+pub returns-in-Failed-clause-again : goal.returns-in-Failed-clause-again
+returns-in-Failed-clause-again g c = none_again (wanted_at c.args.self.now.place) _ _ _ _ _ (ap wanted_at (sym c.replace.ensures.value ∙ c.in-Failed.is))
