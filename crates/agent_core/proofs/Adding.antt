@@ -7,7 +7,8 @@ use Rattle.agent_text.specs.declared.pocket.SaveResult.TheVariants as save
 use Rattle.agent_text.specs.Pockets.{Saves}
 use Rattle.agent_core.specs.declared.turned.Turned.{Turned}
 use Rattle.agent_core.specs.declared.turned.Turned.TheVariants.{PocketFault, Memory}
-use Rattle.agent_core.specs.States.{State, Devices, next_report, text_of, with_histories}
+use Rattle.agent_state.specs.States.{State, next_report, text_of, with_histories}
+use Rattle.agent_core.specs.Devices.{Devices}
 use Rattle.agent_core.specs.Turns.{Marks, Turn}
 use Rattle.agent_core.proofs.TurnPoints.{Keeps, turn_keeps}
 

@@ -10,7 +10,8 @@ use Rattle.agent_text.specs.SavedTexts.{IsSaved}
 use Rattle.agent_attempt.specs.Attempts.{PlainAttempt}
 use Rattle.agent_attempt.specs.Going.{SameAttempt}
 use Rattle.agent_core.specs.declared.turned.Turned.{Turned}
-use Rattle.agent_core.specs.States.{Devices, HeldRuns, IsSound, State, interrupted, next_row, saved_of, text_of, with_beginning, with_histories, with_report}
+use Rattle.agent_state.specs.States.{HeldRuns, IsSound, State, interrupted, next_row, saved_of, text_of, with_beginning, with_histories, with_report}
+use Rattle.agent_core.specs.Devices.{Devices}
 use Rattle.agent_core.specs.Stops.{Agrees, HasRow}
 use Rattle.agent_core.specs.Turns.{Marks, Turn}
 use Rattle.agent_core.proofs.Due.{due_may}

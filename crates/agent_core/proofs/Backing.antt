@@ -11,7 +11,8 @@ use Rattle.agent_text.specs.Pockets.{Holds}
 use Rattle.agent_attempt.specs.declared.found.Found.{Found}
 use Rattle.agent_attempt.specs.Attempts.{PlainAttempt}
 use Rattle.agent_core.specs.declared.turned.Turned.{Turned}
-use Rattle.agent_core.specs.States.{Devices, HeldRuns, IsSound, State, as_saved, next_row, text_of, with_beginning, with_histories, with_report, with_unsaved}
+use Rattle.agent_state.specs.States.{HeldRuns, IsSound, State, as_saved, next_row, text_of, with_beginning, with_histories, with_report, with_unsaved}
+use Rattle.agent_core.specs.Devices.{Devices}
 use Rattle.agent_core.specs.Stops.{Agrees, HasRow, TurnIsBacked}
 use Rattle.agent_core.specs.Turns.{Marks, Turn, outcome_of}
 use Rattle.agent_core.proofs.Agreeing.{Backs, agrees_backs, backs_own, has_own}
@@ -20,7 +21,7 @@ use Rattle.agent_core.proofs.Begun.{ChangedHistories, marked_kept, saved_beginni
 use Rattle.agent_core.proofs.Holding.{after_done, after_failed, after_memory}
 use Rattle.agent_core.proofs.Quiet.{IsQuiet, content_quiet, due_quiet}
 use Rattle.agent_core.proofs.RowCounts.{begun_there, count_begun, count_cleared, count_ended, held_row}
-use Rattle.agent_core.proofs.RowsAt.{rows_reported}
+use Rattle.agent_state.proofs.RowsAt.{rows_reported}
 use Rattle.agent_core.proofs.Sounding.{sound_saved}
 use Rattle.agent_core.proofs.TurnPoints.{Keeps, turn_keeps, with_machine, with_pocket}
 

@@ -17,7 +17,7 @@ use Rattle.agent_text.specs.SavedRows.{IsSavedNote, IsSavedRow}
 use Rattle.agent_text.specs.SavedTexts.{IsSaved}
 use Rattle.agent_attempt.specs.ActionContents.{actions_of}
 use Rattle.agent_attempt.specs.Relevance.{MayBegin}
-use Rattle.agent_core.specs.States.{IsSound, State, broken_action, interrupted, new_row, next_row, saved_of, with_beginning, with_histories}
+use Rattle.agent_state.specs.States.{IsSound, State, broken_action, interrupted, new_row, next_row, saved_of, with_beginning, with_histories}
 use Rattle.agent_core.specs.Turns.{may_clear}
 use Rattle.agent_core.proofs.Due.{owed_ended}
 use Rattle.agent_core.proofs.GatheredIds.{gathered_ids}

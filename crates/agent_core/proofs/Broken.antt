@@ -5,7 +5,7 @@ use Rattle.std.specs.List.{find}
 use Rattle.std.specs.Option.{option_map}
 use Rattle.agent_text.specs.declared.history.History.{History}
 use Rattle.agent_text.specs.Histories.{PlainHistory, shown_history}
-use Rattle.agent_core.specs.States.{State, broken_action, is_broken}
+use Rattle.agent_state.specs.States.{State, broken_action, is_broken}
 
 find_shown : {X Y : Type 0} (f : X → Y) (q : Y → Bool) (xs : List X) → option_map f (find (λ x. q (f x)) xs) ≡ find q (map f xs)
 find_shown f q [] = refl

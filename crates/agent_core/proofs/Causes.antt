@@ -7,7 +7,8 @@ use Rattle.agent_text.specs.declared.pocket.SaveResult.TheVariants as save
 use Rattle.agent_attempt.specs.declared.found.Found.{Found}
 use Rattle.agent_attempt.specs.declared.found.Found.TheVariants as found
 use Rattle.agent_core.specs.declared.turned.Turned.{Turned}
-use Rattle.agent_core.specs.States.{Devices, PocketView, State}
+use Rattle.agent_state.specs.States.{State}
+use Rattle.agent_core.specs.Devices.{Devices, PocketView}
 use Rattle.agent_core.specs.Saving.{SavesOn}
 use Rattle.agent_core.specs.Stops.{TurnHasCause}
 use Rattle.agent_core.specs.Turns.{Turn}

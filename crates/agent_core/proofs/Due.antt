@@ -17,7 +17,7 @@ use Rattle.agent_attempt.specs.declared.found.Found.TheVariants.{Yes, No, Failed
 use Rattle.agent_attempt.specs.Attempts.{PlainAttempt, StageWaitsBelow, first_stage}
 use Rattle.agent_attempt.specs.ActionContents.{Content, single, group}
 use Rattle.agent_attempt.specs.Relevance.{ContentIs, HasScript, FixletIs, IsDue, MayBegin, and_then}
-use Rattle.agent_core.specs.States.{State, with_histories}
+use Rattle.agent_state.specs.States.{State, with_histories}
 use Rattle.agent_core.specs.Steps.{CanBegin}
 use Rattle.agent_core.specs.Turns.{beginning}
 

@@ -28,8 +28,9 @@ use Rattle.agent_core.specs.declared.turned.Turned.{Turned}
 use Rattle.agent_core.specs.declared.turned.Turned.TheVariants as turned
 use Rattle.agent_core.specs.Agents.{AgentState, shown_state}
 use Rattle.agent_core.specs.Alike.{AllFetchAtMost, AttemptWantsAtMost, FetchesAtMost, StageWantsAtMost, WantsAtMost, tail_of, want_in, wants_in}
-use Rattle.agent_core.specs.Changes.{SuppliesHeld}
-use Rattle.agent_core.specs.States.{Devices, State}
+use Rattle.agent_state.specs.Changes.{SuppliesHeld}
+use Rattle.agent_state.specs.States.{State}
+use Rattle.agent_core.specs.Devices.{Devices}
 use Rattle.agent_core.specs.Turns.{Turn}
 use Rattle.agent_core.proofs.FewWants.{script_few}
 use Rattle.agent_core.proofs.TurnPoints.{Keeps, turn_keeps}

@@ -15,7 +15,8 @@ use Rattle.agent_attempt.specs.Attempts.{PlainAttempt}
 use Rattle.agent_attempt.specs.Going.{GoesTo}
 use Rattle.agent_core.specs.declared.turned.Turned.{Turned}
 use Rattle.agent_core.specs.declared.turned.Turned.TheVariants.{Interrupted, Held, Wants, Ended, PocketFault, Memory}
-use Rattle.agent_core.specs.States.{Devices, PocketView, State, as_saved, broken_action, can_report, interrupted, text_of, with_end, with_held, with_report, with_unsaved}
+use Rattle.agent_state.specs.States.{State, as_saved, broken_action, can_report, interrupted, text_of, with_end, with_held, with_report, with_unsaved}
+use Rattle.agent_core.specs.Devices.{Devices, PocketView}
 use Rattle.agent_core.specs.Saving.{OrMemory, SavesOn}
 use Rattle.agent_core.specs.Steps.{after_save}
 use Rattle.agent_core.specs.Turns.{Finishes, FirstSave, Goes, Interrupts, LastSave, ReportsAndSaves, StepFor, Steps, Turn, outcome_of}

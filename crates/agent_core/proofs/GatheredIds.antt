@@ -10,8 +10,8 @@ use Rattle.fix_site.specs.declared.block.Block.TheVariants as block
 use Rattle.fix_site.specs.declared.site.Site.{Site}
 use Rattle.fix_site.specs.Sites.{IsSite}
 use Rattle.agent_attempt.specs.ActionContents.{actions_of, site_actions, site_at}
-use Rattle.agent_core.specs.States.{AreGathered}
-use Rattle.agent_core.proofs.SiteActions.{all_actions}
+use Rattle.agent_state.specs.States.{AreGathered}
+use Rattle.agent_state.proofs.SiteActions.{all_actions}
 
 gathered_at : (name : List ℕ) (sites : List Site) → AreGathered sites → IfSome (site_at name sites) IsSite
 gathered_at name [] are = tt

@@ -12,7 +12,7 @@ use Rattle.agent_text.specs.Histories.{PlainHistory, rows_at}
 use Rattle.agent_attempt.specs.Attempts.{PlainAttempt}
 use Rattle.agent_attempt.specs.Going.{SameAttempt}
 use Rattle.agent_attempt.specs.Stages.{AttemptState, shown_attempt}
-use Rattle.agent_core.specs.States.{HeldRuns, State}
+use Rattle.agent_state.specs.States.{HeldRuns, State}
 use Rattle.agent_core.specs.Steps.{after_save}
 use Rattle.agent_core.specs.Stops.{HeldWaitsBelow}
 

@@ -12,13 +12,13 @@ use Rattle.fix_site.specs.declared.action.Action.{Action}
 use Rattle.agent_text.specs.Histories.{AreHistories, PlainHistory, rows_at, with_begun}
 use Rattle.agent_attempt.specs.Stages.{AttemptState, shown_attempt}
 use Rattle.agent_core.specs.declared.parts.Parts.{Parts}
-use Rattle.agent_core.specs.declared.tallies.ActionTally.{ActionTally}
+use Rattle.agent_state.specs.declared.tallies.ActionTally.{ActionTally}
 use Rattle.agent_core.specs.Inside.{IsSoundParts}
-use Rattle.agent_core.specs.Lookups.{TalliesStand}
-use Rattle.agent_core.specs.States.{HeldRuns}
+use Rattle.agent_state.specs.Lookups.{TalliesStand}
+use Rattle.agent_state.specs.States.{HeldRuns}
 use Rattle.agent_core.specs.Steps.{AreMarked}
 use Rattle.agent_core.proofs.MarkedRows.{rows_marked, stands_marked}
-use Rattle.agent_core.proofs.RowsAt.{rows_here, rows_other}
+use Rattle.agent_state.proofs.RowsAt.{rows_here, rows_other}
 
 -- what stands for the rows of an action stands for its rows in other histories
 abbrev pub GoStanding : List PlainHistory → List PlainHistory → Type 0

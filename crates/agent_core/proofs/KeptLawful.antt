@@ -18,7 +18,8 @@ use Rattle.agent_attempt.specs.declared.found.Found.TheVariants as found
 use Rattle.agent_attempt.specs.ActionContents.{actions_of, content_of}
 use Rattle.agent_attempt.specs.Relevance.{IsDue}
 use Rattle.agent_core.specs.declared.turned.Turned.{Turned}
-use Rattle.agent_core.specs.States.{Devices, IsSound, State, interrupted, new_row, next_row, saved_of, text_of, with_beginning, with_histories, with_report}
+use Rattle.agent_state.specs.States.{IsSound, State, interrupted, new_row, next_row, saved_of, text_of, with_beginning, with_histories, with_report}
+use Rattle.agent_core.specs.Devices.{Devices}
 use Rattle.agent_core.specs.Stops.{AreLawful, AreLawfulIn, BothLawful, HaveRules, Table}
 use Rattle.agent_core.specs.Turns.{Marks, Turn, outcome_of}
 use Rattle.agent_core.proofs.Due.{due_may}

@@ -14,7 +14,8 @@ use Rattle.agent_core.specs.declared.turned.Turned.{Turned}
 use Rattle.agent_core.specs.declared.turned.Turned.TheVariants.{MachineFault, PocketFault, Memory}
 use Rattle.agent_core.specs.Opens.{IsAgentOf}
 use Rattle.agent_core.specs.Schedules.{HasSaved, IsMailOf, IsStep, Mail, made, report_of, restarted, saved}
-use Rattle.agent_core.specs.States.{Devices, IsSound, State, as_saved, can_report, next_report, saved_of, text_of, with_histories, with_report}
+use Rattle.agent_state.specs.States.{IsSound, State, as_saved, can_report, next_report, saved_of, text_of, with_histories, with_report}
+use Rattle.agent_core.specs.Devices.{Devices}
 use Rattle.agent_core.specs.Turns.{Marks, Turn}
 use Rattle.agent_core.proofs.Holding.{after_done, holds_so}
 use Rattle.agent_core.proofs.SavedOnce.{OneSaved, own_text, saved_once}

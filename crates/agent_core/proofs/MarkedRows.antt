@@ -2,11 +2,14 @@
 use Rattle.std.proofs.Common.{ℕ, ◌≡◌, ◌+◌, ◌-◌, List, [], ◌∷◌, ◌++◌, length, map, Bool, true, false, cond, eqb, refl, sym, ap, ◌∙◌}
 use Rattle.std.specs.Prelude.{is_some}
 use Rattle.std.proofs.lemmas.List.{length-map, map-append}
+use Rattle.std.proofs.lemmas.List.Elements.{All-weaker}
 use Rattle.act_rules.specs.declared.row.Row.{Row}
 use Rattle.act_rules.specs.declared.tally.Tally.{Tally}
 use Rattle.act_rules.specs.Series.{begun_series, closed_after, closes, is_closed, last_series, series, series_after}
 use Rattle.act_rules.specs.Tallies.{StandsFor, ended_rows}
 use Rattle.agent_text.specs.Histories.{PlainHistory, rows_at}
+use Rattle.agent_state.specs.declared.tallies.ActionTally.{ActionTally}
+use Rattle.agent_state.specs.Lookups.{AllStand}
 use Rattle.agent_core.specs.Steps.{AreMarked, unmarked, unmarked_row}
 
 -- ---- rows without their marks
@@ -90,3 +93,8 @@ rows_unmarked id (h ∷ hs) = by_id (eqb h.action id) (rows_unmarked id hs)
 -- the rows of an action differ at most in marks
 pub rows_marked : (id : ℕ) (hs marked : List PlainHistory) → AreMarked hs marked → map unmarked_row (rows_at id marked) ≡ map unmarked_row (rows_at id hs)
 rows_marked id hs marked are = sym (rows_unmarked id marked) ∙ ap (rows_at id) are ∙ rows_unmarked id hs
+
+-- tallies stand for rows with marks
+pub all_stand_marked : (ts : List ActionTally) (hs marked : List PlainHistory) → AreMarked hs marked → AllStand ts hs → AllStand ts marked
+all_stand_marked ts hs marked are = All-weaker (λ (t : ActionTally). StandsFor t.tally t.retries (rows_at t.action hs)) (λ (t : ActionTally). StandsFor t.tally t.retries (rows_at t.action marked))
+    (λ t stands. stands_marked t.tally t.retries (rows_at t.action hs) (rows_at t.action marked) (rows_marked t.action hs marked are) stands) ts

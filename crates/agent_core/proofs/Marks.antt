@@ -11,10 +11,10 @@ use Rattle.script_run.specs.Machines.{MachineView}
 use Rattle.report_text.specs.declared.report.Report.{Report}
 use Rattle.agent_text.specs.Histories.{PlainHistory, cleared, with_cleared}
 use Rattle.agent_text.specs.SavedTexts.{history_bytes, most_bytes, report_bytes}
-use Rattle.agent_core.specs.Counting.{pending_count}
+use Rattle.agent_state.specs.Counting.{pending_count}
 use Rattle.agent_core.specs.declared.parts.Parts.{Parts}
-use Rattle.agent_core.specs.declared.spare.Spare.{Spare}
-use Rattle.agent_core.specs.States.{State}
+use Rattle.agent_state.specs.declared.spare.Spare.{Spare}
+use Rattle.agent_state.specs.States.{State}
 use Rattle.agent_core.specs.Steps.{AreMarked, Suffices, TestsMark, unmarked, unmarked_row}
 use Rattle.agent_core.specs.Turns.{may_clear}
 use Rattle.agent_core.proofs.Sufficing.{fits}

@@ -20,7 +20,8 @@ use Rattle.agent_core.specs.declared.turned.Turned.TheVariants.{Idle, Interrupte
 use Rattle.agent_core.specs.declared.turned.Turned.TheVariants as turned
 use Rattle.agent_core.specs.Alike.{AlikeHeld, AlikeStages, AlikeStates, NoFaults, TellsWorld}
 use Rattle.agent_core.specs.Saving.{Answers, AsksThen, Ending, SavesOn, SavesThen}
-use Rattle.agent_core.specs.States.{Devices, PocketView, State, as_saved, broken_action, can_report, interrupted, pocket_view, text_of, with_beginning, with_end, with_held, with_histories, with_report, with_unsaved}
+use Rattle.agent_state.specs.States.{State, as_saved, broken_action, can_report, interrupted, text_of, with_beginning, with_end, with_held, with_histories, with_report, with_unsaved}
+use Rattle.agent_core.specs.Devices.{Devices, PocketView, pocket_view}
 use Rattle.agent_core.specs.Turns.{AfterBeginning, AfterFirstSave, AfterGoing, AfterInterrupting, AfterLastSave, AfterTest, AfterTrying, Begins, Clears, Finishes, FirstSave, Goes, Interrupts, LastSave, Marks, ReportsAndSaves, StepFor, Steps, TestsOne, Tries, TriesEach, TriesMarked, Turn, beginning, may_clear, no_marks, outcome_of, with_mark}
 use Rattle.agent_core.proofs.GoingPoints.{Later, going_later, going_leads}
 use Rattle.agent_core.proofs.OneAsking.{Once as FoundOnce, content_once, due_once}

@@ -19,14 +19,15 @@ use Rattle.agent_attempt.specs.Supplies.{Takes}
 use Rattle.agent_core.specs.declared.turned.Turned.{Turned}
 use Rattle.agent_core.specs.Agents.{shown_state}
 use Rattle.agent_core.specs.Calls.{Call, gathers, turns, supplies, settles, restarts, DoAll, Does, IsCall}
-use Rattle.agent_core.specs.Changes.{DropsState, GathersSite, SettlesState, SuppliesHeld, with_site}
+use Rattle.agent_state.specs.Changes.{DropsState, GathersSite, SettlesState, SuppliesHeld, with_site}
 use Rattle.agent_core.specs.Opens.{IsAgentOf, new_state, opened_state}
-use Rattle.agent_core.specs.States.{Devices, IsSound, State}
+use Rattle.agent_state.specs.States.{IsSound, State}
+use Rattle.agent_core.specs.Devices.{Devices}
 use Rattle.agent_core.specs.Stops.{Agrees, AreLawful, AreLawfulIn, BothLawful, HaveRules, IsBacked, IsTextOfSaved, Table}
 use Rattle.agent_core.specs.Turns.{Turn}
 use Rattle.agent_core.proofs.Agreeing.{turn_agrees}
 use Rattle.agent_core.proofs.KeptLawful.{Laws, turn_lawful}
-use Rattle.agent_core.proofs.SiteActions.{actions_of_other, actions_of_own}
+use Rattle.agent_state.proofs.SiteActions.{actions_of_other, actions_of_own}
 use Rattle.agent_core.proofs.TurnPoints.{Keeps, turn_keeps}
 
 -- ---- a turn leaves the sites

@@ -8,7 +8,7 @@ use Rattle.agent_text.specs.SavedTexts.{IsSaved, ReadsSaved, saved_text}
 use Rattle.agent_core.specs.declared.opening.Opened.TheVariants as opening
 use Rattle.agent_core.specs.Agents.{AgentState, shown_state}
 use Rattle.agent_core.specs.Opens.{IsAgentOf, OpensAgent, opened_state}
-use Rattle.agent_core.specs.States.{IsSound, State, saved_of, text_of}
+use Rattle.agent_state.specs.States.{IsSound, State, saved_of, text_of}
 
 -- a text is read again
 abbrev ReadAgain : Type 0

@@ -22,12 +22,12 @@ use Rattle.agent_text.specs.SavedRows.{IsSavedAt, IsSavedRow}
 use Rattle.agent_text.specs.declared.history.History.{History}
 use Rattle.agent_text.specs.Histories.{AreHistories, IsHistory, PlainHistory, report_of_last, report_row, report_rows, reported_note, shown_history, with_reported}
 use Rattle.agent_text.specs.SavedTexts.{AreOutbox, history_bytes, most_bytes, report_bytes}
-use Rattle.agent_core.specs.Counting.{pending_count}
-use Rattle.agent_core.specs.States.{State, can_report, next_report, with_report}
-use Rattle.agent_core.proofs.Dropping.{seq_of}
+use Rattle.agent_state.specs.Counting.{pending_count}
+use Rattle.agent_state.specs.States.{State, can_report, next_report, with_report}
+use Rattle.agent_state.proofs.Dropping.{seq_of}
 use Rattle.agent_core.proofs.HistoryAt.{action_of, counted, is_pending}
 use Rattle.agent_core.proofs.LastRows.{last_holds, last_is, last_number}
-use Rattle.agent_core.proofs.Rising.{increasing_from_rises, Rises, rises_from_increasing, rises_head, rises_tail}
+use Rattle.agent_state.proofs.Rising.{increasing_from_rises, Rises, rises_from_increasing, rises_head, rises_tail}
 
 -- what is reported of a history where it is pending
 abbrev told_of : PlainHistory → List ReportRow

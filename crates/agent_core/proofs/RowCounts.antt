@@ -10,8 +10,8 @@ use Rattle.act_rules.specs.Rows.{AreNumbered, last_row, with_last}
 use Rattle.act_rules.proofs.RowLemmas.{last_step, length_with_last}
 use Rattle.agent_text.specs.Histories.{AreHistories, IsHistory, PlainHistory, cleared, rows_at, with_begun, with_cleared, with_ended}
 use Rattle.agent_attempt.specs.Attempts.{PlainAttempt}
-use Rattle.agent_core.specs.States.{HeldRuns, new_row, next_row}
-use Rattle.agent_core.proofs.RowsAt.{rows_here, rows_other}
+use Rattle.agent_state.specs.States.{HeldRuns, new_row, next_row}
+use Rattle.agent_state.proofs.RowsAt.{rows_here, rows_other}
 
 pub rows_begun : (action : ℕ) (row : Row) (hs : List PlainHistory) → rows_at action (with_begun action row hs) ≡ rows_at action hs ++ row ∷ []
 rows_begun action row hs = rows_here (record { action = action; rows = rows_at action hs ++ row ∷ []; pending = true }) hs

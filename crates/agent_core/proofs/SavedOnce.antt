@@ -14,7 +14,7 @@ use Rattle.agent_text.specs.declared.saved.Saved.{Saved}
 use Rattle.agent_text.specs.SavedTexts.{FitsForm, IsSaved, IsSavedBy, agent_line, saved_lines}
 use Rattle.agent_text.proofs.SavedAnswers.{LinesAgain}
 use Rattle.agent_text.proofs.SavedBytes.{saved_are}
-use Rattle.agent_core.specs.States.{State, saved_of, text_of}
+use Rattle.agent_state.specs.States.{State, saved_of, text_of}
 use Rattle.agent_core.specs.Stops.{IsTextOfSaved}
 
 -- the law of the texts of one computer

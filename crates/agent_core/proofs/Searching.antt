@@ -24,7 +24,8 @@ use Rattle.agent_attempt.specs.Stages.{AttemptState, shown_attempt}
 use Rattle.agent_core.specs.declared.turned.Turned.{Turned}
 use Rattle.agent_core.specs.declared.turned.Turned.TheVariants.{MachineFault, Memory}
 use Rattle.agent_core.specs.Saving.{Answers, Ending}
-use Rattle.agent_core.specs.States.{Devices, PocketView, State, devices, with_histories}
+use Rattle.agent_state.specs.States.{State, with_histories}
+use Rattle.agent_core.specs.Devices.{Devices, PocketView, devices}
 use Rattle.agent_core.specs.Steps.{AnswersTry, BeginsAs, BeginsOne, CanBegin, FindsAfter, FindsDue, MarksAfter, MarksEach, TestsMark, TriesOne, mark_by, marked_by}
 use Rattle.agent_core.specs.Turns.{AfterTrying, Begins, Clears, Marks, TestsOne, Tries, TriesEach, TriesMarked, beginning, may_clear, no_marks, with_mark}
 use Rattle.agent_core.proofs.Due.{can_begin, due_may}

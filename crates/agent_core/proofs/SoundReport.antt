@@ -6,9 +6,9 @@ use Rattle.act_rules.specs.declared.row.Row.{Row}
 use Rattle.act_rules.specs.Rows.{last_row}
 use Rattle.agent_text.specs.Histories.{AreHistories, PlainHistory, with_reported}
 use Rattle.agent_attempt.specs.Attempts.{PlainAttempt}
-use Rattle.agent_core.specs.States.{HeldRuns, IsSound, State, can_report, next_report, with_report}
+use Rattle.agent_state.specs.States.{HeldRuns, IsSound, State, can_report, next_report, with_report}
 use Rattle.agent_core.proofs.Reporting.{can_room, outbox_with, told_are}
-use Rattle.agent_core.proofs.RowsAt.{rows_reported}
+use Rattle.agent_state.proofs.RowsAt.{rows_reported}
 
 held_reported : (held : Option PlainAttempt) (most : ℕ) (hs : List PlainHistory) → HeldRuns held hs → HeldRuns held (with_reported most hs)
 held_reported None most hs runs = tt

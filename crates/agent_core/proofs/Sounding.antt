@@ -16,11 +16,11 @@ use Rattle.fix_site.specs.Sites.{IsSite}
 use Rattle.agent_text.specs.SavedRows.{IsSavedNote}
 use Rattle.agent_text.specs.Histories.{AreHistories, PlainHistory, rows_at, with_ended, with_history}
 use Rattle.agent_attempt.specs.Attempts.{PlainAttempt}
-use Rattle.agent_core.specs.Changes.{with_site, with_sites}
-use Rattle.agent_core.specs.States.{HeldRuns, IsSound, State, as_saved, broken_action, is_broken, is_of_another, last_runs, with_held, with_histories, with_unsaved}
-use Rattle.agent_core.proofs.Rising.{Rises, rises_from_increasing, rises_head, rises_tail}
-use Rattle.agent_core.proofs.RowsAt.{rows_other}
-use Rattle.agent_core.proofs.SiteLists.{gathered_with}
+use Rattle.agent_state.specs.Changes.{with_site, with_sites}
+use Rattle.agent_state.specs.States.{HeldRuns, IsSound, State, as_saved, broken_action, is_broken, is_of_another, last_runs, with_held, with_histories, with_unsaved}
+use Rattle.agent_state.proofs.Rising.{Rises, rises_from_increasing, rises_head, rises_tail}
+use Rattle.agent_state.proofs.RowsAt.{rows_other}
+use Rattle.agent_state.proofs.SiteActions.{gathered_with}
 
 pub sound_saved : (s : State) → IsSound s → IsSound (as_saved s)
 sound_saved s is = record { saved = is.saved; shown = omega arith; held = is.held; sites = is.sites }

@@ -4,8 +4,8 @@ use Rattle.act_rules.specs.declared.row.Row.{Row}
 use Rattle.act_rules.specs.Tallies.{StandsFor}
 use Rattle.fix_site.specs.declared.action.Action.{Action}
 use Rattle.agent_text.specs.Histories.{PlainHistory, rows_at}
-use Rattle.agent_core.specs.declared.tallies.ActionTally.{ActionTally}
-use Rattle.agent_core.specs.Lookups.{TalliesStand}
+use Rattle.agent_state.specs.declared.tallies.ActionTally.{ActionTally}
+use Rattle.agent_state.specs.Lookups.{TalliesStand}
 
 -- they stand for other histories with the same rows
 pub stand_alike : (tallies : List ActionTally) (actions : List Action) (hs other : List PlainHistory) → ((action : ℕ) → rows_at action other ≡ rows_at action hs) → TalliesStand tallies actions hs → TalliesStand tallies actions other

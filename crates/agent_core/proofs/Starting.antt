@@ -12,11 +12,12 @@ use Rattle.agent_attempt.specs.Attempts.{PlainAttempt}
 use Rattle.agent_core.specs.declared.turned.Turned.{Turned}
 use Rattle.agent_core.specs.declared.turned.Turned.TheVariants.{Memory}
 use Rattle.agent_core.specs.Saving.{OrMemory, SavesOn}
-use Rattle.agent_core.specs.States.{Devices, HeldRuns, PocketView, State, as_saved, new_row, text_of, with_beginning, with_histories}
+use Rattle.agent_state.specs.States.{HeldRuns, State, as_saved, new_row, text_of, with_beginning, with_histories}
+use Rattle.agent_core.specs.Devices.{Devices, PocketView}
 use Rattle.agent_core.specs.Steps.{BeginsAs, CanBegin, StopsBeginning, after_save}
 use Rattle.agent_core.specs.Turns.{Goes}
 use Rattle.agent_core.proofs.Flowing.{no_save}
-use Rattle.agent_core.proofs.RowsAt.{rows_here}
+use Rattle.agent_state.proofs.RowsAt.{rows_here}
 use Rattle.agent_core.proofs.TurnPoints.{with_pocket}
 
 -- the histories with the row of the attempt are those of the beginning

@@ -13,11 +13,11 @@ use Rattle.agent_text.specs.declared.pocket.SaveResult.TheVariants as save
 use Rattle.agent_text.specs.Histories.{rows_at, with_ended}
 use Rattle.agent_text.specs.SavedTexts.{most_bytes}
 use Rattle.agent_attempt.specs.Stages.{AttemptState}
-use Rattle.agent_core.specs.Counting.{pending_count}
+use Rattle.agent_state.specs.Counting.{pending_count}
 use Rattle.agent_core.specs.declared.parts.Parts.{Parts}
-use Rattle.agent_core.specs.declared.spare.Spare.{Spare}
+use Rattle.agent_state.specs.declared.spare.Spare.{Spare}
 use Rattle.agent_core.specs.Inside.{IsSoundParts, state_of}
-use Rattle.agent_core.specs.States.{State, with_histories}
+use Rattle.agent_state.specs.States.{State, with_histories}
 use Rattle.agent_core.specs.Steps.{Suffices, after_save}
 use Rattle.agent_core.proofs.HistoryAt.{ended_size}
 

@@ -20,7 +20,8 @@ use Rattle.agent_attempt.specs.Going.{GoesOn}
 use Rattle.agent_attempt.specs.Relevance.{ContentIs, IsDue}
 use Rattle.agent_core.specs.declared.turned.Turned.{Turned}
 use Rattle.agent_core.specs.declared.turned.Turned.TheVariants.{Idle, Interrupted, Held, Wants, Ended, MachineFault, PocketFault, Memory}
-use Rattle.agent_core.specs.States.{State, Devices, PocketView, as_saved, broken_action, can_report, interrupted, text_of, with_beginning, with_end, with_held, with_histories, with_report, with_unsaved}
+use Rattle.agent_state.specs.States.{State, as_saved, broken_action, can_report, interrupted, text_of, with_beginning, with_end, with_held, with_histories, with_report, with_unsaved}
+use Rattle.agent_core.specs.Devices.{Devices, PocketView}
 use Rattle.agent_core.specs.Saving.{Answers, Ending, SavesOn}
 use Rattle.agent_core.specs.Turns.{AfterBeginning, AfterFirstSave, AfterGoing, AfterInterrupting, AfterLastSave, AfterTest, AfterTrying, Begins, Clears, Finishes, FirstSave, Goes, Interrupts, Marks, ReportsAndSaves, StepFor, Steps, TestsOne, Tries, TriesEach, TriesMarked, Turn, beginning, may_clear, no_marks, outcome_of, with_mark}
 

@@ -5,7 +5,7 @@ use Rattle.report_text.specs.declared.report.Report.{Report}
 use Rattle.fix_site.specs.declared.site.Site.{Site}
 use Rattle.agent_text.specs.Histories.{PlainHistory}
 use Rattle.agent_attempt.specs.Stages.{AttemptState, shown_attempt}
-use Rattle.agent_core.specs.States.{State}
+use Rattle.agent_state.specs.States.{State}
 
 pub record AgentState : Type 0 where
   pub computer : List ℕ

@@ -4,7 +4,8 @@ use Rattle.script_text.specs.Scripts.{PlainScript, IsVerdict}
 use Rattle.script_run.specs.Walks.{Next, Wants, Settled, Walk}
 use Rattle.agent_attempt.specs.declared.attempt.Part.{Part}
 use Rattle.agent_attempt.specs.Attempts.{PlainAttempt, PlainStage, coming, running, judging}
-use Rattle.agent_core.specs.States.{State, Devices}
+use Rattle.agent_state.specs.States.{State}
+use Rattle.agent_core.specs.Devices.{Devices}
 
 -- ---- alike
 -- stages that go on alike: a script that runs stands where the other does after every further results

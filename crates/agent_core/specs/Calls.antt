@@ -10,9 +10,10 @@ use Rattle.agent_attempt.specs.ActionContents.{actions_of}
 use Rattle.agent_core.specs.declared.opening.Opened.TheVariants as opened
 use Rattle.agent_core.specs.declared.turned.Turned.{Turned}
 use Rattle.agent_core.specs.Agents.{AgentState, shown_state}
-use Rattle.agent_core.specs.Changes.{GathersSite, SettlesState, SuppliesState}
+use Rattle.agent_state.specs.Changes.{GathersSite, SettlesState, SuppliesState}
 use Rattle.agent_core.specs.Opens.{OpensAgent}
-use Rattle.agent_core.specs.States.{Devices, IsSound, State}
+use Rattle.agent_state.specs.States.{IsSound, State}
+use Rattle.agent_core.specs.Devices.{Devices}
 use Rattle.agent_core.specs.Stops.{HaveRules, Table}
 use Rattle.agent_core.specs.Turns.{Turn}
 

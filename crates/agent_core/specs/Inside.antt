@@ -2,11 +2,11 @@
 use Rattle.agent_attempt.specs.ActionContents.{actions_of}
 use Rattle.agent_core.specs.declared.parts.Parts.{Parts}
 use Rattle.agent_core.specs.Agents.{AgentState, shown_state}
-use Rattle.agent_core.specs.States.{State, IsSound}
-use Rattle.agent_core.specs.Lookups.{TalliesStand}
+use Rattle.agent_state.specs.States.{State, IsSound}
+use Rattle.agent_state.specs.Lookups.{TalliesStand}
 
-abbrev pub agent_state : Parts → AgentState
-agent_state a = record {
+abbrev pub agent_of : Parts → AgentState
+agent_of a = record {
   computer = a.name;
   sites = a.sites;
   next = a.next;
@@ -18,7 +18,7 @@ agent_state a = record {
 }
 
 abbrev pub state_of : Parts → State
-state_of a = shown_state (agent_state a)
+state_of a = shown_state (agent_of a)
 
 -- the state is sound, and the tallies are those of the gathered actions
 pub record IsSoundParts (a : Parts) : Type 0 where

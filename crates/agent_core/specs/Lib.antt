@@ -1,12 +1,8 @@
-pub mod States
-pub mod Counting
+pub mod Devices
 pub mod Saving
 pub mod Turns
 pub mod Opens
-pub mod Lookups
-pub mod Outboxes
 pub mod Inside
-pub mod Changes
 pub mod Stops
 pub mod Agents
 pub mod Alike

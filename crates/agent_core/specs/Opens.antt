@@ -7,7 +7,7 @@ use Rattle.agent_text.specs.SavedTexts.{ReadsSaved}
 use Rattle.agent_core.specs.declared.opening.Opened.{Opened}
 use Rattle.agent_core.specs.declared.opening.Opened.TheVariants as opened
 use Rattle.agent_core.specs.Agents.{shown_state}
-use Rattle.agent_core.specs.States.{State}
+use Rattle.agent_state.specs.States.{State}
 
 -- the agent of what was saved: all of its reports are saved, and it has no site and holds no attempt
 abbrev pub opened_state : Saved → State

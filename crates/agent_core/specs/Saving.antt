@@ -8,7 +8,8 @@ use Rattle.agent_attempt.specs.declared.found.Found.{Found}
 use Rattle.agent_attempt.specs.Relevance.{Asking}
 use Rattle.agent_core.specs.declared.turned.Turned.{Turned}
 use Rattle.agent_core.specs.declared.turned.Turned.TheVariants as turned
-use Rattle.agent_core.specs.States.{State, Devices, PocketView, text_of}
+use Rattle.agent_state.specs.States.{State, text_of}
+use Rattle.agent_core.specs.Devices.{Devices, PocketView}
 
 -- what a turn comes to: its answer, the state, and what the devices tell
 abbrev pub Ending : Type 1

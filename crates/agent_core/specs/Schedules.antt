@@ -6,8 +6,8 @@ use Rattle.report_text.specs.declared.report_row.ReportRow.{ReportRow}
 use Rattle.report_text.specs.Reports.{AreReportRows}
 use Rattle.agent_text.specs.declared.saved.Saved.{Saved}
 use Rattle.agent_text.specs.Pockets.{Holds}
-use Rattle.agent_core.specs.Changes.{without_report}
-use Rattle.agent_core.specs.States.{State}
+use Rattle.agent_state.specs.Changes.{without_report}
+use Rattle.agent_state.specs.States.{State}
 use Rattle.agent_core.specs.Stops.{IsTextOfSaved}
 
 -- the computer, the number of its next report and its outbox, and both as they were last saved

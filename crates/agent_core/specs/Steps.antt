@@ -17,12 +17,13 @@ use Rattle.agent_attempt.specs.ActionContents.{Content, content_of}
 use Rattle.agent_attempt.specs.Stages.{AttemptState, shown_attempt}
 use Rattle.agent_attempt.specs.Relevance.{ContentIs, IsDue}
 use Rattle.agent_core.specs.declared.parts.Parts.{Parts}
-use Rattle.agent_core.specs.declared.spare.Spare.{Spare}
+use Rattle.agent_state.specs.declared.spare.Spare.{Spare}
 use Rattle.agent_core.specs.declared.turned.Turned.{Turned}
 use Rattle.agent_core.specs.declared.turned.Turned.TheVariants.{MachineFault, Memory, PocketFault}
-use Rattle.agent_core.specs.Counting.{pending_count}
+use Rattle.agent_state.specs.Counting.{pending_count}
 use Rattle.agent_core.specs.Saving.{Ending, SavesOn, SavesThen}
-use Rattle.agent_core.specs.States.{State, Devices, PocketView, as_saved, text_of, with_beginning, with_histories, with_unsaved}
+use Rattle.agent_state.specs.States.{State, as_saved, text_of, with_beginning, with_histories, with_unsaved}
+use Rattle.agent_core.specs.Devices.{Devices, PocketView}
 use Rattle.agent_core.specs.Turns.{AfterBeginning, Marks, beginning, may_clear, with_mark}
 
 -- the state after a save

@@ -11,7 +11,7 @@ use Rattle.agent_text.specs.SavedTexts.{ReadsSaved}
 use Rattle.agent_attempt.specs.Attempts.{PlainAttempt, StageWaitsBelow}
 use Rattle.agent_core.specs.declared.turned.Turned.{Turned}
 use Rattle.agent_core.specs.declared.turned.Turned.TheVariants as turned
-use Rattle.agent_core.specs.States.{State, next_row}
+use Rattle.agent_state.specs.States.{State, next_row}
 
 -- the text is what was saved of this, in either form
 abbrev pub IsTextOfSaved : List ℕ → Saved → Type 0

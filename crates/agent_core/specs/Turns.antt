@@ -22,7 +22,8 @@ use Rattle.agent_attempt.specs.Going.{GoesOn}
 use Rattle.agent_attempt.specs.Relevance.{ContentIs, IsDue}
 use Rattle.agent_core.specs.declared.turned.Turned.{Turned}
 use Rattle.agent_core.specs.declared.turned.Turned.TheVariants.{Idle, Interrupted, Held, Wants, Ended, MachineFault, PocketFault, Memory}
-use Rattle.agent_core.specs.States.{State, Devices, as_saved, broken_action, can_report, interrupted, next_row, with_beginning, with_end, with_held, with_histories, with_report, with_unsaved}
+use Rattle.agent_state.specs.States.{State, as_saved, broken_action, can_report, interrupted, next_row, with_beginning, with_end, with_held, with_histories, with_report, with_unsaved}
+use Rattle.agent_core.specs.Devices.{Devices}
 use Rattle.agent_core.specs.Saving.{Ending, Answers, AsksThen, OrMemory, SavesThen}
 
 -- ---- the end of a turn

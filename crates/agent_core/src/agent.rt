@@ -3,7 +3,7 @@ ghost use Rattle.agent_attempt.specs.ActionContents.{site_at};
 ghost use Rattle.agent_text.specs.Histories.{rows_at};
 ghost use Rattle.agent_core.specs.Agents.{shown_state};
 ghost use Rattle.agent_core.specs.Stops.{HeldWaitsBelow};
-ghost use Rattle.agent_core.specs.Changes.{AnswersTally, SettlesState, SuppliesState, kept_version};
+ghost use Rattle.agent_state.specs.Changes.{AnswersTally, SettlesState, SuppliesState, kept_version};
 
 use crate::parts::Parts;
 use act_rules::{Rows, Tally};
@@ -20,7 +20,7 @@ pub struct Agent {
 
 impl Model for Agent {
     ghost use Rattle.agent_core.specs.Agents.{AgentState};
-    ghost use Rattle.agent_core.specs.Inside.{IsSoundParts, agent_state};
+    ghost use Rattle.agent_core.specs.Inside.{IsSoundParts, agent_of};
     ghost use Rattle.std.specs.Coded.{codes};
     ghost use Rattle.agent_attempt.specs.contracts.attempt.Attempt as attempt;
 
@@ -28,7 +28,7 @@ impl Model for Agent {
 
     ghost coded = { Prim.hlevel (codes, attempt.the_row.coded) };
 
-    ghost view = { λ a. agent_state a.parts };
+    ghost view = { λ a. agent_of a.parts };
 
     ghost invariant = { λ a. IsSoundParts a.parts };
 }

@@ -5,15 +5,16 @@ ghost use Rattle.agent_text.specs.Histories.{AreHistories, with_begun};
 ghost use Rattle.agent_attempt.specs.Stages.{shown_attempt};
 ghost use Rattle.agent_core.specs.Inside.{IsSoundParts, state_of};
 ghost use Rattle.agent_core.specs.Saving.{OrMemory};
-ghost use Rattle.agent_core.specs.States.{HeldRuns, devices, new_row, pocket_view, with_beginning, with_histories};
+ghost use Rattle.agent_state.specs.States.{HeldRuns, new_row, with_beginning, with_histories};
+ghost use Rattle.agent_core.specs.Devices.{devices, pocket_view};
 ghost use Rattle.agent_core.specs.Steps.{AreMarked, BeginsAs, CanBegin, SavesBeginning, Suffices};
 ghost use Rattle.agent_core.specs.Stops.{HeldWaitsBelow};
 
 use crate::parts::Parts;
-use crate::spare::Spare;
 use crate::turned::Turned;
 use act_rules::{Note, Row};
 use agent_attempt::{Attempt, Time};
+use agent_state::Spare;
 use agent_text::{
     Histories, Pocket, SaveResult, changed_histories_can_be_saved, saved_texts_are_short,
 };

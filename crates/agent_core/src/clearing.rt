@@ -1,20 +1,21 @@
 // Clearing marks.
 ghost use Rattle.std.specs.Prelude.{◌≡◌, ◌∷◌, [], false};
 ghost use Rattle.std.specs.List.{filter_map};
-ghost use Rattle.act_rules.specs.Rows.{IsRows, last_row};
+ghost use Rattle.act_rules.specs.Rows.{last_row};
 ghost use Rattle.script_run.specs.Machines.{view};
 ghost use Rattle.agent_text.specs.Histories.{AreHistories, rows_at};
 ghost use Rattle.agent_attempt.specs.ReadBlocks.{shown_block};
 ghost use Rattle.agent_attempt.specs.ActionContents.{actions_of, as_action};
 ghost use Rattle.agent_core.specs.Inside.{IsSoundParts, state_of};
-ghost use Rattle.agent_core.specs.Lookups.{rows_if};
+ghost use Rattle.agent_state.specs.Lookups.{rows_if};
 ghost use Rattle.agent_core.specs.Steps.{AreMarked, MarksEach, TestsMark};
 ghost use Rattle.agent_core.specs.Turns.{may_clear};
 
 use crate::parts::Parts;
 use crate::turned::Turned;
-use act_rules::{Row, Rows};
+use act_rules::Rows;
 use agent_attempt::{Found, ReadAction, ReadBlock, Time, relevant};
+use agent_state::rows_of;
 use agent_text::{Histories, changed_histories_can_be_saved};
 use bf_machine::Machine;
 use std::alloc::Global;
@@ -109,16 +110,5 @@ fn may_clear(rows: Option<&Rows>) -> bool
     match rows_of(rows).last() {
         Some(row) => row.end.is_some() && row.cleared.is_none(),
         None => false,
-    }
-}
-
-/// The rows of an action, which may have none.
-pub(crate) fn rows_of(rows: Option<&Rows>) -> &[Row]
-    ensures value { result.now ≡ rows_if rows.entry }
-    ensures rows { IsRows result.now }
-{
-    match rows {
-        Some(rows) => rows.as_slice(),
-        None => &[],
     }
 }

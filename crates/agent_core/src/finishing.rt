@@ -1,19 +1,19 @@
 // The end of a turn: its report, and its last save.
-ghost use Rattle.std.specs.Prelude.{◌≡◌, ◌<◌, ◌≤◌, ◌∷◌, ◌++◌, min, [], length, take, true, vec_capacity};
+ghost use Rattle.std.specs.Prelude.{◌≡◌, ◌<◌, ◌≤◌, min, [], length, take, true, vec_capacity};
 ghost use Rattle.script_run.specs.Machines.{MachineView};
-ghost use Rattle.agent_text.specs.Histories.{report_row, report_rows, reported_note, shown_history};
+ghost use Rattle.agent_text.specs.Histories.{report_rows};
 ghost use Rattle.agent_core.specs.Inside.{IsSoundParts, state_of};
-ghost use Rattle.agent_core.specs.States.{can_report, devices, pocket_view, text_of, with_report};
-ghost use Rattle.agent_core.specs.Counting.{pending_count};
+ghost use Rattle.agent_state.specs.States.{can_report, text_of, with_report};
+ghost use Rattle.agent_core.specs.Devices.{devices, pocket_view};
+ghost use Rattle.agent_state.specs.Counting.{pending_count};
 ghost use Rattle.agent_core.specs.Steps.{Suffices};
 ghost use Rattle.agent_core.specs.Turns.{Finishes, LastSave};
 
 use crate::parts::Parts;
-use crate::spare::{MOST_ROWS, Spare};
 use crate::turned::Turned;
-use act_rules::{Note, Outcome, Row};
+use agent_state::{MOST_ROWS, Spare, add_row};
 use agent_text::{
-    Histories, History, Pocket, SaveResult, changed_histories_can_be_saved, saved_texts_are_short,
+    Histories, Pocket, SaveResult, changed_histories_can_be_saved, saved_texts_are_short,
 };
 use desk_base::Room;
 use rel_lexer::Text;
@@ -123,44 +123,5 @@ fn add_rows(histories: &Histories, rows: &mut Vec<ReportRow>)
             return;
         }
         add_row(history, rows);
-    }
-}
-
-/// Adds what is reported of an action, for which there is room if it is pending.
-fn add_row(history: &History, rows: &mut Vec<ReportRow>)
-    requires { history.now.pending ≡ true → length rows.old.items < vec_capacity rows.old }
-    ensures rows { rows.new.items ≡ rows.old.items ++ report_rows (shown_history history.now ∷ []) }
-    ensures room { vec_capacity rows.old ≤ vec_capacity rows.new }
-{
-    if history.pending
-        && let Some(row) = history.rows.as_slice().last()
-    {
-        rows.push(report_row(history.action, row)).unwrap();
-    }
-}
-
-/// What is reported of an attempt.
-fn report_row(action: u64, row: &Row) -> ReportRow
-    ensures { result ≡ report_row action row.now }
-{
-    ReportRow {
-        action,
-        number: row.number,
-        begun: row.begun,
-        end: row.end,
-        note: reported_note(row.end, row.note),
-    }
-}
-
-/// What is reported of a note: a failure without a place is reported at 0 and 0.
-fn reported_note(end: Option<(i64, Outcome)>, note: Note) -> Note
-    ensures { result ≡ reported_note end note }
-{
-    match end {
-        Some((_, Outcome::Failed)) => Note {
-            place: Some(note.place.unwrap_or((0, 0))),
-            ..note
-        },
-        _ => note,
     }
 }

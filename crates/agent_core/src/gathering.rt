@@ -2,14 +2,13 @@
 ghost use Rattle.std.specs.Prelude.{◌≡◌, OnOk, OnErr};
 ghost use Rattle.fix_site.specs.Sites.{IsSite};
 ghost use Rattle.agent_core.specs.Agents.{shown_state};
-ghost use Rattle.agent_core.specs.Changes.{GathersSite, with_site, with_sites};
+ghost use Rattle.agent_state.specs.Changes.{GathersSite, with_site, with_sites};
 ghost use Rattle.agent_core.specs.Inside.{IsSoundParts, state_of};
 
 use crate::agent::Agent;
 use crate::parts::Parts;
-use crate::site_list::ACTION_SITE;
-use crate::tallies::Tallies;
 use agent_attempt::ReadSite;
+use agent_state::{ACTION_SITE, Tallies};
 use fix_site::Site;
 use report_text::Gathered;
 use std::alloc::{AllocError, Global};

@@ -17,11 +17,12 @@ ghost use Rattle.agent_core.specs.Agents.{AgentState, shown_state};
 ghost use Rattle.agent_core.specs.Calls.{Call, DoAll, IsCall};
 ghost use Rattle.agent_core.specs.Alike.{AlikeStates, AttemptWantsAtMost, NoFaults, TellsWorld};
 ghost use Rattle.report_text.specs.declared.answer.Verdict.{Verdict};
-ghost use Rattle.agent_core.specs.Changes.{SettlesState, SuppliesHeld};
+ghost use Rattle.agent_state.specs.Changes.{SettlesState, SuppliesHeld};
 ghost use Rattle.agent_core.specs.Opens.{OpensAgent, new_state, opened_state};
 ghost use Rattle.agent_core.specs.Schedules.{IsMailOf, IsStep, Mail, restarted, settled};
 ghost use Rattle.agent_core.specs.declared.opening.Opened.TheVariants as opening;
-ghost use Rattle.agent_core.specs.States.{Devices, IsSound, State, saved_of, text_of};
+ghost use Rattle.agent_state.specs.States.{IsSound, State, saved_of, text_of};
+ghost use Rattle.agent_core.specs.Devices.{Devices};
 ghost use Rattle.agent_core.specs.Stops.{Agrees, AreLawful, BothLawful, HaveRules, Table};
 ghost use Rattle.agent_core.specs.Turns.{Turn};
 

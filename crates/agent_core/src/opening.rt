@@ -7,10 +7,8 @@ ghost use Rattle.agent_core.specs.Agents.{shown_state};
 ghost use Rattle.agent_core.specs.Opens.{OpensAgent, new_state, opened_state};
 
 use crate::agent::Agent;
-use crate::outbox::Outbox;
 use crate::parts::Parts;
-use crate::site_list::SiteList;
-use crate::tallies::Tallies;
+use agent_state::{Outbox, SiteList, Tallies};
 use agent_text::{Histories, Loaded, Pocket, Reports, Saved, SavedError, read_saved};
 use desk_base::Bytes;
 use rel_lexer::Text;

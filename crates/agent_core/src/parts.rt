@@ -1,10 +1,8 @@
-ghost use Rattle.agent_core.specs.Changes.{DropsState};
+ghost use Rattle.agent_state.specs.Changes.{DropsState};
 ghost use Rattle.agent_core.specs.Inside.{IsSoundParts, state_of};
 
-use crate::outbox::Outbox;
-use crate::site_list::SiteList;
-use crate::tallies::Tallies;
 use agent_attempt::Attempt;
+use agent_state::{Outbox, SiteList, Tallies};
 use agent_text::Histories;
 use rel_lexer::Text;
 

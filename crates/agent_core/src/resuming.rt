@@ -1,6 +1,5 @@
 // Attempts that end, go on, or were broken off.
 ghost use Rattle.std.specs.Prelude.{◌≡◌, ◌≤◌, IfOk, IfSome, IsSomeAnd, IsTrue, None, Some, false};
-ghost use Rattle.std.specs.Option.{option_map};
 ghost use Rattle.act_rules.specs.Rows.{last_row};
 ghost use Rattle.script_run.specs.Machines.{MachineView, view};
 ghost use Rattle.agent_text.specs.SavedRows.{IsSavedNote};
@@ -12,20 +11,19 @@ ghost use Rattle.agent_attempt.specs.Going.{HasNote};
 ghost use Rattle.agent_attempt.specs.Stages.{shown_attempt};
 ghost use Rattle.agent_core.specs.Inside.{IsSoundParts, state_of};
 ghost use Rattle.agent_core.specs.Saving.{OrMemory};
-ghost use Rattle.agent_core.specs.States.{HeldRuns, State, broken_action, devices, is_of_another, last_runs, pocket_view, with_held, with_histories};
+ghost use Rattle.agent_state.specs.States.{HeldRuns, State, broken_action, is_of_another, with_held, with_histories};
+ghost use Rattle.agent_core.specs.Devices.{devices, pocket_view};
 ghost use Rattle.agent_core.specs.Steps.{Suffices};
 ghost use Rattle.agent_core.specs.Stops.{HeldWaitsBelow};
 ghost use Rattle.agent_core.specs.Turns.{Goes, Interrupts, outcome_of};
 
 use crate::beginning::NO_NOTE;
 use crate::parts::Parts;
-use crate::spare::Spare;
 use crate::turned::Turned;
 use act_rules::{Note, Outcome};
 use agent_attempt::{Attempt, Fail, Time, Went};
-use agent_text::{
-    History, Pocket, SaveResult, changed_histories_can_be_saved, saved_texts_are_short,
-};
+use agent_state::{Spare, is_of_another, is_running};
+use agent_text::{Pocket, SaveResult, changed_histories_can_be_saved, saved_texts_are_short};
 use bf_machine::Machine;
 use std::alloc::{AllocError, Global};
 use std::mem::drop;
@@ -190,26 +188,6 @@ impl Parts {
                 Turned::Memory
             }
         }
-    }
-}
-
-/// Whether the last row runs.
-fn is_running(history: &History) -> bool
-    ensures { result ≡ last_runs (last_row history.now.rows.rows) }
-{
-    match history.rows.as_slice().last() {
-        Some(row) => row.end.is_none(),
-        None => false,
-    }
-}
-
-/// Whether the attempt that is held, if one is, is of another action.
-fn is_of_another(action: u64, held: &Option<Attempt>) -> bool
-    ensures { result ≡ is_of_another action (option_map shown_attempt held.now) }
-{
-    match held {
-        Some(attempt) => attempt.action_id() != action,
-        None => true,
     }
 }
 

@@ -1,7 +1,8 @@
 // Saving an agent's state.
 ghost use Rattle.std.specs.Prelude.{◌≡◌, ◌≤◌, length};
 ghost use Rattle.agent_core.specs.Inside.{IsSoundParts, state_of};
-ghost use Rattle.agent_core.specs.States.{pocket_view, text_of};
+ghost use Rattle.agent_state.specs.States.{text_of};
+ghost use Rattle.agent_core.specs.Devices.{pocket_view};
 ghost use Rattle.agent_core.specs.Saving.{SavesOn};
 ghost use Rattle.agent_core.specs.Steps.{after_save};
 

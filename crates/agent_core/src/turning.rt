@@ -4,7 +4,7 @@ ghost use Rattle.desk_base.specs.Moments.{IsMoment};
 ghost use Rattle.line_forms.specs.Numbers.{IsOffset};
 ghost use Rattle.script_run.specs.Machines.{view};
 ghost use Rattle.agent_core.specs.Agents.{shown_state};
-ghost use Rattle.agent_core.specs.States.{devices, pocket_view};
+ghost use Rattle.agent_core.specs.Devices.{devices, pocket_view};
 ghost use Rattle.agent_core.specs.Inside.{IsSoundParts, state_of};
 ghost use Rattle.agent_core.specs.Turns.{Steps, Turn};
 ghost use Rattle.agent_attempt.specs.ActionContents.{actions_of};

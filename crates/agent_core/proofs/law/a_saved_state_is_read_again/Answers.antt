@@ -1,4 +1,4 @@
-use Rattle.agent_core.specs.States.{saved_of}
+use Rattle.agent_state.specs.States.{saved_of}
 use Rattle.agent_core.proofs.Reopening.{opened_again}
 use Rattle.agent_core.proofs.law.a_saved_state_is_read_again.Goals as goal
 

@@ -4,11 +4,11 @@ use Rattle.std.specs.Prelude.{option_copied}
 use Rattle.act_rules.specs.declared.tally.Tally.{Tally}
 use Rattle.agent_attempt.specs.ActionContents.{actions_of}
 use Rattle.agent_core.specs.declared.parts.Parts.{Parts}
-use Rattle.agent_core.specs.declared.tallies.ActionTally.{ActionTally}
+use Rattle.agent_state.specs.declared.tallies.ActionTally.{ActionTally}
 use Rattle.agent_core.specs.Agents.{AgentState, shown_state}
-use Rattle.agent_core.specs.Changes.{AnswersTally}
+use Rattle.agent_state.specs.Changes.{AnswersTally}
 use Rattle.agent_core.specs.Inside.{state_of}
-use Rattle.agent_core.proofs.TallyLists.{answers_rows}
+use Rattle.agent_state.proofs.TallyLists.{answers_rows}
 use Rattle.agent_core.proofs.agent.Agent.tally.Goals as goal
 use denote.Ref.{Bor}
 

@@ -5,7 +5,8 @@ use Rattle.script_run.specs.Asking.{When}
 use Rattle.script_run.specs.Machines.{view}
 use Rattle.agent_core.specs.Agents.{AgentState, shown_state}
 use Rattle.agent_core.specs.Inside.{state_of}
-use Rattle.agent_core.specs.States.{Devices, IsSound, devices, pocket_view}
+use Rattle.agent_state.specs.States.{IsSound}
+use Rattle.agent_core.specs.Devices.{Devices, devices, pocket_view}
 use Rattle.agent_core.specs.Turns.{Turn}
 use Rattle.agent_core.proofs.Agreeing.{turn_agrees}
 use Rattle.agent_core.proofs.Backing.{turn_backed}

@@ -4,7 +4,8 @@ use Rattle.script_run.specs.Machines.{MachineView, view}
 use Rattle.agent_attempt.specs.Stages.{shown_attempt}
 use Rattle.agent_core.specs.declared.parts.Parts.{Parts}
 use Rattle.agent_core.specs.Inside.{state_of}
-use Rattle.agent_core.specs.States.{devices, pocket_view, with_held, with_histories}
+use Rattle.agent_state.specs.States.{with_held, with_histories}
+use Rattle.agent_core.specs.Devices.{devices, pocket_view}
 use Rattle.agent_core.proofs.Starting.{begins_done, begins_not}
 use Rattle.agent_core.proofs.parts.Parts.begin.Goals as goal
 

@@ -9,7 +9,7 @@ use denote.Ref.{Bor}
 use Rattle.agent_text.specs.declared.history.History.{History}
 use Rattle.agent_text.specs.Histories.{shown_history}
 use Rattle.agent_core.specs.Inside.{state_of}
-use Rattle.agent_core.specs.States.{State, is_broken}
+use Rattle.agent_state.specs.States.{State, is_broken}
 use Rattle.agent_core.proofs.Broken.{broken_found}
 use Rattle.agent_core.proofs.parts.Parts.broken.Goals as goal
 

@@ -1,9 +1,9 @@
 use Rattle.std.proofs.Common.{true, sym, subst}
 use Rattle.agent_core.specs.declared.parts.Parts.{Parts}
 use Rattle.agent_core.specs.Inside.{IsSoundParts}
-use Rattle.agent_core.specs.Outboxes.{OutboxState}
-use Rattle.agent_core.proofs.Dropping.{outbox_without, seq_of, shown_within}
-use Rattle.agent_core.proofs.Rising.{Rises, rises_from_increasing}
+use Rattle.agent_state.specs.Outboxes.{OutboxState}
+use Rattle.agent_state.proofs.Dropping.{outbox_without, seq_of, shown_within}
+use Rattle.agent_state.proofs.Rising.{Rises, rises_from_increasing}
 use Rattle.agent_core.proofs.parts.Parts.drop_report.Goals as goal
 
 pub drop_report-requires : goal.drop_report-requires

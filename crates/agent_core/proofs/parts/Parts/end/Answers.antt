@@ -5,7 +5,7 @@ use Rattle.agent_attempt.specs.ActionContents.{actions_of}
 use Rattle.desk_base.specs.Moments.{IsMoment}
 use Rattle.agent_core.specs.declared.parts.Parts.{Parts}
 use Rattle.agent_core.specs.Inside.{state_of}
-use Rattle.agent_core.specs.States.{IsSound, State, with_histories}
+use Rattle.agent_state.specs.States.{IsSound, State, with_histories}
 use Rattle.agent_core.proofs.Sounding.{sound_ended}
 use Rattle.agent_core.proofs.Standing.{stand_alike}
 use Rattle.agent_core.proofs.parts.Parts.end.Goals as goal

@@ -1,7 +1,8 @@
 use Rattle.std.proofs.Common.{length, refl, sym, subst, ◌∙◌}
 use Rattle.agent_core.specs.declared.parts.Parts.{Parts}
 use Rattle.agent_core.specs.Inside.{state_of}
-use Rattle.agent_core.specs.States.{State, devices, pocket_view, saved_of, text_of}
+use Rattle.agent_state.specs.States.{State, saved_of, text_of}
+use Rattle.agent_core.specs.Devices.{devices, pocket_view}
 use Rattle.agent_core.specs.Turns.{LastSave}
 use Rattle.agent_core.proofs.Flowing.{finishes_changed, finishes_reported, within_more}
 use Rattle.agent_core.proofs.Reporting.{report_within}

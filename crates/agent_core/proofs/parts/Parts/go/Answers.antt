@@ -12,7 +12,8 @@ use Rattle.agent_attempt.specs.Stages.{shown_attempt}
 use Rattle.agent_core.specs.declared.parts.Parts.{Parts}
 use Rattle.agent_core.specs.declared.turned.Turned.TheVariants.{Ended, Held, Memory, Wants}
 use Rattle.agent_core.specs.Inside.{state_of}
-use Rattle.agent_core.specs.States.{State, devices, is_of_another, pocket_view, with_end, with_histories, with_held}
+use Rattle.agent_state.specs.States.{State, is_of_another, with_end, with_histories, with_held}
+use Rattle.agent_core.specs.Devices.{devices, pocket_view}
 use Rattle.agent_core.specs.Turns.{Goes, outcome_of}
 use Rattle.agent_core.proofs.Flowing.{finishes_as, goes_ended, goes_held, goes_memory, goes_wants}
 use Rattle.agent_core.proofs.HeldAttempt.{held_runs, runs_on, waits_as}

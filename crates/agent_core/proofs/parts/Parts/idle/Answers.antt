@@ -2,7 +2,7 @@ use Rattle.std.proofs.Common.{ap, sym, subst, ◌∙◌}
 use Rattle.std.specs.Option.{option_map}
 use Rattle.agent_attempt.specs.Stages.{shown_attempt}
 use Rattle.agent_core.specs.declared.parts.Parts.{Parts}
-use Rattle.agent_core.specs.States.{State}
+use Rattle.agent_state.specs.States.{State}
 use Rattle.agent_core.specs.Steps.{AreMarked}
 use Rattle.agent_core.proofs.HeldAttempt.{none_shown}
 use Rattle.agent_core.proofs.Keeping.{sound_with, standing_marked}

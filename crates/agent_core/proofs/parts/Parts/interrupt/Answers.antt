@@ -4,7 +4,8 @@ use Rattle.act_rules.specs.declared.row.Row.{Row}
 use Rattle.report_text.specs.ReportRows.{no_note}
 use Rattle.agent_core.specs.declared.parts.Parts.{Parts}
 use Rattle.agent_core.specs.Inside.{state_of}
-use Rattle.agent_core.specs.States.{State, broken_action, devices, interrupted, pocket_view, saved_of, text_of}
+use Rattle.agent_state.specs.States.{State, broken_action, interrupted, saved_of, text_of}
+use Rattle.agent_core.specs.Devices.{devices, pocket_view}
 use Rattle.agent_core.proofs.Flowing.{breaks_done, breaks_failed, breaks_memory, within_more}
 use Rattle.agent_core.proofs.HeldAttempt.{kept_held}
 use Rattle.agent_core.proofs.Sounding.{broken_runs}

@@ -9,12 +9,12 @@ use Rattle.fix_site.specs.declared.site.Site.{Site}
 use Rattle.fix_site.specs.Sites.{IsSite}
 use Rattle.agent_attempt.specs.ActionContents.{actions_of, as_action}
 use Rattle.agent_core.specs.declared.parts.Parts.{Parts}
-use Rattle.agent_core.specs.Changes.{with_site}
+use Rattle.agent_state.specs.Changes.{with_site}
 use Rattle.agent_core.specs.Inside.{IsSoundParts, state_of}
-use Rattle.agent_core.specs.Lookups.{TalliesStand}
-use Rattle.agent_core.proofs.SiteActions.{action_id, actions_of_other, actions_of_own, ids_increase}
+use Rattle.agent_state.specs.Lookups.{TalliesStand}
+use Rattle.agent_state.proofs.SiteActions.{action_id, actions_of_other, actions_of_own, ids_increase}
 use Rattle.agent_core.proofs.Sounding.{sound_gathered}
-use Rattle.agent_core.proofs.TallyLists.{all_stand}
+use Rattle.agent_state.proofs.TallyLists.{all_stand}
 use Rattle.agent_core.proofs.parts.Parts.keep.Goals as goal
 
 either : {T E P Q : Type 0} (r : Result T E) → OnOk r P → OnErr r Q → P ⊎ Q

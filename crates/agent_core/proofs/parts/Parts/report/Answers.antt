@@ -4,8 +4,8 @@ use Rattle.report_text.specs.declared.report.Report.{Report}
 use Rattle.agent_text.specs.Histories.{rows_at}
 use Rattle.agent_core.specs.declared.parts.Parts.{Parts}
 use Rattle.agent_core.specs.Inside.{state_of}
-use Rattle.agent_core.specs.States.{IsSound, State, next_report, with_report}
-use Rattle.agent_core.proofs.RowsAt.{rows_reported}
+use Rattle.agent_state.specs.States.{IsSound, State, next_report, with_report}
+use Rattle.agent_state.proofs.RowsAt.{rows_reported}
 use Rattle.agent_core.proofs.SoundReport.{sound_reported}
 use Rattle.agent_core.proofs.Standing.{stand_alike}
 use Rattle.agent_core.proofs.parts.Parts.report.Goals as goal

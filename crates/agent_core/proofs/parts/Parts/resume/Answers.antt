@@ -4,7 +4,7 @@ use Rattle.agent_attempt.specs.Attempts.{PlainAttempt}
 use Rattle.agent_attempt.specs.Stages.{shown_attempt}
 use Rattle.agent_core.specs.declared.parts.Parts.{Parts}
 use Rattle.agent_core.specs.Inside.{state_of}
-use Rattle.agent_core.specs.States.{HeldRuns, State, with_held}
+use Rattle.agent_state.specs.States.{HeldRuns, State, with_held}
 use Rattle.agent_core.proofs.HeldAttempt.{none_shown}
 use Rattle.agent_core.proofs.Sounding.{sound_held}
 use Rattle.agent_core.proofs.parts.Parts.resume.Goals as goal

@@ -2,7 +2,7 @@ use Rattle.std.proofs.Common.{◌≡◌, length, ap, ◌∙◌}
 use Rattle.agent_text.specs.SavedTexts.{most_bytes}
 use Rattle.agent_core.specs.declared.parts.Parts.{Parts}
 use Rattle.agent_core.specs.Inside.{state_of}
-use Rattle.agent_core.specs.States.{saved_of, text_of}
+use Rattle.agent_state.specs.States.{saved_of, text_of}
 use Rattle.agent_core.proofs.Flowing.{within}
 use Rattle.agent_core.proofs.parts.Parts.save.Goals as goal
 

@@ -6,7 +6,7 @@ use Rattle.agent_attempt.specs.Attempts.{PlainAttempt}
 use Rattle.agent_attempt.specs.Stages.{shown_attempt}
 use Rattle.agent_core.specs.declared.parts.Parts.{Parts}
 use Rattle.agent_core.specs.Inside.{state_of}
-use Rattle.agent_core.specs.States.{HeldRuns, State, new_row, saved_of, text_of}
+use Rattle.agent_state.specs.States.{HeldRuns, State, new_row, saved_of, text_of}
 use Rattle.agent_core.proofs.Flowing.{within_more}
 use Rattle.agent_core.proofs.HeldAttempt.{none_shown}
 use Rattle.agent_core.proofs.Keeping.{GoStanding, sound_with, standing_back, standing_begun, standing_marked, standing_then, standing_unbegun}

@@ -3,8 +3,8 @@ use Rattle.agent_text.specs.Pockets.{Saves}
 use Rattle.agent_text.specs.SavedTexts.{saved_text}
 use Rattle.agent_core.specs.declared.parts.Parts.{Parts}
 use Rattle.agent_core.specs.Inside.{IsSoundParts, state_of}
-use Rattle.agent_core.specs.Outboxes.{OutboxState}
-use Rattle.agent_core.specs.States.{text_of}
+use Rattle.agent_state.specs.Outboxes.{OutboxState}
+use Rattle.agent_state.specs.States.{text_of}
 use Rattle.agent_core.specs.Steps.{after_save}
 use Rattle.agent_core.proofs.Flowing.{saves_on}
 use Rattle.agent_core.proofs.Sounding.{sound_saved}

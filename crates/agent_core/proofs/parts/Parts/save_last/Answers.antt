@@ -1,5 +1,5 @@
 use Rattle.agent_core.specs.Inside.{state_of}
-use Rattle.agent_core.specs.States.{devices, pocket_view}
+use Rattle.agent_core.specs.Devices.{devices, pocket_view}
 use Rattle.agent_core.proofs.Flowing.{last_done, last_failed, last_memory}
 use Rattle.agent_core.proofs.parts.Parts.save_last.Goals as goal
 

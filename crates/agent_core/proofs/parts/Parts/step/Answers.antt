@@ -5,7 +5,8 @@ use Rattle.agent_attempt.specs.ActionContents.{actions_of}
 use Rattle.agent_attempt.specs.Stages.{AttemptState, shown_attempt}
 use Rattle.agent_core.specs.declared.parts.Parts.{Parts}
 use Rattle.agent_core.specs.Inside.{IsSoundParts, state_of}
-use Rattle.agent_core.specs.States.{HeldRuns, broken_action, devices, pocket_view}
+use Rattle.agent_state.specs.States.{HeldRuns, broken_action}
+use Rattle.agent_core.specs.Devices.{devices, pocket_view}
 use Rattle.agent_core.specs.Stops.{HeldWaitsBelow}
 use Rattle.agent_core.specs.Turns.{Tries}
 use Rattle.agent_core.proofs.Flowing.{none_is, steps_broken, steps_held, steps_tries}

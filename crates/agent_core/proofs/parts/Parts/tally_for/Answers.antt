@@ -1,6 +1,7 @@
 use Rattle.agent_attempt.specs.ActionContents.{actions_of}
 use Rattle.agent_core.specs.declared.parts.Parts.{Parts}
-use Rattle.agent_core.proofs.TallyLists.{all_stand, all_stand_marked}
+use Rattle.agent_state.proofs.TallyLists.{all_stand}
+use Rattle.agent_core.proofs.MarkedRows.{all_stand_marked}
 use Rattle.agent_core.proofs.parts.Parts.tally_for.Goals as goal
 
 pub standing-requires : goal.standing-requires

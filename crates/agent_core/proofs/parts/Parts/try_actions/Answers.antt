@@ -5,7 +5,8 @@ use Rattle.agent_text.specs.Histories.{PlainHistory}
 use Rattle.agent_attempt.specs.ActionContents.{actions_of}
 use Rattle.agent_attempt.specs.Stages.{shown_attempt}
 use Rattle.agent_core.specs.Inside.{state_of}
-use Rattle.agent_core.specs.States.{PocketView, State, devices, pocket_view, with_histories}
+use Rattle.agent_state.specs.States.{State, with_histories}
+use Rattle.agent_core.specs.Devices.{PocketView, devices, pocket_view}
 use Rattle.agent_core.specs.Steps.{FindsDue, MarksEach}
 use Rattle.agent_core.specs.Turns.{no_marks}
 use Rattle.agent_core.proofs.GatheredIds.{gathered_ids}

@@ -7,10 +7,10 @@ use Rattle.agent_attempt.specs.Attempts.{new_attempt}
 use Rattle.agent_attempt.specs.ActionContents.{content_of}
 use Rattle.agent_attempt.specs.FoundContents.{shown_content, shown_if}
 use Rattle.agent_core.specs.Inside.{state_of}
-use Rattle.agent_core.specs.States.{with_histories}
+use Rattle.agent_state.specs.States.{with_histories}
 use Rattle.agent_core.specs.Steps.{BeginsOne}
 use Rattle.agent_core.proofs.Due.{asked_of}
-use Rattle.agent_core.proofs.RowsAt.{found_rows}
+use Rattle.agent_state.proofs.RowsAt.{found_rows}
 use Rattle.agent_core.proofs.parts.Parts.try_one.Goals as goal
 
 pub returns-in-No-clause-tries : goal.returns-in-No-clause-tries

@@ -1,6 +1,6 @@
 use Rattle.std.proofs.Common.{◌≡◌, sym, ap, subst, ◌∙◌}
 use Rattle.agent_core.specs.Inside.{state_of}
-use Rattle.agent_core.specs.States.{State}
+use Rattle.agent_state.specs.States.{State}
 use Rattle.agent_core.specs.Stops.{HeldWaitsBelow}
 use Rattle.agent_core.proofs.Flowing.{turn_clean, turn_failed, turn_memory, turn_saved}
 use Rattle.agent_core.proofs.Starting.{saved_same}

@@ -1,0 +1,5 @@
+pub mod States
+pub mod Counting
+pub mod Changes
+pub mod Lookups
+pub mod Outboxes
