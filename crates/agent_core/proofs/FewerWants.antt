@@ -166,10 +166,10 @@ module _ (at : When) (a : PlainAttempt) where
 abbrev Fewer : ℕ → PlainAttempt → Type 0
 Fewer most then = (fewer : ℕ) × (fewer < most) × AttemptWantsAtMost then fewer
 
-going_fewer : (at : When) (given : PlainAttempt) (part : Part) (left : List Part) (walk : Walk) (wanted : Option (List ℕ)) (first most : ℕ) (mosts : List ℕ) → given.left ≡ part ∷ left → given.stage ≡ running walk wanted
+going_fewer : (at : When) (given : PlainAttempt) (part : Part) (left : List Part) (walk : Walk) (first most : ℕ) (mosts : List ℕ) → given.left ≡ part ∷ left → given.stage ≡ running walk None
     → WantsAtMost walk first → AllFetchAtMost left mosts → most ≡ (first + 1) + total mosts
     → (old : MachineView) (digest : List ℕ) (new : MachineView) (then : PlainAttempt) → GoesOn at given old (went.Wants digest) new (Some then) → Fewer most then
-going_fewer at given part left walk wanted first most mosts parts stage few all sum old digest new then h =
+going_fewer at given part left walk first most mosts parts stage few all sum old digest new then h =
     let staged : FromStage at given part left given.stage given.past old (went.Wants digest) new (Some then) = subst (λ l. FromLeft at given l given.past old (went.Wants digest) new (Some then)) parts h in
     let runs : FromRunning at given part left walk (Through at given left) given.past old (went.Wants digest) new (Some then) = subst (λ x. FromStage at given part left x given.past old (went.Wants digest) new (Some then)) stage staged in
     let x = running_leaves at given part left walk (Through at given left) first mosts all (through_leaves at given left mosts all) few given.past old digest new then runs in
@@ -187,7 +187,7 @@ module _ (at : When) (given : PlainAttempt) (digest : List ℕ) (bytes : Option 
   stage_fewer (running rest (Some wanted)) (running further later) (part ∷ left) is parts wants takes comes few all =
       let x = supplied_few rest further comes.0 wanted bytes first comes.1 takes.1 few in
       let one : first ≡ x.0 + 1 = x.1 in
-      going_fewer at given part left further later x.0 most mosts parts is x.2 all (omega (arith, one, sum)) old next new then goes
+      going_fewer at given part left further x.0 most mosts parts (is ∙ ap (λ o. running further o) takes.0) x.2 all (omega (arith, one, sum)) old next new then goes
   stage_fewer (running rest None) now left is parts wants takes comes few all = absurd (not_wanted digest None refl wants)
   stage_fewer coming now left is parts wants takes comes few all = absurd (not_wanted digest None refl wants)
   stage_fewer starting now left is parts wants takes comes few all = absurd (not_wanted digest None refl wants)

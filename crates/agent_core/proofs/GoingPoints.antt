@@ -84,7 +84,8 @@ module _ (at : When) (a : PlainAttempt) (P : MachineView → MachineView → Opt
   stage_leads : (part : Part) (left : List Part) (stage : PlainStage) → Leads (FromStage at a part left stage)
   stage_leads part left coming = coming_leads part left (Through at a left) (through_leads left)
   stage_leads part left starting = starting_leads part left (Through at a left) (through_leads left)
-  stage_leads part left (running walk wanted) = running_leads part left walk (Through at a left) (through_leads left)
+  stage_leads part left (running walk None) = running_leads part left walk (Through at a left) (through_leads left)
+  stage_leads part left (running walk (Some digest)) = stays_lead (part ∷ left) (running walk (Some digest)) _
   stage_leads part left (judging exit) = judging_leads part left exit (Through at a left) (through_leads left)
 
   left_leads : (left : List Part) → Leads (FromLeft at a left)

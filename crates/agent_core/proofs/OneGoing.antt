@@ -318,7 +318,8 @@ module _ (plan : OnePlan) (verdict : OneVerdict) (faults : ℕ) (low : faults < 
   stage_meets : (a : PlainAttempt) (part : Part) (left : List Part) (stage : PlainStage) → Meets (FromStage at a part left stage) (FromStage at a part left stage)
   stage_meets a part left coming = coming_meets a part left (Through at a left) (through_lasts a left) (through_meets a left)
   stage_meets a part left starting = starting_meets a part left (Through at a left) (through_lasts a left) (through_meets a left)
-  stage_meets a part left (running walk wanted) = running_meets a part left walk (Through at a left) (through_lasts a left) (through_meets a left)
+  stage_meets a part left (running walk None) = running_meets a part left walk (Through at a left) (through_lasts a left) (through_meets a left)
+  stage_meets a part left (running walk (Some digest)) = stays_meet a (part ∷ left) (running walk (Some digest)) (running walk (Some digest)) _ (λ more. refl, refl)
   stage_meets a part left (judging exit) = judging_meets a part left exit (Through at a left) (through_lasts a left) (through_meets a left)
 
   left_meets : (a : PlainAttempt) (left : List Part) → Meets (FromLeft at a left) (FromLeft at a left)
