@@ -22,7 +22,7 @@ use Rattle.script_run.specs.declared.cause.Cause.TheVariants.{MachineFault}
 use Rattle.script_run.specs.Walks.{Known, supplied, said, judged, acted, polled, Walk, Rest, ending, failing, after_text, saying, after_truth, testing, pausing, after_act, acting, doing, with_exit, after_poll, polling, awaiting}
 use Rattle.script_run.specs.LineWalks.{filling, filled, lining, ended, setting, timed, dated, line_walk, placing, after_supply, fetching}
 use Rattle.script_run.specs.ScriptWalks.{walk, walk_all, walk_arms, fetch_all, script_walk}
-use Rattle.agent_core.specs.Alike.{WantsAtMost}
+use Rattle.agent_core.specs.Wants.{WantsAtMost}
 
 -- whatever is known, no more files than so many are wanted
 abbrev Few : ℕ → Rest → Type 0

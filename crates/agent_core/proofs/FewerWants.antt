@@ -27,7 +27,7 @@ use Rattle.agent_attempt.specs.Supplies.{StageTakes, Supplies, wanted_of}
 use Rattle.agent_core.specs.declared.turned.Turned.{Turned}
 use Rattle.agent_core.specs.declared.turned.Turned.TheVariants as turned
 use Rattle.agent_core.specs.Agents.{AgentState, shown_state}
-use Rattle.agent_core.specs.Alike.{AllFetchAtMost, AttemptWantsAtMost, FetchesAtMost, StageWantsAtMost, WantsAtMost, tail_of, want_in, wants_in}
+use Rattle.agent_core.specs.Wants.{AllFetchAtMost, AttemptWantsAtMost, FetchesAtMost, StageWantsAtMost, WantsAtMost, tail_of, want_in, wants_in}
 use Rattle.agent_state.specs.Changes.{SuppliesHeld}
 use Rattle.agent_state.specs.States.{State}
 use Rattle.agent_core.specs.Devices.{Devices}

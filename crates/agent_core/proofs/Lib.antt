@@ -20,6 +20,7 @@ pub mod OneLook
 pub mod OneAsking
 pub mod OneGoing
 pub mod OneTurn
+pub mod OneChange
 pub mod FewWants
 pub mod FewerWants
 pub mod OverCalls

@@ -24,7 +24,6 @@ use Rattle.agent_attempt.specs.declared.went.Went.TheVariants as went
 use Rattle.agent_attempt.specs.declared.attempt.Part.{Part}
 use Rattle.agent_attempt.specs.Attempts.{PlainAttempt, PlainStage, Past, coming, starting, running, judging, issue_date}
 use Rattle.agent_attempt.specs.Going.{Advances, AfterComing, AfterJudging, AfterRun, Ends as AttemptEnds, Fails as AttemptFails, FromComing, FromJudging, FromLeft, FromRunning, FromStage, FromStarting, Goes, GoesOn, Stays, Through, after_failure, exit_at, held_at, with_failure}
-use Rattle.agent_core.specs.Alike.{AlikeHeld, AlikeStages}
 use Rattle.agent_core.proofs.GoingPoints.{Later, going_later, after_coming_leads, after_judging_leads, after_run_leads, through_leads}
 use Rattle.agent_core.proofs.OneAsking.{fixlet_once, succeeds_once}
 use Rattle.agent_core.proofs.OneLook.{Calm, OnePlan, SameView, acts_same, judges_same, polls_same, says_same}
@@ -199,55 +198,47 @@ module _ (plan : OnePlan) (verdict : OneVerdict) (faults : ℕ) (low : faults < 
       let later = comes_same (λ more. f (x ∷ more)) between xs ys mid far a b new other same.1.1 rest (subst (λ z. R z between) (sym same.0) (subst (R y) (sym same.1.0) rest')) s (subst T (sym same.0) t) e e' ample ample' in
       (ap (λ z. z ∷ xs) same.0 ∙ ap (λ l. y ∷ l) later.0, later.1, later.2)
 
-  -- walks that do the same after any further results
-  abbrev AlikeWalks : Walk → Walk → Type 0
-  AlikeWalks f g = (more : List Settled) → f more ≡ g more
-
   advances_same : (f : Walk) (old : MachineView) (a b : Ran) (new other : MachineView) (left further : Walk) → Calm faults old → Advances at old f a new left → Advances at old f b other further → new.faults ≡ faults → other.faults ≡ faults
-      → a ≢ ran.Memory → b ≢ ran.Memory → (a ≡ b) × Same new other × AlikeWalks left further
+      → a ≢ ran.Memory → b ≢ ran.Memory → (a ≡ b) × Same new other × (left ≡ further)
   advances_same f old a b new other left further calm p q e e' ample ample' =
       let same = comes_same f old p.results q.results p.between q.between a b new other calm p.comes q.comes p.stops q.stops e e' ample ample' in
-      (same.1, same.2, λ more. p.same more ∙ ap (λ l. f (l ++ more)) same.0 ∙ sym (q.same more))
+      let stands : (more : List Settled) → left more ≡ further more = λ more. p.same more ∙ ap (λ l. f (l ++ more)) same.0 ∙ sym (q.same more) in
+      (same.1, same.2, λ j more. stands more j)
 
   -- ---- one way on
-  -- the two come to one answer and one view, and alike attempts are held
+  -- the two come to one answer and one view, and the same is held
   abbrev SameWay : Went → Went → MachineView → MachineView → Option PlainAttempt → Option PlainAttempt → Type 0
-  SameWay answer would new other after then = (answer ≡ would) × Same new other × AlikeHeld after then
+  SameWay answer would new other after then = (answer ≡ would) × Same new other × (after ≡ then)
 
-  abbrev Meets : Goes → Goes → Type 0
-  Meets go way = (past : Past) (old : MachineView) (answer would : Went) (new other : MachineView) (after then : Option PlainAttempt) → Calm faults old → go past old answer new after → way past old would other then
+  abbrev Once : Goes → Type 0
+  Once go = (past : Past) (old : MachineView) (answer would : Went) (new other : MachineView) (after then : Option PlainAttempt) → Calm faults old → go past old answer new after → go past old would other then
       → new.faults ≡ faults → other.faults ≡ faults → answer ≢ went.Memory → would ≢ went.Memory → SameWay answer would new other after then
 
-  ends_meet : Meets AttemptEnds AttemptEnds
-  ends_meet past old answer would new other after then calm p q e e' ample ample' =
-      (p.0 ∙ sym q.0, left_same old new other calm p.1 q.1, subst (λ o. AlikeHeld o then) (sym p.2) (subst (λ o. AlikeHeld None o) (sym q.2) tt))
+  ends_once : Once AttemptEnds
+  ends_once past old answer would new other after then calm p q e e' ample ample' = (p.0 ∙ sym q.0, left_same old new other calm p.1 q.1, p.2 ∙ sym q.2)
 
-  stays_meet : (a : PlainAttempt) (left : List Part) (stage still : PlainStage) (would : Went) → AlikeStages stage still → Meets (Stays a left stage would) (Stays a left still would)
-  stays_meet a left stage still says alike past old answer would new other after then calm p q e e' ample ample' = (
-    p.0 ∙ sym q.0,
-    left_same old new other calm p.1 q.1,
-    subst (λ o. AlikeHeld o then) (sym p.2) (subst (λ o. AlikeHeld (Some (held_at a left stage past)) o) (sym q.2) (refl, alike)),
-  )
+  stays_once : (a : PlainAttempt) (left : List Part) (stage : PlainStage) (would : Went) → Once (Stays a left stage would)
+  stays_once a left stage says past old answer would new other after then calm p q e e' ample ample' = (p.0 ∙ sym q.0, left_same old new other calm p.1 q.1, p.2 ∙ sym q.2)
 
-  failure_meets : (all : Bool) (rest : Goes) → Meets rest rest → Meets (after_failure all rest) (after_failure all rest)
-  failure_meets true rest meets = meets
-  failure_meets false rest meets = ends_meet
+  failure_once : (all : Bool) (rest : Goes) → Once rest → Once (after_failure all rest)
+  failure_once true rest once = once
+  failure_once false rest once = ends_once
 
-  fails_meet : (a : PlainAttempt) (part : Part) (line : ℕ) (cause : Cause) (exit : Option ℤ) (rest : Goes) → Meets rest rest → Meets (AttemptFails a part line cause exit rest) (AttemptFails a part line cause exit rest)
-  fails_meet a part line cause exit rest meets = λ past. failure_meets a.action.all_members rest meets (with_failure part line cause exit past)
+  fails_once : (a : PlainAttempt) (part : Part) (line : ℕ) (cause : Cause) (exit : Option ℤ) (rest : Goes) → Once rest → Once (AttemptFails a part line cause exit rest)
+  fails_once a part line cause exit rest once = λ past. failure_once a.action.all_members rest once (with_failure part line cause exit past)
 
-  after_judging_meets : (a : PlainAttempt) (part : Part) (left : List Part) (exit : Option ℤ) (rest : Goes) → Meets rest rest → (f : Found) → Meets (AfterJudging a part left exit rest f) (AfterJudging a part left exit rest f)
-  after_judging_meets a part left exit rest meets found.Yes = λ past. meets (record past { exit = exit })
-  after_judging_meets a part left exit rest meets found.No = fails_meet a part 0 _ exit rest meets
-  after_judging_meets a part left exit rest meets found.Failed = fails_meet a part 0 _ exit rest meets
-  after_judging_meets a part left exit rest meets found.Memory = stays_meet a (part ∷ left) (judging exit) (judging exit) _ refl
+  after_judging_once : (a : PlainAttempt) (part : Part) (left : List Part) (exit : Option ℤ) (rest : Goes) → Once rest → (f : Found) → Once (AfterJudging a part left exit rest f)
+  after_judging_once a part left exit rest once found.Yes = λ past. once (record past { exit = exit })
+  after_judging_once a part left exit rest once found.No = fails_once a part 0 _ exit rest once
+  after_judging_once a part left exit rest once found.Failed = fails_once a part 0 _ exit rest once
+  after_judging_once a part left exit rest once found.Memory = stays_once a (part ∷ left) (judging exit) _
 
   -- what comes later doesn't lower the machine's count
   abbrev Lasts : Goes → Type 0
   Lasts go = (past : Past) (old : MachineView) (answer : Went) (new : MachineView) (after : Option PlainAttempt) → go past old answer new after → old.faults ≤ new.faults
 
-  judging_meets : (a : PlainAttempt) (part : Part) (left : List Part) (exit : Option ℤ) (rest : Goes) → Lasts rest → Meets rest rest → Meets (FromJudging at a part left exit rest) (FromJudging at a part left exit rest)
-  judging_meets a part left exit rest lasts meets past old answer would new other after then calm (f, mid, p, h) (g, far, q, k) e e' ample ample' =
+  judging_once : (a : PlainAttempt) (part : Part) (left : List Part) (exit : Option ℤ) (rest : Goes) → Lasts rest → Once rest → Once (FromJudging at a part left exit rest)
+  judging_once a part left exit rest lasts once past old answer would new other after then calm (f, mid, p, h) (g, far, q, k) e e' ample ample' =
       let one = (succeeds_quiet at part.fixlet part.fixlet.success old f mid p).later in
       let two = after_judging_leads at a Later (going_later at a) part left exit rest lasts f past mid answer new after h in
       let one' = (succeeds_quiet at part.fixlet part.fixlet.success old g far q).later in
@@ -255,22 +246,18 @@ module _ (plan : OnePlan) (verdict : OneVerdict) (faults : ℕ) (low : faults < 
       let start = calm.count in
       let same = succeeds_once plan faults low at part.fixlet part.fixlet.success old f g mid far calm p q (omega (arith, one, two, start, e)) (omega (arith, one', two', start, e'))
       (λ m. ample (subst (λ x. AfterJudging a part left exit rest x past mid answer new after) m h).0) (λ m. ample' (subst (λ x. AfterJudging a part left exit rest x past far would other then) m k).0) in
-      after_judging_meets a part left exit rest meets f past mid answer would new other after then same.1.1 h
+      after_judging_once a part left exit rest once f past mid answer would new other after then same.1.1 h
       (subst (λ x. AfterJudging a part left exit rest x past mid would other then) (sym same.0) (subst (λ v. AfterJudging a part left exit rest g past v would other then) (sym same.1.0) k)) e e' ample ample'
 
-  after_run_meets : (a : PlainAttempt) (part : Part) (left : List Part) (rest : Goes) → Lasts rest → Meets rest rest → (came : Ran) (walk further : Walk) → AlikeWalks walk further → Meets (AfterRun at a part left rest came walk) (AfterRun at a part left rest came further)
-  after_run_meets a part left rest lasts meets (ran.Held line) walk further alike = stays_meet a (part ∷ left) (running walk None) (running further None) _ (alike, refl)
-  after_run_meets a part left rest lasts meets (ran.Wants line digest) walk further alike = stays_meet a (part ∷ left) (running walk (Some digest)) (running further (Some digest)) _ (alike, refl)
-  after_run_meets a part left rest lasts meets ran.Done walk further alike =
-      let exits : exit_at walk ≡ exit_at further = ap (λ stop. stop.known.exit) (alike []) in
-      subst (λ x. Meets (FromJudging at a part left (exit_at walk) rest) (FromJudging at a part left x rest)) exits (judging_meets a part left (exit_at walk) rest lasts meets)
-  after_run_meets a part left rest lasts meets (ran.Failed line cause) walk further alike =
-      let exits : exit_at walk ≡ exit_at further = ap (λ stop. stop.known.exit) (alike []) in
-      subst (λ x. Meets (AttemptFails a part line cause (exit_at walk) rest) (AttemptFails a part line cause x rest)) exits (fails_meet a part line cause (exit_at walk) rest meets)
-  after_run_meets a part left rest lasts meets ran.Memory walk further alike = stays_meet a (part ∷ left) (running walk None) (running further None) _ (alike, refl)
+  after_run_once : (a : PlainAttempt) (part : Part) (left : List Part) (rest : Goes) → Lasts rest → Once rest → (came : Ran) (walk : Walk) → Once (AfterRun at a part left rest came walk)
+  after_run_once a part left rest lasts once (ran.Held line) walk = stays_once a (part ∷ left) (running walk None) _
+  after_run_once a part left rest lasts once (ran.Wants line digest) walk = stays_once a (part ∷ left) (running walk (Some digest)) _
+  after_run_once a part left rest lasts once ran.Done walk = judging_once a part left (exit_at walk) rest lasts once
+  after_run_once a part left rest lasts once (ran.Failed line cause) walk = fails_once a part line cause (exit_at walk) rest once
+  after_run_once a part left rest lasts once ran.Memory walk = stays_once a (part ∷ left) (running walk None) _
 
-  running_meets : (a : PlainAttempt) (part : Part) (left : List Part) (walk : Walk) (rest : Goes) → Lasts rest → Meets rest rest → Meets (FromRunning at a part left walk rest) (FromRunning at a part left walk rest)
-  running_meets a part left walk rest lasts meets past old answer would new other after then calm (x, mid, one_left, p, h) (y, far, other_left, q, k) e e' ample ample' =
+  running_once : (a : PlainAttempt) (part : Part) (left : List Part) (walk : Walk) (rest : Goes) → Lasts rest → Once rest → Once (FromRunning at a part left walk rest)
+  running_once a part left walk rest lasts once past old answer would new other after then calm (x, mid, one_left, p, h) (y, far, other_left, q, k) e e' ample ample' =
       let ample_x : x ≢ ran.Memory = λ m. ample (subst (λ z. AfterRun at a part left rest z one_left past mid answer new after) m h).0 in
       let ample_y : y ≢ ran.Memory = λ m. ample' (subst (λ z. AfterRun at a part left rest z other_left past far would other then) m k).0 in
       let one = later-RoseBy _ old.faults mid.faults p.faults in
@@ -279,25 +266,26 @@ module _ (plan : OnePlan) (verdict : OneVerdict) (faults : ℕ) (low : faults < 
       let two' = after_run_leads at a Later (going_later at a) part left rest lasts y other_left past far would other then k in
       let start = calm.count in
       let same = advances_same walk old x y mid far one_left other_left calm p q (omega (arith, one, two, start, e)) (omega (arith, one', two', start, e')) ample_x ample_y in
-      after_run_meets a part left rest lasts meets x one_left other_left same.2 past mid answer would new other after then same.1.1 h
-      (subst (λ z. AfterRun at a part left rest z other_left past mid would other then) (sym same.0) (subst (λ v. AfterRun at a part left rest y other_left past v would other then) (sym same.1.0) k)) e e' ample ample'
+      let met : AfterRun at a part left rest y one_left past far would other then = subst (λ w. AfterRun at a part left rest y w past far would other then) (sym same.2) k in
+      after_run_once a part left rest lasts once x one_left past mid answer would new other after then same.1.1 h
+      (subst (λ z. AfterRun at a part left rest z one_left past mid would other then) (sym same.0) (subst (λ v. AfterRun at a part left rest y one_left past v would other then) (sym same.1.0) met)) e e' ample ample'
 
-  starting_meets : (a : PlainAttempt) (part : Part) (left : List Part) (rest : Goes) → Lasts rest → Meets rest rest → Meets (FromStarting at a part left rest) (FromStarting at a part left rest)
-  starting_meets a part left rest lasts meets past old answer would new other after then calm (inl p) q e e' ample ample' = absurd (ample p.0)
-  starting_meets a part left rest lasts meets past old answer would new other after then calm (inr p) (inl q) e e' ample ample' = absurd (ample' q.0)
-  starting_meets a part left rest lasts meets past old answer would new other after then calm (inr (x, is, p)) (inr (y, is', q)) e e' ample ample' =
+  starting_once : (a : PlainAttempt) (part : Part) (left : List Part) (rest : Goes) → Lasts rest → Once rest → Once (FromStarting at a part left rest)
+  starting_once a part left rest lasts once past old answer would new other after then calm (inl p) q e e' ample ample' = absurd (ample p.0)
+  starting_once a part left rest lasts once past old answer would new other after then calm (inr p) (inl q) e e' ample ample' = absurd (ample' q.0)
+  starting_once a part left rest lasts once past old answer would new other after then calm (inr (x, is, p)) (inr (y, is', q)) e e' ample ample' =
       let same : x ≡ y = same_ok x y (Ok x) (Ok y) refl refl (verdict part.fixlet.script (Ok x) (Ok y) is is') in
-      running_meets a part left (standing x (issue_date a)) rest lasts meets past old answer would new other after then calm p
+      running_once a part left (standing x (issue_date a)) rest lasts once past old answer would new other after then calm p
       (subst (λ z. FromRunning at a part left (standing z (issue_date a)) rest past old would other then) (sym same) q) e e' ample ample'
 
-  after_coming_meets : (a : PlainAttempt) (part : Part) (left : List Part) (rest : Goes) → Lasts rest → Meets rest rest → (f : Found) → Meets (AfterComing at a part left rest f) (AfterComing at a part left rest f)
-  after_coming_meets a part left rest lasts meets found.Yes = starting_meets a part left rest lasts meets
-  after_coming_meets a part left rest lasts meets found.No = meets
-  after_coming_meets a part left rest lasts meets found.Failed = fails_meet a part 0 _ _ rest meets
-  after_coming_meets a part left rest lasts meets found.Memory = stays_meet a (part ∷ left) coming coming _ refl
+  after_coming_once : (a : PlainAttempt) (part : Part) (left : List Part) (rest : Goes) → Lasts rest → Once rest → (f : Found) → Once (AfterComing at a part left rest f)
+  after_coming_once a part left rest lasts once found.Yes = starting_once a part left rest lasts once
+  after_coming_once a part left rest lasts once found.No = once
+  after_coming_once a part left rest lasts once found.Failed = fails_once a part 0 _ _ rest once
+  after_coming_once a part left rest lasts once found.Memory = stays_once a (part ∷ left) coming _
 
-  coming_meets : (a : PlainAttempt) (part : Part) (left : List Part) (rest : Goes) → Lasts rest → Meets rest rest → Meets (FromComing at a part left rest) (FromComing at a part left rest)
-  coming_meets a part left rest lasts meets past old answer would new other after then calm (f, mid, p, h) (g, far, q, k) e e' ample ample' =
+  coming_once : (a : PlainAttempt) (part : Part) (left : List Part) (rest : Goes) → Lasts rest → Once rest → Once (FromComing at a part left rest)
+  coming_once a part left rest lasts once past old answer would new other after then calm (f, mid, p, h) (g, far, q, k) e e' ample ample' =
       let one = (fixlet_quiet at part.fixlet old f mid p).later in
       let two = after_coming_leads at a Later (going_later at a) part left rest lasts f past mid answer new after h in
       let one' = (fixlet_quiet at part.fixlet old g far q).later in
@@ -305,27 +293,27 @@ module _ (plan : OnePlan) (verdict : OneVerdict) (faults : ℕ) (low : faults < 
       let start = calm.count in
       let same = fixlet_once plan faults low at part.fixlet old f g mid far calm p q (omega (arith, one, two, start, e)) (omega (arith, one', two', start, e'))
       (λ m. ample (subst (λ x. AfterComing at a part left rest x past mid answer new after) m h).0) (λ m. ample' (subst (λ x. AfterComing at a part left rest x past far would other then) m k).0) in
-      after_coming_meets a part left rest lasts meets f past mid answer would new other after then same.1.1 h
+      after_coming_once a part left rest lasts once f past mid answer would new other after then same.1.1 h
       (subst (λ x. AfterComing at a part left rest x past mid would other then) (sym same.0) (subst (λ v. AfterComing at a part left rest g past v would other then) (sym same.1.0) k)) e e' ample ample'
 
   through_lasts : (a : PlainAttempt) (left : List Part) → Lasts (Through at a left)
   through_lasts a left = through_leads at a Later (going_later at a) left
 
-  through_meets : (a : PlainAttempt) (left : List Part) → Meets (Through at a left) (Through at a left)
-  through_meets a [] = ends_meet
-  through_meets a (part ∷ left) = coming_meets a part left (Through at a left) (through_lasts a left) (through_meets a left)
+  through_once : (a : PlainAttempt) (left : List Part) → Once (Through at a left)
+  through_once a [] = ends_once
+  through_once a (part ∷ left) = coming_once a part left (Through at a left) (through_lasts a left) (through_once a left)
 
-  stage_meets : (a : PlainAttempt) (part : Part) (left : List Part) (stage : PlainStage) → Meets (FromStage at a part left stage) (FromStage at a part left stage)
-  stage_meets a part left coming = coming_meets a part left (Through at a left) (through_lasts a left) (through_meets a left)
-  stage_meets a part left starting = starting_meets a part left (Through at a left) (through_lasts a left) (through_meets a left)
-  stage_meets a part left (running walk None) = running_meets a part left walk (Through at a left) (through_lasts a left) (through_meets a left)
-  stage_meets a part left (running walk (Some digest)) = stays_meet a (part ∷ left) (running walk (Some digest)) (running walk (Some digest)) _ (λ more. refl, refl)
-  stage_meets a part left (judging exit) = judging_meets a part left exit (Through at a left) (through_lasts a left) (through_meets a left)
+  stage_once : (a : PlainAttempt) (part : Part) (left : List Part) (stage : PlainStage) → Once (FromStage at a part left stage)
+  stage_once a part left coming = coming_once a part left (Through at a left) (through_lasts a left) (through_once a left)
+  stage_once a part left starting = starting_once a part left (Through at a left) (through_lasts a left) (through_once a left)
+  stage_once a part left (running walk None) = running_once a part left walk (Through at a left) (through_lasts a left) (through_once a left)
+  stage_once a part left (running walk (Some digest)) = stays_once a (part ∷ left) (running walk (Some digest)) _
+  stage_once a part left (judging exit) = judging_once a part left exit (Through at a left) (through_lasts a left) (through_once a left)
 
-  left_meets : (a : PlainAttempt) (left : List Part) → Meets (FromLeft at a left) (FromLeft at a left)
-  left_meets a [] = ends_meet
-  left_meets a (part ∷ left) = stage_meets a part left a.stage
+  left_once : (a : PlainAttempt) (left : List Part) → Once (FromLeft at a left)
+  left_once a [] = ends_once
+  left_once a (part ∷ left) = stage_once a part left a.stage
 
   pub going_once : (a : PlainAttempt) (old : MachineView) (answer would : Went) (new other : MachineView) (after then : Option PlainAttempt) → Calm faults old → GoesOn at a old answer new after → GoesOn at a old would other then
       → new.faults ≡ faults → other.faults ≡ faults → answer ≢ went.Memory → would ≢ went.Memory → SameWay answer would new other after then
-  going_once a old answer would new other after then calm p q e e' ample ample' = left_meets a a.left a.past old answer would new other after then calm p q e e' ample ample'
+  going_once a old answer would new other after then calm p q e e' ample ample' = left_once a a.left a.past old answer would new other after then calm p q e e' ample ample'

@@ -6,22 +6,21 @@ use Rattle.script_run.specs.Asking.{When}
 use Rattle.script_run.specs.Machines.{MachineView}
 use Rattle.agent_text.specs.declared.pocket.SaveResult.{SaveResult}
 use Rattle.agent_text.specs.declared.pocket.SaveResult.TheVariants as save
-use Rattle.agent_text.specs.Histories.{rows_at, with_ended}
+use Rattle.agent_text.specs.Histories.{rows_at}
 use Rattle.agent_text.specs.Pockets.{Saves}
 use Rattle.agent_attempt.specs.declared.found.Found.{Found}
 use Rattle.agent_attempt.specs.declared.found.Found.TheVariants as found
 use Rattle.agent_attempt.specs.declared.went.Went.{Went}
 use Rattle.agent_attempt.specs.declared.went.Went.TheVariants as went
-use Rattle.agent_attempt.specs.Attempts.{PlainAttempt, PlainStage, coming, starting, running, judging}
+use Rattle.agent_attempt.specs.Attempts.{PlainAttempt}
 use Rattle.agent_attempt.specs.ActionContents.{Content, actions_of, content_of}
 use Rattle.agent_attempt.specs.Relevance.{Asking, ContentIs, IsDue}
 use Rattle.agent_core.specs.declared.turned.Turned.{Turned}
 use Rattle.agent_core.specs.declared.turned.Turned.TheVariants.{Idle, Interrupted, MachineFault, PocketFault, Memory}
 use Rattle.agent_core.specs.declared.turned.Turned.TheVariants as turned
-use Rattle.agent_core.specs.Alike.{AlikeHeld, AlikeStages, AlikeStates, NoFaults, TellsWorld}
 use Rattle.agent_core.specs.Saving.{Answers, AsksThen, Ending, SavesOn, SavesThen}
 use Rattle.agent_state.specs.States.{State, as_saved, broken_action, can_report, interrupted, text_of, with_beginning, with_end, with_held, with_histories, with_report, with_unsaved}
-use Rattle.agent_core.specs.Devices.{Devices, PocketView, pocket_view}
+use Rattle.agent_core.specs.Devices.{Devices, NoFaults, PocketView, TellsWorld, pocket_view}
 use Rattle.agent_core.specs.Turns.{AfterBeginning, AfterFirstSave, AfterGoing, AfterInterrupting, AfterLastSave, AfterTest, AfterTrying, Begins, Clears, Finishes, FirstSave, Goes, Interrupts, LastSave, Marks, ReportsAndSaves, StepFor, Steps, TestsOne, Tries, TriesEach, TriesMarked, Turn, beginning, may_clear, no_marks, outcome_of, with_mark}
 use Rattle.agent_core.proofs.GoingPoints.{Later, going_later, going_leads}
 use Rattle.agent_core.proofs.OneAsking.{Once as FoundOnce, content_once, due_once}
@@ -115,17 +114,7 @@ clears_last at s [] marks next lasts d = lasts marks d
 clears_last at s (action ∷ actions) marks next lasts d =
     tests_last (may_clear (last_row (rows_at action.id marks.histories))) at s action marks (λ (then : Marks). Clears at s actions then next) (λ marks d. clears_last at s actions marks next lasts d) d
 
--- ---- alike
-alike_stages : (stage : PlainStage) → AlikeStages stage stage
-alike_stages coming = refl
-alike_stages starting = refl
-alike_stages (running walk wanted) = (λ more. refl, refl)
-alike_stages (judging exit) = refl
-
-alike_held : (held : Option PlainAttempt) → AlikeHeld held held
-alike_held None = tt
-alike_held (Some attempt) = (refl, alike_stages attempt.stage)
-
+-- ---- one way
 not_done : save.Done ≡ save.Failed → ⊥
 not_done e = cc
 
@@ -146,15 +135,11 @@ module _ (plan : OnePlan) (verdict : OneVerdict) (faults : ℕ) (low : faults < 
   abbrev Fine : Turned → Devices → Type 0
   Fine a d = (d.machine.faults ≡ faults) × (a ≢ PocketFault) × (a ≢ Memory)
 
-  abbrev Meets : Ending → Ending → Type 0
-  Meets ending other = (a b : Turned) (s2 s3 : State) (d2 d3 : Devices) → ending a s2 d2 → other b s3 d3 → Fine a d2 → Fine b d3 → (a ≡ b) × AlikeStates s2 s3 × (d2 ≡ d3)
-
   abbrev Once : Ending → Type 0
-  Once ending = Meets ending ending
+  Once ending = (a b : Turned) (s2 s3 : State) (d2 d3 : Devices) → ending a s2 d2 → ending b s3 d3 → Fine a d2 → Fine b d3 → (a ≡ b) × (s2 ≡ s3) × (d2 ≡ d3)
 
-  answers_meet : (would : Turned) (s still : State) (d : Devices) → AlikeStates s still → Meets (Answers would s d) (Answers would still d)
-  answers_meet would s still d alike a b s2 s3 d2 d3 p q fine fine' =
-      (p.0 ∙ sym q.0, subst (λ x. AlikeStates x s3) (sym p.1) (subst (λ x. AlikeStates s x) (sym q.1) alike), p.2 ∙ sym q.2)
+  answers_once : (would : Turned) (s : State) (d : Devices) → Once (Answers would s d)
+  answers_once would s d a b s2 s3 d2 d3 p q fine fine' = (p.0 ∙ sym q.0, p.1 ∙ sym q.1, p.2 ∙ sym q.2)
 
   -- ---- saves
   abbrev Faults : (SaveResult → Devices → Ending) → Type 0
@@ -165,42 +150,37 @@ module _ (plan : OnePlan) (verdict : OneVerdict) (faults : ℕ) (low : faults < 
   done_of after fault save.Failed d a s2 d2 h fine = absurd (fine.1 ((fault d a s2 d2).0 h))
   done_of after fault save.Memory d a s2 d2 h fine = absurd (fine.2 ((fault d a s2 d2).1 h))
 
-  saves_meet : (s still : State) (d : Devices) (after then : SaveResult → Devices → Ending) → text_of s ≡ text_of still → CalmAll d → Faults after → Faults then
-      → ((pocket : PocketView) → CalmAll (with_pocket pocket d) → Meets (after save.Done (with_pocket pocket d)) (then save.Done (with_pocket pocket d))) → Meets (SavesThen s d after) (SavesThen still d then)
-  saves_meet s still d after then text calm fault fault' meets a b s2 s3 d2 d3 (r, pocket, saves, h) (r', pocket', saves', k) fine fine' =
+  saves_once : (s : State) (d : Devices) (after : SaveResult → Devices → Ending) → CalmAll d → Faults after
+      → ((pocket : PocketView) → CalmAll (with_pocket pocket d) → Once (after save.Done (with_pocket pocket d))) → Once (SavesThen s d after)
+  saves_once s d after calm fault once a b s2 s3 d2 d3 (r, pocket, saves, h) (r', pocket', saves', k) fine fine' =
       let is = done_of after fault r (with_pocket pocket d) a s2 d2 h fine in
-      let is' = done_of then fault' r' (with_pocket pocket' d) b s3 d3 k fine' in
+      let is' = done_of after fault r' (with_pocket pocket' d) b s3 d3 k fine' in
       let first : SavesOn (text_of s) d.pocket save.Done pocket = subst (λ x. SavesOn (text_of s) d.pocket x pocket) is saves in
-      let second : SavesOn (text_of still) d.pocket save.Done pocket' = subst (λ x. SavesOn (text_of still) d.pocket x pocket') is' saves' in
+      let second : SavesOn (text_of s) d.pocket save.Done pocket' = subst (λ x. SavesOn (text_of s) d.pocket x pocket') is' saves' in
       let now = saved_as (text_of s) d.pocket.saved pocket.saved calm.told first.saves in
-      let now' = saved_as (text_of still) d.pocket.saved pocket'.saved calm.told second.saves in
-      let same : pocket ≡ pocket' = same_pocket pocket pocket' (now ∙ ap (λ x. Some (Some x)) text ∙ sym now') (first.faults.steady not_done ∙ sym (second.faults.steady not_done)) in
-      meets pocket (record { machine = calm.machine; told = subst IsSome (sym now) refl }) a b s2 s3 d2 d3 (subst (λ x. after x (with_pocket pocket d) a s2 d2) is h)
-      (subst (λ x. then save.Done (with_pocket x d) b s3 d3) (sym same) (subst (λ x. then x (with_pocket pocket' d) b s3 d3) is' k)) fine fine'
+      let now' = saved_as (text_of s) d.pocket.saved pocket'.saved calm.told second.saves in
+      let same : pocket ≡ pocket' = same_pocket pocket pocket' (now ∙ sym now') (first.faults.steady not_done ∙ sym (second.faults.steady not_done)) in
+      once pocket (record { machine = calm.machine; told = subst IsSome (sym now) refl }) a b s2 s3 d2 d3 (subst (λ x. after x (with_pocket pocket d) a s2 d2) is h)
+      (subst (λ x. after save.Done (with_pocket x d) b s3 d3) (sym same) (subst (λ x. after x (with_pocket pocket' d) b s3 d3) is' k)) fine fine'
 
   -- ---- the end of the turn
-  last_meets : (h k : Option PlainAttempt) → AlikeHeld h k → (changed : Bool) (would : Turned) (s : State) (d : Devices) → CalmAll d → Meets (LastSave changed would (with_held h s) d) (LastSave changed would (with_held k s) d)
-  last_meets h k alike false would s d calm = answers_meet would (with_held h s) (with_held k s) d (refl, alike)
-  last_meets h k alike true would s d calm =
-      saves_meet (with_held h s) (with_held k s) d (AfterLastSave would (with_held h s)) (AfterLastSave would (with_held k s)) refl calm (λ d a s2 d2. (λ p. p.0, λ p. p.0)) (λ d a s2 d2. (λ p. p.0, λ p. p.0))
-      (λ pocket calm. answers_meet would (as_saved (with_held h s)) (as_saved (with_held k s)) (with_pocket pocket d) (refl, alike))
+  last_once : (changed : Bool) (would : Turned) (s : State) (d : Devices) → CalmAll d → Once (LastSave changed would s d)
+  last_once false would s d calm = answers_once would s d
+  last_once true would s d calm = saves_once s d (AfterLastSave would s) calm (λ d a s2 d2. (λ p. p.0, λ p. p.0)) (λ pocket calm. answers_once would (as_saved s) (with_pocket pocket d))
 
-  report_meets : (h k : Option PlainAttempt) → AlikeHeld h k → (can changed : Bool) (would : Turned) (s : State) (d : Devices) → CalmAll d → Meets (ReportsAndSaves can changed would (with_held h s) d) (ReportsAndSaves can changed would (with_held k s) d)
-  report_meets h k alike true changed would s d calm = last_meets h k alike true would (with_report s) d calm
-  report_meets h k alike false changed would s d calm = last_meets h k alike changed would s d calm
-
-  finish_meets : (h k : Option PlainAttempt) → AlikeHeld h k → (changed : Bool) (would : Turned) (s : State) (d : Devices) → CalmAll d → Meets (Finishes changed would (with_held h s) d) (Finishes changed would (with_held k s) d)
-  finish_meets h k alike changed would s d calm = report_meets h k alike (can_report s) changed would s d calm
+  report_once : (can changed : Bool) (would : Turned) (s : State) (d : Devices) → CalmAll d → Once (ReportsAndSaves can changed would s d)
+  report_once true changed would s d calm = last_once true would (with_report s) d calm
+  report_once false changed would s d calm = last_once changed would s d calm
 
   finish_once : (changed : Bool) (would : Turned) (s : State) (d : Devices) → CalmAll d → Once (Finishes changed would s d)
-  finish_once changed would s d calm = finish_meets s.held s.held (alike_held s.held) changed would s d calm
+  finish_once changed would s d calm = report_once (can_report s) changed would s d calm
 
   -- ---- an attempt goes on
-  after_going_meets : (id : ℕ) (began : Bool) (w : Went) (after then : Option PlainAttempt) → AlikeHeld after then → (s : State) (d : Devices) → CalmAll d → Meets (AfterGoing at id began w after s d) (AfterGoing at id began w then s d)
-  after_going_meets id began (went.Held component line) after then alike s d calm = finish_meets after then alike false _ s d calm
-  after_going_meets id began (went.Wants digest) after then alike s d calm = finish_meets after then alike false _ s d calm
-  after_going_meets id began (went.Ended fail note) after then alike s d calm = finish_meets None None tt true _ (with_histories (with_ended id at.moment (outcome_of fail) note s.histories) s) d calm
-  after_going_meets id began went.Memory after then alike s d calm = answers_meet Memory (with_held after s) (with_held then s) d (refl, alike)
+  after_going_once : (id : ℕ) (began : Bool) (w : Went) (after : Option PlainAttempt) (s : State) (d : Devices) → CalmAll d → Once (AfterGoing at id began w after s d)
+  after_going_once id began (went.Held component line) after s d calm = finish_once false _ (with_held after s) d calm
+  after_going_once id began (went.Wants digest) after s d calm = finish_once false _ (with_held after s) d calm
+  after_going_once id began (went.Ended fail note) after s d calm = finish_once true _ (with_end id at.moment (outcome_of fail) note s) d calm
+  after_going_once id began went.Memory after s d calm = answers_once Memory (with_held after s) d
 
   goes_once : (began : Bool) (attempt : PlainAttempt) (s : State) (d : Devices) → CalmAll d → Once (Goes at began attempt s d)
   goes_once began attempt s d calm a b s2 s3 d2 d3 (w, machine, after, p, h) (v, other, then, q, k) fine fine' =
@@ -214,8 +194,9 @@ module _ (plan : OnePlan) (verdict : OneVerdict) (faults : ℕ) (low : faults < 
       let end' = fine'.0 in
       let same = going_once plan verdict faults low at attempt d.machine w v machine other after then calm.machine p q (omega (arith, one, two, start, end)) (omega (arith, one', two', start, end'))
       (λ m. fine.2 (subst (λ x. AfterGoing at id began x after s (with_machine machine d) a s2 d2) m h).0) (λ m. fine'.2 (subst (λ x. AfterGoing at id began x then s (with_machine other d) b s3 d3) m k).0) in
-      after_going_meets id began w after then same.2 s (with_machine machine d) (record { machine = same.1.1; told = calm.told }) a b s2 s3 d2 d3 h
-      (subst (λ x. AfterGoing at id began x then s (with_machine machine d) b s3 d3) (sym same.0) (subst (λ x. AfterGoing at id began v then s (with_machine x d) b s3 d3) (sym same.1.0) k)) fine fine'
+      let met : AfterGoing at id began v after s (with_machine other d) b s3 d3 = subst (λ x. AfterGoing at id began v x s (with_machine other d) b s3 d3) (sym same.2) k in
+      after_going_once id began w after s (with_machine machine d) (record { machine = same.1.1; told = calm.told }) a b s2 s3 d2 d3 h
+      (subst (λ x. AfterGoing at id began x after s (with_machine machine d) b s3 d3) (sym same.0) (subst (λ x. AfterGoing at id began v after s (with_machine x d) b s3 d3) (sym same.1.0) met)) fine fine'
 
   -- ---- a broken attempt
   breaks_once : (id : ℕ) (s : State) (d : Devices) → CalmAll d → Once (Interrupts at id s d)
@@ -223,7 +204,7 @@ module _ (plan : OnePlan) (verdict : OneVerdict) (faults : ℕ) (low : faults < 
   breaks_once id s d calm a b s2 s3 d2 d3 (inr h) (inl k) fine fine' = absurd (fine'.2 k.0)
   breaks_once id s d calm a b s2 s3 d2 d3 (inr h) (inr k) fine fine' =
       let ended = interrupted id at.moment s in
-      saves_meet ended ended d (AfterInterrupting id ended) (AfterInterrupting id ended) refl calm (λ d a s2 d2. (λ p. p.0, λ p. p.0)) (λ d a s2 d2. (λ p. p.0, λ p. p.0))
+      saves_once ended d (AfterInterrupting id ended) calm (λ d a s2 d2. (λ p. p.0, λ p. p.0))
       (λ pocket calm. finish_once false (Interrupted id) (as_saved ended) (with_pocket pocket d) calm) a b s2 s3 d2 d3 h k fine fine'
 
   -- ---- what is asked, and what comes behind it
@@ -248,17 +229,14 @@ module _ (plan : OnePlan) (verdict : OneVerdict) (faults : ℕ) (low : faults < 
   begins_once s marked action (Some content) d calm a b s2 s3 d2 d3 h k fine fine' =
       let begun = with_beginning action.id at.moment marked in
       let attempt = beginning at action content marked in
-      saves_meet begun begun d (AfterBeginning at s marked begun attempt) (AfterBeginning at s marked begun attempt) refl calm (λ d a s2 d2. (λ p. p.0, λ p. p.0)) (λ d a s2 d2. (λ p. p.0, λ p. p.0))
+      saves_once begun d (AfterBeginning at s marked begun attempt) calm (λ d a s2 d2. (λ p. p.0, λ p. p.0))
       (λ pocket calm. goes_once true attempt (as_saved begun) (with_pocket pocket d) calm) a b s2 s3 d2 d3 h k fine fine'
-
-  same_state : (s : State) → AlikeStates s s
-  same_state s = (refl, alike_held s.held)
 
   after_trying_once : (s marked : State) (action : Action) (next : Devices → Ending) → ((d : Devices) → CalmAll d → Once (next d)) → (f : Found) (d : Devices) → CalmAll d → Once (AfterTrying at s marked action next f d)
   after_trying_once s marked action next once found.Yes d calm = begins_once s marked action (content_of action s.sites) d calm
   after_trying_once s marked action next once found.No d calm = once d calm
-  after_trying_once s marked action next once found.Failed d calm = answers_meet MachineFault s s d (same_state s)
-  after_trying_once s marked action next once found.Memory d calm = answers_meet Memory s s d (same_state s)
+  after_trying_once s marked action next once found.Failed d calm = answers_once MachineFault s d
+  after_trying_once s marked action next once found.Memory d calm = answers_once Memory s d
 
   tries_once : (s marked : State) (any : Bool) (actions : List Action) (d : Devices) → CalmAll d → Once (TriesEach at s marked any actions d)
   tries_once s marked any [] d calm a b s2 s3 d2 d3 (inl h) k fine fine' = absurd (fine.2 h.0)
@@ -275,8 +253,8 @@ module _ (plan : OnePlan) (verdict : OneVerdict) (faults : ℕ) (low : faults < 
   after_test_once : (s : State) (id : ℕ) (marks : Marks) (next : Marks → Devices → Ending) → ((marks : Marks) (d : Devices) → CalmAll d → Once (next marks d)) → (f : Found) (d : Devices) → CalmAll d → Once (AfterTest at s id marks next f d)
   after_test_once s id marks next once found.Yes d calm = once marks d calm
   after_test_once s id marks next once found.No d calm = once (with_mark at id marks) d calm
-  after_test_once s id marks next once found.Failed d calm = answers_meet MachineFault s s d (same_state s)
-  after_test_once s id marks next once found.Memory d calm = answers_meet Memory s s d (same_state s)
+  after_test_once s id marks next once found.Failed d calm = answers_once MachineFault s d
+  after_test_once s id marks next once found.Memory d calm = answers_once Memory s d
 
   tests_once : (may : Bool) (s : State) (action : Action) (marks : Marks) (next : Marks → Devices → Ending) → ((marks : Marks) (d : Devices) → CalmAll d → Once (next marks d)) → ((marks : Marks) (d : Devices) → Lasts d (next marks d))
       → (d : Devices) → CalmAll d → Once (TestsOne may at s action marks next d)
@@ -317,11 +295,11 @@ module _ (plan : OnePlan) (verdict : OneVerdict) (faults : ℕ) (low : faults < 
   first_once : (unsaved : Bool) (s : State) (d : Devices) → CalmAll d → Once (FirstSave unsaved at s d)
   first_once false s d calm = steps_once s d calm
   first_once true s d calm =
-      saves_meet s s d (AfterFirstSave at s) (AfterFirstSave at s) refl calm (λ d a s2 d2. (λ p. p.0, λ p. p.0)) (λ d a s2 d2. (λ p. p.0, λ p. p.0))
+      saves_once s d (AfterFirstSave at s) calm (λ d a s2 d2. (λ p. p.0, λ p. p.0))
       (λ pocket calm. steps_once (as_saved s) (with_pocket pocket d) calm)
 
 pub turn_once : OnePlan → OneVerdict → (at : When) (s : State) (d : Devices) (answer other : Turned) (s2 s3 : State) (d2 d3 : Devices) → TellsWorld d → Turn at s d answer s2 d2 → Turn at s d other s3 d3 → NoFaults d d2 → NoFaults d d3
-    → answer ≢ PocketFault → answer ≢ Memory → other ≢ PocketFault → other ≢ Memory → (answer ≡ other) × AlikeStates s2 s3 × (d2 ≡ d3)
+    → answer ≢ PocketFault → answer ≢ Memory → other ≢ PocketFault → other ≢ Memory → (answer ≡ other) × (s2 ≡ s3) × (d2 ≡ d3)
 turn_once plan verdict at s d answer other s2 s3 d2 d3 tells p q none none' fault memory fault' memory' =
     first_once plan verdict d.machine.faults none.machine_counts at s.unsaved s d
     (record { machine = record { world = tells.world; looked = tells.looked; acted = tells.acted; polled = tells.polled; count = refl }; told = tells.saved })

@@ -5,7 +5,7 @@ pub mod Opens
 pub mod Inside
 pub mod Stops
 pub mod Agents
-pub mod Alike
+pub mod Wants
 pub mod Schedules
 pub mod Steps
 pub mod Calls

@@ -15,14 +15,17 @@ ghost use Rattle.agent_core.specs.declared.turned.Turned.{Turned};
 ghost use Rattle.agent_core.specs.declared.turned.Turned.TheVariants.{Memory, PocketFault, Wants};
 ghost use Rattle.agent_core.specs.Agents.{AgentState, shown_state};
 ghost use Rattle.agent_core.specs.Calls.{Call, DoAll, IsCall};
-ghost use Rattle.agent_core.specs.Alike.{AlikeStates, AttemptWantsAtMost, NoFaults, TellsWorld};
+ghost use Rattle.agent_core.specs.Wants.{AttemptWantsAtMost};
+ghost use Rattle.report_text.specs.declared.answer.Gathered.{Gathered};
+ghost use Rattle.report_text.specs.declared.answer.Gathered.TheVariants as gathering;
 ghost use Rattle.report_text.specs.declared.answer.Verdict.{Verdict};
-ghost use Rattle.agent_state.specs.Changes.{SettlesState, SuppliesHeld};
+ghost use Rattle.fix_site.specs.declared.site.Site.{Site};
+ghost use Rattle.agent_state.specs.Changes.{GathersSite, SettlesState, SuppliesHeld, SuppliesState};
 ghost use Rattle.agent_core.specs.Opens.{OpensAgent, new_state, opened_state};
 ghost use Rattle.agent_core.specs.Schedules.{IsMailOf, IsStep, Mail, restarted, settled};
 ghost use Rattle.agent_core.specs.declared.opening.Opened.TheVariants as opening;
 ghost use Rattle.agent_state.specs.States.{IsSound, State, saved_of, text_of};
-ghost use Rattle.agent_core.specs.Devices.{Devices};
+ghost use Rattle.agent_core.specs.Devices.{Devices, NoFaults, TellsWorld};
 ghost use Rattle.agent_core.specs.Stops.{Agrees, AreLawful, BothLawful, HaveRules, Table};
 ghost use Rattle.agent_core.specs.Turns.{Turn};
 
@@ -44,15 +47,31 @@ pub fn a_saved_state_is_read_again()
 }
 
 /// On a machine that tells its world a turn in which no device fails, and that doesn't end by a pocket's fault or want of memory, is a
-/// function of its time, the state and what the devices tell, but for how it is said what a held attempt does.
+/// function of its time, the state and what the devices tell.
 pub fn one_turn()
     ensures { (at : When) (s : State) (d : Devices) (answer other : Turned) (s2 s3 : State) (d2 d3 : Devices)
         → TellsWorld d → Turn at s d answer s2 d2 → Turn at s d other s3 d3 → NoFaults d d2 → NoFaults d d3
         → answer ≢ PocketFault → answer ≢ Memory → other ≢ PocketFault → other ≢ Memory
-        → (answer ≡ other) × AlikeStates s2 s3 × (d2 ≡ d3) }
+        → (answer ≡ other) × (s2 ≡ s3) × (d2 ≡ d3) }
 {
     one_plan();
     one_verdict();
+}
+
+/// So are the calls between turns: settling and supplying, and gathering but for want of memory. An agent that is opened from a pocket that
+/// tells its text shows one state.
+pub fn one_change()
+    ensures settled { (seq : ℕ) (verdict : Verdict) (s s2 s3 : State) (answer other : Bool) → SettlesState seq verdict s answer s2
+        → SettlesState seq verdict s other s3 → (answer ≡ other) × (s2 ≡ s3) }
+    ensures gathered { (site : Site) (s s2 s3 : State) (answer other : Gathered) → GathersSite s site answer s2 → GathersSite s site other s3
+        → answer ≢ gathering.Memory → other ≢ gathering.Memory → (answer ≡ other) × (s2 ≡ s3) }
+    ensures supplied { (digest : List ℕ) (bytes : Option (List ℕ)) (s s2 s3 : State) (answer other : Bool) → SuppliesState s digest bytes answer s2
+        → SuppliesState s digest bytes other s3 → (answer ≡ other) × (s2 ≡ s3) }
+    ensures opened { (computer : List ℕ) (told : Option (Option (List ℕ))) (agent other : AgentState) → IsSome told
+        → OpensAgent computer told (opening.Agent agent) → OpensAgent computer told (opening.Agent other) → shown_state agent ≡ shown_state other }
+{
+    one_saved();
+    lines_are_read_again();
 }
 
 /// A turn adds one report at most, which has the next number. Where the pocket has the text of a state that isn't said to be unsaved, it
