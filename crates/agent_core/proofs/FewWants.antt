@@ -25,18 +25,18 @@ use Rattle.script_run.specs.ScriptWalks.{walk, walk_all, walk_arms, fetch_all, s
 use Rattle.agent_core.specs.Wants.{WantsAtMost}
 
 -- whatever is known, no more files than so many are wanted
-abbrev Few : ℕ → Rest → Type 0
+abbrev pub Few : ℕ → Rest → Type 0
 Few most rest = (known : Known) → WantsAtMost (rest known) most
 
 -- a result without a file adds none
 behind : {count most : ℕ} → count ≤ most → 0 + count ≤ most
 behind le = omega (arith, le)
 
-ending_few : (most : ℕ) → Few most ending
+pub ending_few : (most : ℕ) → Few most ending
 ending_few most known [] = omega arith
 ending_few most known (result ∷ results) = behind (ending_few most known results)
 
-failing_few : (most n : ℕ) (cause : Cause) → Few most (failing n cause)
+pub failing_few : (most n : ℕ) (cause : Cause) → Few most (failing n cause)
 failing_few most n cause known [] = omega arith
 failing_few most n cause known (result ∷ results) = behind (failing_few most n cause known results)
 
@@ -59,7 +59,7 @@ after_truth_few most n met unmet (truth.Error kind place) p q = failing_few most
 after_truth_few most n met unmet (truth.Failed place) p q = failing_few most n _
 after_truth_few most n met unmet truth.Memory p q = failing_few most n _
 
-testing_few : (most n : ℕ) (test : List ℕ) (met unmet : Rest) → Few most met → Few most unmet → Few most (testing n test met unmet)
+pub testing_few : (most n : ℕ) (test : List ℕ) (met unmet : Rest) → Few most met → Few most unmet → Few most (testing n test met unmet)
 testing_few most n test met unmet p q known [] = omega arith
 testing_few most n test met unmet p q known (judged answer ∷ results) = behind (after_truth_few most n met unmet answer p q known results)
 testing_few most n test met unmet p q known (_ ∷ results) = behind (failing_few most n MachineFault known results)
@@ -82,7 +82,7 @@ acting_few most n midway c rest started p q known [] = omega arith
 acting_few most n midway c rest started p q known (acted answer ∷ results) = behind (after_act_few most n rest started answer p q known results)
 acting_few most n midway c rest started p q known (_ ∷ results) = behind (failing_few most n MachineFault known results)
 
-doing_few : (most n : ℕ) (midway : Bool) (c : Command) (rest : Rest) → Few most rest → Few most (doing n midway c rest)
+pub doing_few : (most n : ℕ) (midway : Bool) (c : Command) (rest : Rest) → Few most rest → Few most (doing n midway c rest)
 doing_few most n midway c rest few = acting_few most n midway c rest (λ process. rest) few (λ process. few)
 
 after_poll_few : (most n : ℕ) (rest : Rest) (answer : Polled) → Few most rest → Few most (after_poll n rest answer)
@@ -90,7 +90,7 @@ after_poll_few most n rest (of_poll.Exited code) few = λ known. few (with_exit 
 after_poll_few most n rest of_poll.Failed few = failing_few most n _
 after_poll_few most n rest of_poll.Running few = failing_few most n _
 
-polling_few : (most n process : ℕ) (rest : Rest) → Few most rest → Few most (polling n process rest)
+pub polling_few : (most n process : ℕ) (rest : Rest) → Few most rest → Few most (polling n process rest)
 polling_few most n process rest few known [] = omega arith
 polling_few most n process rest few known (polled answer ∷ results) = behind (after_poll_few most n rest answer few known results)
 polling_few most n process rest few known (_ ∷ results) = behind (failing_few most n MachineFault known results)
@@ -127,7 +127,7 @@ timed_few most n (Some moment) rest few = few (pos moment)
 dated_few : (most n : ℕ) (midway : Bool) (template : Template) (rest : Bool → ℤ → Rest) → ((later : Bool) (moment : ℤ) → Few most (rest later moment)) → Few most (dated n midway template rest)
 dated_few most n midway template rest few = filled_few most n midway template _ (λ later text. timed_few most n _ (rest later) (few later))
 
-line_few : (most n : ℕ) (what : Line) (rest : Rest) → Few most rest → Few most (line_walk n what rest)
+pub line_few : (most n : ℕ) (what : Line) (rest : Rest) → Few most rest → Few most (line_walk n what rest)
 line_few most n (line.Parameter name value) rest few = filled_few most n false value _ (λ midway text. setting_few most n name text rest few)
 line_few most n (line.ContinueIf test) rest few = testing_few most n test rest _ few (failing_few most n _)
 line_few most n (line.PauseWhile test) rest few = pausing_few most n test rest few
@@ -148,11 +148,11 @@ line_few most n (line.SettingDelete name date) rest few = filled_few most n fals
 
 -- ---- scripts
 mutual
-  walk_few : (most : ℕ) (statement : PlainStatement) (rest : Rest) → Few most rest → Few most (walk statement rest)
+  pub walk_few : (most : ℕ) (statement : PlainStatement) (rest : Rest) → Few most rest → Few most (walk statement rest)
   walk_few most (act n what) rest few = line_few most n what rest few
   walk_few most (choice arms other) rest few = walk_arms_few most arms rest (walk_all other rest) few (walk_all_few most other rest few)
 
-  walk_all_few : (most : ℕ) (statements : Statements) (rest : Rest) → Few most rest → Few most (walk_all statements rest)
+  pub walk_all_few : (most : ℕ) (statements : Statements) (rest : Rest) → Few most rest → Few most (walk_all statements rest)
   walk_all_few most no_statements rest few = few
   walk_all_few most (more_statements statements last) rest few = walk_all_few most statements (walk last rest) (walk_few most last rest few)
 
@@ -165,7 +165,7 @@ either_rest : (most : ℕ) (b : Bool) (f g : Rest) → Few most f → Few most g
 either_rest most true f g p q = p
 either_rest most false f g p q = q
 
-placing_few : (most : ℕ) (fetch : Prefetch) (bytes : List ℕ) (rest : Rest) → Few most rest → Few most (placing fetch bytes rest)
+pub placing_few : (most : ℕ) (fetch : Prefetch) (bytes : List ℕ) (rest : Rest) → Few most rest → Few most (placing fetch bytes rest)
 placing_few most fetch bytes rest few = search (either_rest, doing_few, failing_few, few)
 
 after_supply_few : (most : ℕ) (fetch : Prefetch) (rest : Rest) (bytes : Option (List ℕ)) → Few most rest → Few most (after_supply fetch rest bytes)
@@ -173,7 +173,7 @@ after_supply_few most fetch rest None few = failing_few most fetch.line _
 after_supply_few most fetch rest (Some bytes) few = placing_few most fetch bytes rest few
 
 -- one more is wanted by a prefetch line
-fetching_few : (most : ℕ) (fetch : Prefetch) (rest : Rest) → Few most rest → Few (suc most) (fetching fetch rest)
+pub fetching_few : (most : ℕ) (fetch : Prefetch) (rest : Rest) → Few most rest → Few (suc most) (fetching fetch rest)
 fetching_few most fetch rest few known [] = omega arith
 fetching_few most fetch rest few known (supplied bytes ∷ results) = let later = after_supply_few most fetch rest bytes few known results in omega (arith, later)
 fetching_few most fetch rest few known (_ ∷ results) = let later = failing_few most fetch.line MachineFault known results in omega (arith, later)

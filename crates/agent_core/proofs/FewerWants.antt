@@ -90,7 +90,7 @@ weaker go few most le leaves past old digest new then h =
 none_held : (then : PlainAttempt) → Some then ≡ None → ⊥
 none_held then e = cc
 
-same_attempt : (a b : PlainAttempt) → Some a ≡ Some b → a ≡ b
+pub same_attempt : (a b : PlainAttempt) → Some a ≡ Some b → a ≡ b
 same_attempt a b e = cc
 
 ends_leave : (most : ℕ) → Leaves most Ends

@@ -31,24 +31,24 @@ record Fits (m : Mail) (s : State) : Type 0 where
 abbrev Stands : State → Devices → Type 0
 Stands s d = Holds d.pocket.saved (λ now. now ≡ Some (text_of s))
 
--- the pocket has what it had, or the state as it stands
-abbrev Standing : Mail → State → Devices → Type 0
-Standing m s d = Holds d.pocket.saved (HasSaved m) ⊎ Stands s d
+-- The pocket has what it had, which is the mail as it stands under this condition, or it has the state as it stands.
+abbrev Standing : Type 0 → Mail → State → Devices → Type 0
+Standing Q m s d = (Holds d.pocket.saved (HasSaved m) × (Q → m ≡ saved m)) ⊎ Stands s d
 
 -- what actions are tested and tried with
-abbrev Tried : Mail → Marks → State → Devices → Type 0
-Tried m marks s d = Fits m s × Standing m s d × (marks.any ≡ false → marks.histories ≡ s.histories)
+abbrev Tried : Type 0 → Mail → Marks → State → Devices → Type 0
+Tried Q m marks s d = Fits m s × Standing Q m s d × (marks.any ≡ false → marks.histories ≡ s.histories)
 
-abbrev Stood : Mail → State → Devices → Type 0
-Stood m s d = Fits m s × Standing m s d
+abbrev Stood : Type 0 → Mail → State → Devices → Type 0
+Stood Q m s d = Fits m s × Standing Q m s d
 
 -- the end of a turn: what hasn't changed since the last save is saved
-abbrev Ending : Mail → Bool → State → Devices → Type 0
-Ending m changed s d = Fits m s × (changed ≡ false → Standing m s d)
+abbrev Ending : Type 0 → Mail → Bool → State → Devices → Type 0
+Ending Q m changed s d = Fits m s × (changed ≡ false → Standing Q m s d)
 
-abbrev Steps : Mail → Turned → State → Devices → Type 0
-Steps m answer s d =
-    IsSound s → answer ≢ PocketFault → answer ≢ Memory → (m2 : Mail) × IsStep m m2 × IsMailOf m2 s d.pocket.saved
+abbrev Steps : Type 0 → Mail → Turned → State → Devices → Type 0
+Steps Q m answer s d =
+    IsSound s → answer ≢ PocketFault → answer ≢ Memory → (m2 : Mail) × IsStep m m2 × IsMailOf m2 s d.pocket.saved × (Q → m2 ≡ saved m2)
 
 -- ---- ends
 -- the mail of a state that is saved as it stands
@@ -61,10 +61,10 @@ mail_saved m s told is fits next outbox stands = record {
   kept = holds_so (λ now. now ≡ Some (text_of s)) (HasSaved m) (λ now e. subst (HasSaved m) (sym e) (saved_of s, own_text s is.saved, next, outbox)) told stands;
 }
 
-ended : (m : Mail) (answer : Turned) (s : State) (d : Devices) → Fits m s → Standing m s d → Steps m answer s d
-ended m answer s d fits (inl kept) is fault none = (m, inl refl, record { computer = fits.computer; next = fits.next; outbox = fits.outbox; kept = kept })
-ended m answer s d fits (inr stands) is fault none =
-    (saved m, inr (inl refl), mail_saved (saved m) s d.pocket.saved is (record { computer = fits.computer; next = fits.next; outbox = fits.outbox }) fits.next fits.outbox stands)
+ended : (Q : Type 0) (m : Mail) (answer : Turned) (s : State) (d : Devices) → Fits m s → Standing Q m s d → Steps Q m answer s d
+ended Q m answer s d fits (inl (kept, whole)) is fault none = (m, inl refl, record { computer = fits.computer; next = fits.next; outbox = fits.outbox; kept = kept }, whole)
+ended Q m answer s d fits (inr stands) is fault none =
+    (saved m, inr (inl refl), mail_saved (saved m) s d.pocket.saved is (record { computer = fits.computer; next = fits.next; outbox = fits.outbox }) fits.next fits.outbox stands, λ q. refl)
 
 both_right : (a b : Bool) → (a && b) ≡ true → b ≡ true
 both_right true b e = e
@@ -78,9 +78,9 @@ last_good : (reports : List Report) (report : Report) → All IsReport (reports 
 last_good [] report good = All-head IsReport report [] good
 last_good (first ∷ reports) report good = last_good reports report (All-tail IsReport first (reports ++ report ∷ []) good)
 
-reported : (m : Mail) (answer : Turned) (s now : State) (d : Devices) → Fits m s → can_report s ≡ true → now.computer ≡ s.computer → now.next ≡ s.next + 1
-    → now.reports ≡ s.reports ++ next_report s ∷ [] → Stands now d → Steps m answer now d
-reported m answer s now d fits can computer next outbox stands is fault none =
+reported : (Q : Type 0) (m : Mail) (answer : Turned) (s now : State) (d : Devices) → Fits m s → can_report s ≡ true → now.computer ≡ s.computer → now.next ≡ s.next + 1
+    → now.reports ≡ s.reports ++ next_report s ∷ [] → Stands now d → Steps Q m answer now d
+reported Q m answer s now d fits can computer next outbox stands is fault none =
     let rows = take 500 (report_rows s.histories) in
     let after : Mail = saved (record m { outbox = m.outbox ++ report_of rows m ∷ []; next = m.next + 1 }) in
     let left : nat_lt m.next (2 ^ 53) ≡ true = ap (λ n. nat_lt n (2 ^ 53)) fits.next ∙ number_left s can in
@@ -94,6 +94,7 @@ reported m answer s now d fits can computer next outbox stands is fault none =
       after,
       inr (inr (rows, (last_good s.reports (next_report s) (subst (All IsReport) outbox is.saved.reports.good)).rows, sym is_made)),
       mail_saved after now d.pocket.saved is (record { computer = fits.computer ∙ sym computer; next = number; outbox = all }) number all stands,
+      λ q. refl,
     )
 
 -- ---- the turn
@@ -101,13 +102,13 @@ never : {X : Type 0} → true ≡ false → X
 never e = absurd (cc)
 
 -- the same with other histories
-other_histories : (m : Mail) (hs : List PlainHistory) (s : State) (d : Devices) → hs ≡ s.histories → Standing m s d → Standing m (with_histories hs s) d
-other_histories m hs s d same (inl kept) = inl kept
-other_histories m hs s d same (inr stands) =
+other_histories : (Q : Type 0) (m : Mail) (hs : List PlainHistory) (s : State) (d : Devices) → hs ≡ s.histories → Standing Q m s d → Standing Q m (with_histories hs s) d
+other_histories Q m hs s d same (inl kept) = inl kept
+other_histories Q m hs s d same (inr stands) =
     inr (subst (λ x. Holds d.pocket.saved (λ now. now ≡ Some (text_of (with_histories x s)))) (sym same) stands)
 
-keeps_mail : (at : When) (m : Mail) → Keeps at (λ s d. Stood m s d) (λ marks s d. Tried m marks s d) (λ began attempt s d. Stood m s d) (λ changed would s d. Ending m changed s d) (λ a s d. Steps m a s d)
-keeps_mail at m = record {
+keeps_mail : (at : When) (Q : Type 0) (m : Mail) → Keeps at (λ s d. Stood Q m s d) (λ marks s d. Tried Q m marks s d) (λ began attempt s d. Stood Q m s d) (λ changed would s d. Ending Q m changed s d) (λ a s d. Steps Q m a s d)
+keeps_mail at Q m = record {
   memory = λ s d a is fault none. absurd (none refl);
   broken_done = λ s d id pocket a broken saves. (same a.0 _ refl refl refl, λ e. inr (after_done _ _ d.pocket.saved pocket.saved saves.saves refl));
   broken_failed = λ s d id pocket a broken saves is fault none. absurd (fault refl);
@@ -120,34 +121,43 @@ keeps_mail at m = record {
   tries = λ s d a broken held. (a.0, a.1, λ e. refl);
   tested = λ marks s d action machine t may asks. t;
   marked = λ marks s d action machine t may asks. (t.0, t.1, λ e. never e);
-  test_failed = λ marks s d action machine t asks. ended m MachineFault s (with_machine machine d) t.0 t.1;
+  test_failed = λ marks s d action machine t asks. ended Q m MachineFault s (with_machine machine d) t.0 t.1;
   test_memory = λ marks s d action machine t asks is fault none. absurd (none refl);
   passed = λ marks s d action machine t asks. t;
-  try_failed = λ marks s d action machine t asks. ended m MachineFault s (with_machine machine d) t.0 t.1;
+  try_failed = λ marks s d action machine t asks. ended Q m MachineFault s (with_machine machine d) t.0 t.1;
   try_memory = λ marks s d action machine t asks is fault none. absurd (none refl);
   begun_done = λ marks s d action content machine pocket t due there among saves. (same t.0 _ refl refl refl, inr (after_done _ _ d.pocket.saved pocket.saved saves.saves refl));
   begun_failed = λ marks s d action machine pocket t due among saves is fault none. absurd (fault refl);
   begun_memory = λ marks s d action machine pocket t due saves is fault none. absurd (none refl);
   no_memory = λ marks s d t is fault none. absurd (none refl);
-  idle = λ marks s d t. (same t.0 _ refl refl refl, λ e. other_histories m marks.histories s d (t.2 e) t.1);
-  reported_done = λ changed would s d pocket b can saves. reported m would s (as_saved (with_report s)) (with_pocket pocket d) b.0 can refl refl refl (after_done _ _ d.pocket.saved pocket.saved saves.saves refl);
+  idle = λ marks s d t. (same t.0 _ refl refl refl, λ e. other_histories Q m marks.histories s d (t.2 e) t.1);
+  reported_done = λ changed would s d pocket b can saves. reported Q m would s (as_saved (with_report s)) (with_pocket pocket d) b.0 can refl refl refl (after_done _ _ d.pocket.saved pocket.saved saves.saves refl);
   reported_failed = λ changed would s d pocket b can saves is fault none. absurd (fault refl);
   reported_memory = λ changed would s d pocket b can saves is fault none. absurd (none refl);
-  changed_done = λ would s d pocket b saves. ended m would (as_saved s) (with_pocket pocket d) (same b.0 _ refl refl refl) (inr (after_done _ _ d.pocket.saved pocket.saved saves.saves refl));
+  changed_done = λ would s d pocket b saves. ended Q m would (as_saved s) (with_pocket pocket d) (same b.0 _ refl refl refl) (inr (after_done _ _ d.pocket.saved pocket.saved saves.saves refl));
   changed_failed = λ would s d pocket b saves is fault none. absurd (fault refl);
   changed_memory = λ would s d pocket b saves is fault none. absurd (none refl);
-  unchanged = λ would s d b. ended m would s d b.0 (b.1 refl);
+  unchanged = λ would s d b. ended Q m would s d b.0 (b.1 refl);
 }
   where
     same : {s : State} → Fits m s → (now : State) → now.computer ≡ s.computer → now.next ≡ s.next → now.reports ≡ s.reports → Fits m now
     same fits now computer next outbox = record { computer = fits.computer ∙ sym computer; next = fits.next ∙ sym next; outbox = fits.outbox ∙ sym outbox }
 
+-- what is saved at the beginning is the mail as it stands, or it is saved first
+abbrev pub IsSavedFirst : State → Mail → Type 0
+IsSavedFirst s m = (s.unsaved ≡ true) ⊎ (m ≡ saved m)
+
+saved_then : (s : State) (m : Mail) → s.unsaved ≡ false → IsSavedFirst s m → m ≡ saved m
+saved_then s m e (inl is) = never (sym is ∙ e)
+saved_then s m e (inr same) = same
+
 pub turn_steps : (at : When) (s s2 : State) (d d2 : Devices) (answer : Turned) (m : Mail) → Turn at s d answer s2 d2 → IsSound s2 → answer ≢ PocketFault → answer ≢ Memory → IsMailOf m s d.pocket.saved
-    → (m2 : Mail) × IsStep m m2 × IsMailOf m2 s2 d2.pocket.saved
+    → (m2 : Mail) × IsStep m m2 × IsMailOf m2 s2 d2.pocket.saved × (IsSavedFirst s m → m2 ≡ saved m2)
 turn_steps at s s2 d d2 answer m turn is fault none mail =
     let fits : Fits m s = record { computer = mail.computer; next = mail.next; outbox = mail.outbox } in
-    turn_keeps at (λ s d. Stood m s d) (λ marks s d. Tried m marks s d) (λ began attempt s d. Stood m s d) (λ changed would s d. Ending m changed s d) (λ a s d. Steps m a s d) (keeps_mail at m) answer s2 d2 s d
-    (λ e. (fits, inl mail.kept))
+    let Q : Type 0 = IsSavedFirst s m in
+    turn_keeps at (λ s d. Stood Q m s d) (λ marks s d. Tried Q m marks s d) (λ began attempt s d. Stood Q m s d) (λ changed would s d. Ending Q m changed s d) (λ a s d. Steps Q m a s d) (keeps_mail at Q m) answer s2 d2 s d
+    (λ e. (fits, inl (mail.kept, saved_then s m e)))
     (λ pocket saves. (record { computer = fits.computer; next = fits.next; outbox = fits.outbox }, inr (after_done _ _ d.pocket.saved pocket.saved saves.saves refl)))
     (λ pocket saves is fault none. absurd (fault refl)) (λ pocket saves is fault none. absurd (none refl)) turn is fault none
 

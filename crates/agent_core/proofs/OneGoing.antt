@@ -23,7 +23,7 @@ use Rattle.agent_attempt.specs.declared.went.Went.{Went}
 use Rattle.agent_attempt.specs.declared.went.Went.TheVariants as went
 use Rattle.agent_attempt.specs.declared.attempt.Part.{Part}
 use Rattle.agent_attempt.specs.Attempts.{PlainAttempt, PlainStage, Past, coming, starting, running, judging, issue_date}
-use Rattle.agent_attempt.specs.Going.{Advances, AfterComing, AfterJudging, AfterRun, Ends as AttemptEnds, Fails as AttemptFails, FromComing, FromJudging, FromLeft, FromRunning, FromStage, FromStarting, Goes, GoesOn, Stays, Through, after_failure, exit_at, held_at, with_failure}
+use Rattle.agent_attempt.specs.Going.{Advances, AfterComing, AfterJudging, AfterRun, Ends as AttemptEnds, Fails as AttemptFails, FromComing, FromJudging, FromLeft, FromRunning, FromStage, FromStarting, Goes, GoesOn, Stays, Through, after_failure, exit_at, with_failure}
 use Rattle.agent_core.proofs.GoingPoints.{Later, going_later, after_coming_leads, after_judging_leads, after_run_leads, through_leads}
 use Rattle.agent_core.proofs.OneAsking.{fixlet_once, succeeds_once}
 use Rattle.agent_core.proofs.OneLook.{Calm, OnePlan, SameView, acts_same, judges_same, polls_same, says_same}

@@ -22,7 +22,7 @@ ghost use Rattle.report_text.specs.declared.answer.Verdict.{Verdict};
 ghost use Rattle.fix_site.specs.declared.site.Site.{Site};
 ghost use Rattle.agent_state.specs.Changes.{GathersSite, SettlesState, SuppliesHeld, SuppliesState};
 ghost use Rattle.agent_core.specs.Opens.{OpensAgent, new_state, opened_state};
-ghost use Rattle.agent_core.specs.Schedules.{IsMailOf, IsStep, Mail, restarted, settled};
+ghost use Rattle.agent_core.specs.Schedules.{IsMailOf, IsStep, Mail, restarted, saved, settled};
 ghost use Rattle.agent_core.specs.declared.opening.Opened.TheVariants as opening;
 ghost use Rattle.agent_state.specs.States.{IsSound, State, saved_of, text_of};
 ghost use Rattle.agent_core.specs.Devices.{Devices, NoFaults, TellsWorld};
@@ -86,11 +86,12 @@ pub fn a_turn_adds_one_report()
 {}
 
 /// To the delivery of reports a turn that doesn't end by a pocket's fault or want of memory is nothing, a save, or a report that is made
-/// and saved. Settling and opening are steps of their own.
+/// and saved. What is saved after it is the mail as it stands, where that was so before it or the state was said to be unsaved. Settling and
+/// opening are steps of their own.
 pub fn turns_are_steps()
     ensures turn { (at : When) (s s2 : State) (d d2 : Devices) (answer : Turned) (m : Mail) → Turn at s d answer s2 d2
         → IsSound s2 → answer ≢ PocketFault → answer ≢ Memory → IsMailOf m s d.pocket.saved
-        → (m2 : Mail) × IsStep m m2 × IsMailOf m2 s2 d2.pocket.saved }
+        → (m2 : Mail) × IsStep m m2 × IsMailOf m2 s2 d2.pocket.saved × ((s.unsaved ≡ true) ⊎ (m ≡ saved m) → m2 ≡ saved m2) }
     ensures settled { (seq : ℕ) (verdict : Verdict) (s s2 : State) (m : Mail) (told : Option (Option (List ℕ)))
         → SettlesState seq verdict s true s2 → IsMailOf m s told → IsMailOf (settled seq m) s2 told }
     ensures opened { (computer : List ℕ) (told : Option (Option (List ℕ))) (s : State) (agent : AgentState) (m : Mail) → IsSome told
