@@ -1,5 +1,5 @@
 -- Clauses, fixlets and contents that are asked one after another.
-use Rattle.std.proofs.Common.{◌≡◌, ◌≢◌, ℕ, ◌+◌, ◌<◌, ◌≤◌, inl, inr, List, [], ◌∷◌, length, get_or, drop, Option, Some, None, Result, Ok, Err, refl, sym, ap, subst, ◌∙◌, arith}
+use Rattle.std.proofs.Common.{◌≡◌, ◌≢◌, ℕ, ◌+◌, ◌<◌, ◌≤◌, inl, inr, List, [], ◌∷◌, length, get_or, drop, Option, Some, None, Result, Ok, Err, refl, sym, ap, subst, ◌∙◌}
 use Rattle.std.specs.List.{cons_option}
 use Rattle.std.specs.Option.{option_and_then}
 use Rattle.std.proofs.lemmas.List.{drop_more, drop_all}
@@ -14,7 +14,8 @@ use Rattle.fix_site.specs.declared.block.Block.{Block}
 use Rattle.fix_site.specs.declared.fixlet.Fixlet.{Fixlet}
 use Rattle.script_text.specs.declared.error.ScriptError.{ScriptError}
 use Rattle.script_text.specs.Scripts.{PlainScript, IsVerdict}
-use Rattle.script_run.specs.Machines.{MachineView}
+use Rattle.bf_machine.specs.Views.{MachineView, OnlyLooks}
+use Rattle.bf_machine.proofs.Looking.{OnlyLooks-refl}
 use Rattle.script_run.specs.Asking.{When, JudgesOn, JudgesQuestion, scene_of}
 use Rattle.script_run.specs.ScriptWalks.{given_known}
 use Rattle.agent_attempt.specs.declared.found.Found.{Found}
@@ -28,22 +29,21 @@ use Rattle.agent_attempt.specs.Relevance.{Asking, and_then, finds, or_else, foun
 pub asks_none : (at : When) (text : List ℕ) (v : MachineView) → IsNoQuestion text → Asks at text v No v
 asks_none at text v (inl (kind, place, h)) = (
   truth.Error kind place,
-  record { judges = inl (refused kind place, h, (refl, refl)); world = refl; acted = refl; polled = refl; later = omega arith; cause = tt },
+  record { judges = inl (refused kind place, h, (refl, refl)); only = OnlyLooks-refl v; cause = refl },
   refl,
 )
 asks_none at text v (inr (place, words, h)) = (
   truth.Error NotDefined place,
-  record { judges = inl (undefined place words, h, (refl, refl)); world = refl; acted = refl; polled = refl; later = omega arith; cause = tt },
+  record { judges = inl (undefined place words, h, (refl, refl)); only = OnlyLooks-refl v; cause = refl },
   refl,
 )
 
 -- a question that was read is asked
 pub asks_question : (at : When) (text : List ℕ) (plan : PlainNode) (scene : Scene) (old new : MachineView) (answer : Truth) (found : Found) → IsPlanOf text plan → scene ≡ scene_of at (given_known []) →
-    JudgesQuestion (is_plural plan) old.world scene plan old.looked answer new.looked → new.world ≡ old.world → new.acted ≡ old.acted → new.polled ≡ old.polled → old.faults ≤ new.faults →
-    TruthHasCause old.faults new.faults answer → found ≡ found_of answer → Asks at text old found new
-asks_question at text plan scene old new answer found reads same judges world acted polled later cause e =
+    JudgesQuestion (is_plural plan) old.world scene plan old.looked answer new.looked → OnlyLooks old new → TruthHasCause old.faults new.faults answer → found ≡ found_of answer → Asks at text old found new
+asks_question at text plan scene old new answer found reads same judges only cause e =
     let h : JudgesOn scene text old answer new =
-    record { judges = inl (question plan, reads, judges); world = world; acted = acted; polled = polled; later = later; cause = cause } in
+    record { judges = inl (question plan, reads, judges); only = only; cause = cause } in
     (answer, subst (λ (s : Scene). JudgesOn s text old answer new) same h, e)
 
 -- what is found from here on is found of the whole, which began there

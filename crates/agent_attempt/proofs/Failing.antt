@@ -2,7 +2,7 @@
 use Rattle.std.proofs.Common.{◌≡◌, ℕ, ℤ, true, false, List, ◌∷◌, Option, Some, None, refl, sym, ap, ◌∙◌}
 use Rattle.std.specs.Option.{is_some}
 use Rattle.script_run.specs.declared.cause.Cause.{Cause}
-use Rattle.script_run.specs.Machines.{MachineView}
+use Rattle.bf_machine.specs.Views.{MachineView}
 use Rattle.script_run.specs.Asking.{When}
 use Rattle.agent_attempt.specs.declared.went.Went.{Went}
 use Rattle.agent_attempt.specs.declared.went.Went.TheVariants as went
@@ -10,9 +10,9 @@ use Rattle.agent_attempt.specs.declared.attempt.Part.{Part}
 use Rattle.agent_attempt.specs.declared.attempt.Failure.{Failure}
 use Rattle.agent_attempt.specs.declared.attempt.Stage.TheVariants as stage
 use Rattle.agent_attempt.specs.Attempts.{PlainAttempt, Past}
-use Rattle.agent_attempt.specs.Going.{ended, ended_by, fixed_note, failed_note, first_failure, with_failure, Fails, Through}
+use Rattle.agent_attempt.specs.Going.{ended, ended_by, fixed_note, failed_note, first_failure, with_failure}
 use Rattle.agent_attempt.specs.Stages.{AttemptState, shown_attempt}
-use Rattle.agent_attempt.specs.AttemptSteps.{StepsBy, first_component}
+use Rattle.agent_attempt.specs.AttemptSteps.{StepsByFailing, first_component}
 use Rattle.agent_attempt.proofs.Stepping.{fails_next, fails_end}
 
 -- ---- what an attempt has come to
@@ -49,7 +49,7 @@ failure_comes s a part left position line cause exit is e there none =
 pub failing_next : (at : When) (s k new : AttemptState) (part : Part) (left : List Part) (line : ℕ) (cause : Cause) (exit : Option ℤ) (machine : MachineView) (result : Option Went) →
     k ≡ record s { past = with_failure part line cause exit s.past } → s.left ≡ part ∷ left → k.action.all_members ≡ true → result ≡ None →
     ((p : Part) (l : List Part) → k.left ≡ p ∷ l → new ≡ record k { left = l; stage = stage.Coming }) →
-    StepsBy at (Fails (shown_attempt s) part line cause exit (Through at (shown_attempt s) left)) s.past machine result machine (shown_attempt new)
+    StepsByFailing at (shown_attempt s) part left line cause exit machine result (shown_attempt new)
 failing_next at s k new part left line cause exit machine result is e all none next =
     let there = next part left (ap (λ (x : AttemptState). x.left) is ∙ e) in
     fails_next at (shown_attempt s) part left line cause exit machine result (shown_attempt new) (sym (ap (λ (x : AttemptState). x.action.all_members) is) ∙ all) none
@@ -57,7 +57,7 @@ failing_next at s k new part left line cause exit machine result is e all none n
 
 pub failing_end : (at : When) (s k : AttemptState) (new : PlainAttempt) (part : Part) (left : List Part) (line : ℕ) (cause : Cause) (exit : Option ℤ) (machine : MachineView) (answer : Went) →
     k ≡ record s { past = with_failure part line cause exit s.past } → k.action.all_members ≡ false → answer ≡ ended k.past →
-    StepsBy at (Fails (shown_attempt s) part line cause exit (Through at (shown_attempt s) left)) s.past machine (Some answer) machine new
+    StepsByFailing at (shown_attempt s) part left line cause exit machine (Some answer) new
 failing_end at s k new part left line cause exit machine answer is stops e =
     fails_end at (shown_attempt s) part left line cause exit machine answer new (sym (ap (λ (x : AttemptState). x.action.all_members) is) ∙ stops) (e ∙ ap (λ (x : AttemptState). ended x.past) is)
 

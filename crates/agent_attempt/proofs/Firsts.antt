@@ -2,7 +2,7 @@
 use Rattle.std.proofs.Common.{◌≡◌, ◌<◌, List, [], ◌∷◌, length, get_or, Option, Some, Result, Ok, Err, refl, sym, ap, subst, ◌∙◌, arith}
 use Rattle.std.specs.Prelude.{IfOk}
 use Rattle.script_text.specs.declared.script.Script.{Script}
-use Rattle.script_run.specs.Machines.{MachineView}
+use Rattle.bf_machine.specs.Views.{MachineView}
 use Rattle.script_run.specs.Asking.{When}
 use Rattle.agent_attempt.specs.declared.found.Found.{Found}
 use Rattle.agent_attempt.specs.declared.attempt.Part.{Part}

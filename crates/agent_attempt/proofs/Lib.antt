@@ -1,6 +1,9 @@
 pub mod Lookups
 pub mod Reading
 pub mod Asked
+pub mod Quiet
+pub mod Lasting
+pub mod GoingPoints
 pub mod Rules
 pub mod Components
 pub mod Alike

@@ -1,6 +1,5 @@
 -- Scripts that run, as walks.
-use Rattle.std.proofs.Common.{◌≡◌, ℕ, false, List, [], ◌∷◌, ◌++◌, append-nil, append_assoc, Some, Result, Ok, Err, sym, ap, subst, ◌∙◌}
-use Rattle.bf_machine.specs.Told.{Grows}
+use Rattle.std.proofs.Common.{◌≡◌, ℕ, ℤ, Bool, true, false, if◌then◌else◌, List, [], ◌∷◌, ◌++◌, append-nil, append_assoc, Option, Some, Result, Ok, Err, sym, ap, subst, ◌∙◌}
 use Rattle.rel_sources.specs.declared.pair.Pair.{Pair}
 use Rattle.std.specs.Prelude.{IfOk}
 use Rattle.script_text.specs.declared.script.Script.{Script}
@@ -11,48 +10,39 @@ use Rattle.script_run.specs.declared.place.Place.TheVariants.{Ready, Wanting, Su
 use Rattle.script_run.specs.declared.ran.Ran.{Ran}
 use Rattle.script_run.specs.declared.run.Run.{Run}
 use Rattle.script_run.specs.Walks.{Known, Settled, Next, is_midway, Polls, Stop, Walk, Rest}
-use Rattle.script_run.specs.ScriptWalks.{standing, after, commands_in, exit_after}
-use Rattle.script_run.specs.Machines.{MachineView}
+use Rattle.script_run.specs.ScriptWalks.{standing, after, exit_after}
+use Rattle.bf_machine.specs.Views.{MachineView}
 use Rattle.script_run.specs.Asking.{When, known_in}
-use Rattle.script_run.specs.RunSteps.{Comes, Any, Stops}
 use Rattle.script_run.specs.RunPlaces.{Stands, WaitsBelow, place_walk, around, from}
 use Rattle.script_run.specs.Advances as advance
-use Rattle.script_run.proofs.Fresh.{fresh_from}
+use Rattle.script_run.specs.Advances.{Advances}
+use Rattle.script_run.proofs.Fresh.{fresh_from, placing_next}
 use Rattle.agent_attempt.specs.declared.attempt.Part.{Part}
 use Rattle.agent_attempt.specs.Attempts.{NextIsBelow}
 use Rattle.agent_attempt.specs.ReadTexts.{IsScriptOf}
-use Rattle.agent_attempt.specs.Going.{Advances, exit_at}
+use Rattle.agent_attempt.specs.Going.{exit_at}
 use Rattle.agent_attempt.specs.Stages.{IsRun}
 use Rattle.agent_attempt.specs.AttemptSteps.{OpensRun}
 
--- a run that stands somewhere in a script goes on from there
-pub advances_from : (at : When) (script : PlainScript) (given : List Pair) (settled : List Settled) (run : Run) (old : MachineView) (answer : Ran) (new : MachineView) (left : Run) →
-    Stands script given run settled → advance.GoesOn at script given settled old answer new left → Advances at old (from run) answer new (from left)
-advances_from at script given settled run old answer new left stands h =
-    let same : after script given settled ≡ from run = λ i more. stands more i in
-    let further : (more : List Settled) → after script given (settled ++ h.results) more ≡ from run (h.results ++ more) =
-    λ more. ap (standing script given) (append_assoc settled h.results more) ∙ stands (h.results ++ more) in
-    let rest : Walk = λ more. from run (h.results ++ more) in
-    let there : after script given (settled ++ h.results) ≡ rest = λ i more. further more i in
-    record {
-      results = h.results;
-      between = h.between;
-      comes = subst (λ (w : Walk). Comes Any at old w h.results h.between) same h.comes;
-      stops = subst (λ (w : Walk). Stops at h.between w answer new) there h.stops;
-      same = λ more. sym (h.stands more) ∙ further more;
-      faults = h.faults;
-      before = λ e. subst (λ (s : Stop). is_midway s.next ≡ false) (h.stands []) (h.before e);
-      commands = subst (λ (w : Walk). Grows old.acted new.acted (commands_in w h.results)) same h.commands;
-    }
-
-pub left_runs : (at : When) (script : PlainScript) (given : List Pair) (settled : List Settled) (old : MachineView) (answer : Ran) (new : MachineView) (left : Run) →
-    advance.GoesOn at script given settled old answer new left → IsRun left
-left_runs at script given settled old answer new left h = (script, given, settled ++ h.results, h.stands)
+-- an advance of a run is one of its walk, and leaves a run
+pub run_advances : (at own : When) (run left : Run) (old new : MachineView) (answer : Ran) → IsRun run → own ≡ at →
+    ((script : PlainScript) (given : List Pair) (settled : List Settled) → Stands script given run settled → advance.GoesOn own script given settled old answer new left) →
+    Advances at old (from run) answer new (from left) × IsRun left
+run_advances at own run left old new answer (script, given, settled, stands) same goes =
+    let h = goes script given settled stands in
+    let further : (more : List Settled) → h.left more ≡ from left more =
+    λ more. h.advances.same more ∙ ap (standing script given) (sym (append_assoc settled h.advances.results more)) ∙ h.stands more in
+    let here : after script given settled ≡ from run = λ i more. stands more i in
+    let there : h.left ≡ from left = λ i more. further more i in
+    let ends = subst (λ (w : Walk). Advances own old (after script given settled) answer new w) there h.advances in
+    let begins = subst (λ (w : Walk). Advances own old w answer new (from left)) here ends in
+    (subst (λ (w : When). Advances w old (from run) answer new (from left)) same begins, (script, given, settled ++ h.advances.results, h.stands))
 
 -- the exit code that a run knows is that of its walk
-pub exit_from : (script : PlainScript) (given : List Pair) (settled : List Settled) (run : Run) → Stands script given run settled → exit_after script given settled ≡ exit_at (from run)
-exit_from script given settled run stands =
-    ap (λ (s : Stop). s.known.exit) (sym (ap (standing script given) (append-nil settled)) ∙ stands [])
+pub run_exit : (run : Run) (exit : Option ℤ) → IsRun run →
+    ((script : PlainScript) (given : List Pair) (settled : List Settled) → Stands script given run settled → exit ≡ exit_after script given settled) → exit ≡ exit_at (from run)
+run_exit run exit (script, given, settled, stands) is =
+    is script given settled stands ∙ ap (λ (s : Stop). s.known.exit) (sym (ap (standing script given) (append-nil settled)) ∙ stands [])
 
 -- a file that was supplied is the next result
 pub supply_from : (script : PlainScript) (given : List Pair) (settled : List Settled) (old new : Run) (result : Settled) → Stands script given old settled → Stands script given new (settled ++ result ∷ []) →
@@ -71,7 +61,8 @@ place_waits started run (Waiting line process) waits = waits
 place_waits started run Done waits = tt
 place_waits started run (Failed line cause) waits = tt
 place_waits started run Ready waits = let own : Run = record run { place = Ready } in fresh_below started (from own []).next (fresh_from own tt)
-place_waits started run (Supplied fetch bytes) waits = let own : Run = record run { place = Supplied fetch bytes } in fresh_below started (from own []).next (fresh_from own tt)
+place_waits started run (Supplied fetch bytes) waits =
+    placing_next (λ next. NextIsBelow started next) fetch bytes (around run) (known_in run.kept.scene) tt (λ long. tt) (λ stated found. tt)
 place_waits started run (Placing line name bytes) waits = let own : Run = record run { place = Placing line name bytes } in fresh_below started (from own []).next (fresh_from own tt)
 place_waits started run (Doing line what) waits = let own : Run = record run { place = Doing line what } in fresh_below started (from own []).next (fresh_from own tt)
 place_waits started run (Testing arms other) waits = let own : Run = record run { place = Testing arms other } in fresh_below started (from own []).next (fresh_from own tt)

@@ -1,46 +1,53 @@
 -- The steps of each stage, by what came of it.
-use Rattle.std.proofs.Common.{◌≡◌, ◌==◌, ℕ, ◌<◌, ℤ, Bool, true, List, [], ◌∷◌, length, drop, inl, inr, Option, Some, None, Ok, refl, sym, ap, subst, ◌∙◌, arith}
+use Rattle.std.proofs.Common.{◌≡◌, ◌==◌, ℕ, ℤ, Bool, true, List, [], ◌∷◌, length, drop, inl, inr, Option, Some, None, Ok, refl, sym, ap, subst, ◌∙◌, arith}
 use Rattle.std.proofs.lemmas.Bool.Decides.{nat_tests}
 use Rattle.script_text.specs.Scripts.{PlainScript, IsVerdict}
 use Rattle.script_run.specs.declared.run.Run.{Run}
 use Rattle.script_run.specs.Walks.{Walk}
 use Rattle.script_run.specs.ScriptWalks.{standing}
-use Rattle.script_run.specs.Machines.{MachineView}
+use Rattle.bf_machine.specs.Views.{MachineView}
 use Rattle.script_run.specs.Asking.{When}
 use Rattle.script_run.specs.RunPlaces.{Stands, WaitsBelow, from, wanted_at}
 use Rattle.agent_attempt.specs.declared.found.Found.{Found}
-use Rattle.agent_attempt.specs.declared.found.Found.TheVariants.{Yes}
+use Rattle.agent_attempt.specs.declared.found.Found.TheVariants.{Yes, No}
 use Rattle.agent_attempt.specs.declared.went.Went.{Went}
 use Rattle.agent_attempt.specs.declared.went.Went.TheVariants as went
 use Rattle.agent_attempt.specs.declared.attempt.Part.{Part}
 use Rattle.agent_attempt.specs.declared.attempt.Stage.{Stage}
 use Rattle.agent_attempt.specs.declared.attempt.Stage.TheVariants as stage
 use Rattle.agent_attempt.specs.Relevance.{FixletIs, Succeeds}
-use Rattle.agent_attempt.specs.Attempts.{PlainAttempt, PlainStage, Past, StageWaitsBelow, starting, running, judging, issue_date}
-use Rattle.agent_attempt.specs.Going.{held_at, ended, AfterComing, AfterJudging, FromRunning, FromStarting, Through, FromStage, FromLeft, GoesOn, SameAttempt, held_after}
+use Rattle.agent_attempt.specs.Attempts.{PlainAttempt, Past, StageWaitsBelow, coming, starting, running, judging, issue_date}
+use Rattle.agent_attempt.specs.Going.{held_at, ended, AfterComing, AfterJudging, FromRunning, FromStarting, Through, FromLeft, GoesOn, held_after}
 use Rattle.agent_attempt.specs.Stages.{AttemptState, FirstHasScript, IsRun, IsStage, shown_attempt, shown_stage}
-use Rattle.agent_attempt.specs.AttemptSteps.{Falls, StepsBy, StepsTo, stage_weight, weight_of, with_stage}
+use Rattle.agent_attempt.specs.AttemptSteps.{MakesStep, StepsBy, StepsTo, with_stage}
 use Rattle.agent_attempt.proofs.Alike.{starting_alike, running_alike, through_alike}
 use Rattle.agent_attempt.proofs.Runs.{run_waits}
-use Rattle.agent_attempt.proofs.Stepping.{ends, first_falls, falls_coming, next_steps, same_as, steps_at, steps_lead}
+use Rattle.agent_attempt.proofs.Stepping.{ends, held_so, next_steps, steps_at, steps_lead}
 
 -- ---- coming
 -- the component was asked whether it is relevant, and then this step was made
 pub come_steps : (at : When) (s : AttemptState) (part : Part) (left : List Part) (old mid now : MachineView) (found : Found) (result : Option Went) (new : PlainAttempt) →
-    s.stage ≡ stage.Coming → s.left ≡ part ∷ left → FixletIs at part.fixlet old found mid →
-    StepsBy at (AfterComing at (shown_attempt s) part left (Through at (shown_attempt s) left) found) s.past mid result now new → StepsTo at (shown_attempt s) old result now new
-come_steps at s part left old mid now found result new comes e is h =
-    steps_at at (shown_attempt s) part left (AfterComing at (shown_attempt s) part left (Through at (shown_attempt s) left) found) s.past old mid now result new e
-    (λ answer later after k. subst (λ (st : Stage). FromStage at (shown_attempt s) part left (shown_stage st) s.past old answer later after) (sym comes) (found, mid, is, k)) h
+    s.left ≡ part ∷ left → FixletIs at part.fixlet old found mid →
+    StepsBy at (AfterComing at (with_stage coming (shown_attempt s)) part left (Through at (with_stage coming (shown_attempt s)) left) found) s.past mid result now new →
+    StepsTo at (with_stage coming (shown_attempt s)) old result now new
+come_steps at s part left old mid now found result new e is h =
+    let b = with_stage coming (shown_attempt s) in
+    steps_at at b part left (AfterComing at b part left (Through at b left) found) s.past old mid now result new e (λ answer later after k. (found, mid, is, k)) h
 
 -- a relevant component starts
 pub come_starts : (at : When) (s a : AttemptState) (part : Part) (left : List Part) (machine : MachineView) → a ≡ s → s.left ≡ part ∷ left →
-    StepsBy at (FromStarting at (shown_attempt s) part left (Through at (shown_attempt s) left)) s.past machine None machine (shown_attempt (record a { stage = stage.Starting }))
+    StepsBy at (AfterComing at (with_stage coming (shown_attempt s)) part left (Through at (with_stage coming (shown_attempt s)) left) Yes) s.past machine None machine (shown_attempt (record a { stage = stage.Starting }))
 come_starts at s a part left machine is e answer later after k =
-    let there : GoesOn at (held_at (shown_attempt s) (part ∷ left) starting s.past) machine answer later after =
-    subst (λ (x : PlainAttempt). GoesOn at x machine answer later after)
-    (ap (λ (x : AttemptState). shown_attempt (record x { stage = stage.Starting })) is ∙ (λ i. held_at (shown_attempt s) (e i) starting s.past)) k in
-    starting_alike at (shown_attempt s) (part ∷ left) starting s.past part left _ _ (through_alike at (shown_attempt s) (part ∷ left) starting s.past left) s.past machine answer later after there
+    let b = with_stage coming (shown_attempt s) in
+    let there : GoesOn at (held_at b (part ∷ left) starting s.past) machine answer later after =
+    subst (λ (x : PlainAttempt). GoesOn at x machine answer later after) (held_so coming s a part left stage.Starting starting is e refl) k in
+    starting_alike at b (part ∷ left) starting s.past part left _ _ (through_alike at b (part ∷ left) starting s.past left) s.past machine answer later after there
+
+-- one that isn't relevant is passed over
+pub come_passes : (at : When) (s new : AttemptState) (part : Part) (left : List Part) (machine : MachineView) (result : Option Went) → result ≡ None → new ≡ record s { left = left; stage = stage.Coming } →
+    StepsBy at (AfterComing at (with_stage coming (shown_attempt s)) part left (Through at (with_stage coming (shown_attempt s)) left) No) s.past machine result machine (shown_attempt new)
+come_passes at s new part left machine result none is =
+    next_steps at (with_stage coming (shown_attempt s)) left s.past machine result (shown_attempt new) none (ap shown_attempt is)
 
 -- ---- starting
 -- the script begins, and stands before its first line, where no file is wanted
@@ -54,8 +61,7 @@ start_runs at s a part left script run machine is e none verdict stands =
     steps_at at b part left (FromStarting at b part left (Through at b left)) s.past machine machine machine None (shown_attempt (record a { stage = stage.Running run })) e (λ answer later after k. k)
     (λ answer later after k.
     let there : GoesOn at (held_at b (part ∷ left) (running walk None) s.past) machine answer later after =
-    subst (λ (x : PlainAttempt). GoesOn at x machine answer later after)
-    (ap (λ (x : AttemptState). shown_attempt (record x { stage = stage.Running run })) is ∙ (λ i. held_at b (e i) (running walk (none i)) s.past)) k in
+    subst (λ (x : PlainAttempt). GoesOn at x machine answer later after) (held_so starting s a part left (stage.Running run) (running walk None) is e (λ i. running walk (none i))) k in
     inr (
       script,
       verdict,
@@ -69,7 +75,7 @@ pub start_stays : (at : When) (s a : AttemptState) (part : Part) (left : List Pa
 start_stays at s a part left machine is e =
     let b = with_stage starting (shown_attempt s) in
     steps_at at b part left (FromStarting at b part left (Through at b left)) s.past machine machine machine (Some went.Memory) (shown_attempt (record a { stage = stage.Starting })) e (λ answer later after k. k)
-    (inl (refl, refl, (λ i. Some ((ap (λ (x : AttemptState). shown_attempt (record x { stage = stage.Starting })) is ∙ (λ j. held_at b (e j) starting s.past)) i))))
+    (inl (refl, refl, (λ i. Some (held_so starting s a part left stage.Starting starting is e refl i))))
 
 -- ---- judging
 -- the success was judged, and then this step was made
@@ -81,38 +87,21 @@ judge_steps at s part left exit old mid now found result new e succeeds h =
     let b = with_stage (judging exit) (shown_attempt s) in
     steps_at at b part left (AfterJudging b part left exit (Through at b left) found) s.past old mid now result new e (λ answer later after k. (found, mid, succeeds, k)) h
 
-pub come_falls : (s a : AttemptState) → a ≡ s → s.stage ≡ stage.Coming → weight_of (shown_attempt (record a { stage = stage.Starting })) < weight_of (shown_attempt s)
-come_falls s a is comes =
-    let count : length a.left ≡ length s.left = ap (λ (x : AttemptState). length x.left) is in
-    let weight : stage_weight (shown_stage s.stage) ≡ 3 = ap (λ (x : Stage). stage_weight (shown_stage x)) comes in
-    omega arith
-
--- ---- a success
--- The attempt after the success of a component: `a` is it as it was, and its exit code is this from then on.
-passed_is : (s a new : AttemptState) (part : Part) (left : List Part) (exit : Option ℤ) → a ≡ s → s.left ≡ part ∷ left →
+-- the attempt after the success of a component: `a` is it as it was, and its exit code is this from then on
+pub passed_is : (s a new : AttemptState) (part : Part) (left : List Part) (exit : Option ℤ) → a ≡ s → s.left ≡ part ∷ left →
     ((p : Part) (l : List Part) → a.left ≡ p ∷ l → new ≡ record a { left = l; stage = stage.Coming; past = record a.past { exit = exit } }) →
     new ≡ record s { left = left; stage = stage.Coming; past = record s.past { exit = exit } }
 passed_is s a new part left exit is e next =
     next part left (ap (λ (x : AttemptState). x.left) is ∙ e) ∙ ap (λ (x : AttemptState). record x { left = left; stage = stage.Coming; past = record x.past { exit = exit } }) is
 
-pub judge_next : (at : When) (s a new : AttemptState) (part : Part) (left : List Part) (exit : Option ℤ) (machine : MachineView) (result : Option Went) → a ≡ s → s.left ≡ part ∷ left → result ≡ None →
-    ((p : Part) (l : List Part) → a.left ≡ p ∷ l → new ≡ record a { left = l; stage = stage.Coming; past = record a.past { exit = exit } }) →
+pub judge_passes : (at : When) (s new : AttemptState) (part : Part) (left : List Part) (exit : Option ℤ) (machine : MachineView) (result : Option Went) → result ≡ None →
+    new ≡ record s { left = left; stage = stage.Coming; past = record s.past { exit = exit } } →
     StepsBy at (AfterJudging (with_stage (judging exit) (shown_attempt s)) part left exit (Through at (with_stage (judging exit) (shown_attempt s)) left) Yes) s.past machine result machine (shown_attempt new)
-judge_next at s a new part left exit machine result is e none next =
+judge_passes at s new part left exit machine result none is =
     let b = with_stage (judging exit) (shown_attempt s) in
     let past : Past = record s.past { exit = exit } in
     steps_lead at (Through at b left) (AfterJudging b part left exit (Through at b left) Yes) past s.past machine machine machine result (shown_attempt new) (λ answer later after k. k)
-    (next_steps at b left past machine result (shown_attempt new) none (ap shown_attempt (passed_is s a new part left exit is e next)))
-
-pub next_same : (s a new : AttemptState) (part : Part) (left : List Part) (exit : Option ℤ) → a ≡ s → s.left ≡ part ∷ left →
-    ((p : Part) (l : List Part) → a.left ≡ p ∷ l → new ≡ record a { left = l; stage = stage.Coming; past = record a.past { exit = exit } }) → SameAttempt (shown_attempt s) (shown_attempt new)
-next_same s a new part left exit is e next = same_as s new left stage.Coming (record s.past { exit = exit }) (passed_is s a new part left exit is e next)
-
-pub next_falls : (before : PlainStage) (s a new : AttemptState) (part : Part) (left : List Part) (exit : Option ℤ) (result : Option Went) → a ≡ s → s.left ≡ part ∷ left →
-    ((p : Part) (l : List Part) → a.left ≡ p ∷ l → new ≡ record a { left = l; stage = stage.Coming; past = record a.past { exit = exit } }) →
-    Falls result (weight_of (with_stage before (shown_attempt s))) (weight_of (shown_attempt new))
-next_falls before s a new part left exit result is e next =
-    falls_coming result _ (shown_attempt new) (shown_attempt s) left (record s.past { exit = exit }) (ap shown_attempt (passed_is s a new part left exit is e next)) (first_falls s.left left part (stage_weight before) e)
+    (next_steps at b left past machine result (shown_attempt new) none (ap shown_attempt is))
 
 -- ---- any stage
 -- without a component that is left the attempt has ended
@@ -130,36 +119,12 @@ none_left (part ∷ left) count empty is e so =
     let zero : count ≡ 0 = is_zero count empty e so in
     absurd (omega arith)
 
--- the attempt `s`, of which `a` is another name, whose stage is taken out
-pub staged : (s a : AttemptState) (own there : Stage) → a ≡ s → a.stage ≡ own → with_stage (shown_stage own) (shown_attempt (record a { stage = there })) ≡ shown_attempt s
-staged s a own there same is = (λ i. record (shown_attempt a) { stage = shown_stage (sym is i) }) ∙ ap shown_attempt same
-
-pub staged_steps : (at : When) (s a : AttemptState) (own there : Stage) (old now : MachineView) (result : Option Went) (new : PlainAttempt) → a ≡ s → a.stage ≡ own →
-    StepsTo at (with_stage (shown_stage own) (shown_attempt (record a { stage = there }))) old result now new → StepsTo at (shown_attempt s) old result now new
-staged_steps at s a own there old now result new same is h = subst (λ (p : PlainAttempt). StepsTo at p old result now new) (staged s a own there same is) h
-
-pub staged_falls : (s a : AttemptState) (own there : Stage) (result : Option Went) (new : ℕ) → a ≡ s → a.stage ≡ own →
-    Falls result (weight_of (with_stage (shown_stage own) (shown_attempt (record a { stage = there })))) new → Falls result (weight_of (shown_attempt s)) new
-staged_falls s a own there result new same is h = subst (λ (p : PlainAttempt). Falls result (weight_of p) new) (staged s a own there same is) h
-
-pub staged_same : (s a : AttemptState) (there : Stage) (new : PlainAttempt) → a ≡ s → SameAttempt (shown_attempt (record a { stage = there })) new → SameAttempt (shown_attempt s) new
-staged_same s a there new same h = record {
-  action = h.action ∙ ap (λ (x : AttemptState). x.action) same;
-  row = h.row ∙ ap (λ (x : AttemptState). x.row) same;
-  offset = h.offset ∙ ap (λ (x : AttemptState). x.offset) same;
-}
-
--- the same, where the stage was that one
-pub coming_steps : (at : When) (s a : AttemptState) (there : Stage) (old now : MachineView) (result : Option Went) (new : PlainAttempt) → a ≡ s → a.stage ≡ stage.Coming → there ≡ stage.Coming →
-    StepsTo at (shown_attempt (record a { stage = there })) old result now new → StepsTo at (shown_attempt s) old result now new
-coming_steps at s a there old now result new same is comes h =
-    subst (λ (p : PlainAttempt). StepsTo at p old result now new)
-    ((λ i. shown_attempt (record a { stage = (comes ∙ sym is) i })) ∙ ap shown_attempt same) h
-
-pub coming_falls : (s a : AttemptState) (there : Stage) (result : Option Went) (new : ℕ) → a ≡ s → a.stage ≡ stage.Coming → there ≡ stage.Coming →
-    Falls result (weight_of (shown_attempt (record a { stage = there }))) new → Falls result (weight_of (shown_attempt s)) new
-coming_falls s a there result new same is comes h =
-    subst (λ (p : PlainAttempt). Falls result (weight_of p) new) ((λ i. shown_attempt (record a { stage = (comes ∙ sym is) i })) ∙ ap shown_attempt same) h
+-- a step of the attempt `s`, of which `a` is another name, whose stage is taken out
+pub staged_step : (at : When) (s a : AttemptState) (own there : Stage) (old now : MachineView) (result : Option Went) (new : PlainAttempt) → a ≡ s → a.stage ≡ own →
+    MakesStep at (with_stage (shown_stage own) (shown_attempt (record a { stage = there }))) old result now new → MakesStep at (shown_attempt s) old result now new
+staged_step at s a own there old now result new same is h =
+    let whole : with_stage (shown_stage own) (shown_attempt (record a { stage = there })) ≡ shown_attempt s = (λ i. record (shown_attempt a) { stage = shown_stage (sym is i) }) ∙ ap shown_attempt same in
+    subst (λ (p : PlainAttempt). MakesStep at p old result now new) whole h
 
 -- a run that is taken out
 pub staged_run : (left : List Part) (own : Stage) (run : Run) → own ≡ stage.Running run → IsStage left own → IsRun run

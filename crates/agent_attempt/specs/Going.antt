@@ -1,18 +1,16 @@
 -- How an attempt goes on, component by component, until it is held, wants a file or ends.
-use Rattle.std.specs.Prelude.{◌≡◌, ◌⊎◌, ℕ, ℤ, Bool, true, false, List, [], ◌∷◌, ◌++◌, Option, Some, None, Ok, ⊤}
-use Rattle.bf_machine.specs.Told.{Grows}
-use Rattle.bf_machine.specs.Rises.{RoseBy}
+use Rattle.std.specs.Prelude.{◌≡◌, ◌⊎◌, ℕ, ℤ, Bool, true, false, List, [], ◌∷◌, Option, Some, None, Ok, ⊤}
 use Rattle.act_rules.specs.declared.row.Note.{Note}
 use Rattle.script_text.specs.Scripts.{PlainScript, IsVerdict}
 use Rattle.script_run.specs.declared.cause.Cause.{Cause}
 use Rattle.script_run.specs.declared.cause.Cause.TheVariants.{MachineFault, NotMet}
 use Rattle.script_run.specs.declared.ran.Ran.{Ran}
 use Rattle.script_run.specs.declared.ran.Ran.TheVariants as ran
-use Rattle.script_run.specs.Walks.{Settled, Walk, faults_in, is_midway}
-use Rattle.script_run.specs.ScriptWalks.{commands_in, standing}
-use Rattle.script_run.specs.Machines.{MachineView}
+use Rattle.script_run.specs.Walks.{Walk}
+use Rattle.script_run.specs.ScriptWalks.{standing}
+use Rattle.bf_machine.specs.Views.{MachineView}
+use Rattle.script_run.specs.Advances.{Advances}
 use Rattle.script_run.specs.Asking.{When}
-use Rattle.script_run.specs.RunSteps.{Any, Comes, Stops}
 use Rattle.agent_attempt.specs.declared.found.Found.{Found}
 use Rattle.agent_attempt.specs.declared.found.Found.TheVariants.{Yes, No, Failed, Memory}
 use Rattle.agent_attempt.specs.declared.went.Went.{Went}
@@ -24,8 +22,8 @@ use Rattle.agent_attempt.specs.Attempts.{PlainAttempt, PlainStage, Past, coming,
 
 -- how an attempt goes on: with what it has come to so far, from one view of the machine, to an answer, another view, and the attempt
 -- as it is held then, if it is
-abbrev pub Goes : Type 1
-Goes = Past → MachineView → Went → MachineView → Option PlainAttempt → Type 0
+abbrev pub Going : Type 1
+Going = Past → MachineView → Went → MachineView → Option PlainAttempt → Type 0
 
 -- ---- ends and stays
 -- the note of an attempt that has ended: the exit code of its last run, or that of the run in which it failed and the place
@@ -44,7 +42,7 @@ abbrev pub ended : Past → Went
 ended past = ended_by past.failure past.exit
 
 -- The attempt has ended.
-abbrev pub Ends : Goes
+abbrev pub Ends : Going
 Ends past old answer new after = (answer ≡ ended past) × (new ≡ old) × (after ≡ None)
 
 -- the attempt, with these components left and this stage
@@ -52,7 +50,7 @@ abbrev pub held_at : PlainAttempt → List Part → PlainStage → Past → Plai
 held_at a left stage past = record a { left = left; stage = stage; past = past }
 
 -- The attempt stays where it is, with this answer.
-abbrev pub Stays : PlainAttempt → List Part → PlainStage → Went → Goes
+abbrev pub Stays : PlainAttempt → List Part → PlainStage → Went → Going
 Stays a left stage would past old answer new after =
     (answer ≡ would) × (new ≡ old) × (after ≡ Some (held_at a left stage past))
 
@@ -69,47 +67,34 @@ with_failure part line cause exit past = record past {
 }
 
 -- After a failure the next component comes where all members are run; otherwise the attempt has ended.
-abbrev pub after_failure : Bool → Goes → Goes
+abbrev pub after_failure : Bool → Going → Going
 after_failure true rest = rest
 after_failure false rest = Ends
 
-abbrev pub Fails : PlainAttempt → Part → ℕ → Cause → Option ℤ → Goes → Goes
+abbrev pub Fails : PlainAttempt → Part → ℕ → Cause → Option ℤ → Going → Going
 Fails a part line cause exit rest past = after_failure a.action.all_members rest (with_failure part line cause exit past)
 
 -- ---- judging
 -- what comes after the success of a component was judged
-abbrev pub AfterJudging : PlainAttempt → Part → List Part → Option ℤ → Goes → Found → Goes
+abbrev pub AfterJudging : PlainAttempt → Part → List Part → Option ℤ → Going → Found → Going
 AfterJudging a part left exit rest Yes past = rest (record past { exit = exit })
 AfterJudging a part left exit rest No past = Fails a part 0 NotMet exit rest past
 AfterJudging a part left exit rest Failed past = Fails a part 0 MachineFault exit rest past
 AfterJudging a part left exit rest Memory past = Stays a (part ∷ left) (judging exit) went.Memory past
 
 -- The script is done, and the success of the component is judged.
-abbrev pub FromJudging : When → PlainAttempt → Part → List Part → Option ℤ → Goes → Goes
+abbrev pub FromJudging : When → PlainAttempt → Part → List Part → Option ℤ → Going → Going
 FromJudging at a part left exit rest past old answer new after =
     (found : Found) × (between : MachineView) × Succeeds at part.fixlet part.fixlet.success old found between
     × AfterJudging a part left exit rest found past between answer new after
 
 -- ---- running
--- From where a script stands further results came, one after another, with the commands among them; then it stopped with an answer, and
--- this is left of it.
-pub record Advances (at : When) (old : MachineView) (walk : Walk) (answer : Ran) (new : MachineView) (left : Walk) : Type 0 where
-  pub results : List Settled
-  pub between : MachineView
-  pub comes : Comes Any at old walk results between
-  pub stops : Stops at between (λ more. walk (results ++ more)) answer new
-  pub same : (more : List Settled) → left more ≡ walk (results ++ more)
-  pub faults : RoseBy (faults_in results) old.faults new.faults
-  -- memory ran out where nothing of the line at hand is settled
-  pub before : answer ≡ ran.Memory → is_midway (left []).next ≡ false
-  pub commands : Grows old.acted new.acted (commands_in walk results)
-
 -- the exit code that is known where a script stands
 abbrev pub exit_at : Walk → Option ℤ
 exit_at walk = (walk []).known.exit
 
 -- what comes after a script went on
-abbrev pub AfterRun : When → PlainAttempt → Part → List Part → Goes → Ran → Walk → Goes
+abbrev pub AfterRun : When → PlainAttempt → Part → List Part → Going → Ran → Walk → Going
 AfterRun at a part left rest (ran.Held line) walk =
     Stays a (part ∷ left) (running walk None) (went.Held part.component line)
 AfterRun at a part left rest (ran.Wants line digest) walk =
@@ -119,13 +104,13 @@ AfterRun at a part left rest (ran.Failed line cause) walk = Fails a part line ca
 AfterRun at a part left rest ran.Memory walk = Stays a (part ∷ left) (running walk None) went.Memory
 
 -- The script of the component goes on.
-abbrev pub FromRunning : When → PlainAttempt → Part → List Part → Walk → Goes → Goes
+abbrev pub FromRunning : When → PlainAttempt → Part → List Part → Walk → Going → Going
 FromRunning at a part left walk rest past old answer new after =
     (ran : Ran) × (between : MachineView) × (further : Walk) × Advances at old walk ran between further
     × AfterRun at a part left rest ran further past between answer new after
 
 -- The script of the component begins, or there is no memory for it to begin.
-abbrev pub FromStarting : When → PlainAttempt → Part → List Part → Goes → Goes
+abbrev pub FromStarting : When → PlainAttempt → Part → List Part → Going → Going
 FromStarting at a part left rest past old answer new after =
     Stays a (part ∷ left) starting went.Memory past old answer new after
     ⊎ ((script : PlainScript) × IsVerdict part.fixlet.script (Ok script)
@@ -133,26 +118,26 @@ FromStarting at a part left rest past old answer new after =
 
 -- ---- coming
 -- what comes after a component was asked whether it is relevant: one that isn't is passed over
-abbrev pub AfterComing : When → PlainAttempt → Part → List Part → Goes → Found → Goes
+abbrev pub AfterComing : When → PlainAttempt → Part → List Part → Going → Found → Going
 AfterComing at a part left rest Yes = FromStarting at a part left rest
 AfterComing at a part left rest No = rest
 AfterComing at a part left rest Failed = Fails a part 0 MachineFault None rest
 AfterComing at a part left rest Memory = Stays a (part ∷ left) coming went.Memory
 
 -- A component comes: it is asked whether it is relevant.
-abbrev pub FromComing : When → PlainAttempt → Part → List Part → Goes → Goes
+abbrev pub FromComing : When → PlainAttempt → Part → List Part → Going → Going
 FromComing at a part left rest past old answer new after =
     (found : Found) × (between : MachineView) × FixletIs at part.fixlet old found between
     × AfterComing at a part left rest found past between answer new after
 
 -- ---- the whole
 -- The components come one after another, and then the attempt has ended.
-abbrev pub Through : When → PlainAttempt → List Part → Goes
+abbrev pub Through : When → PlainAttempt → List Part → Going
 Through at a [] = Ends
 Through at a (part ∷ left) = FromComing at a part left (Through at a left)
 
 -- The component at hand goes on from its stage. A script that wants a file waits for it.
-abbrev pub FromStage : When → PlainAttempt → Part → List Part → PlainStage → Goes
+abbrev pub FromStage : When → PlainAttempt → Part → List Part → PlainStage → Going
 FromStage at a part left coming = FromComing at a part left (Through at a left)
 FromStage at a part left starting = FromStarting at a part left (Through at a left)
 FromStage at a part left (running walk None) = FromRunning at a part left walk (Through at a left)
@@ -160,7 +145,7 @@ FromStage at a part left (running walk (Some digest)) = Stays a (part ∷ left) 
 FromStage at a part left (judging exit) = FromJudging at a part left exit (Through at a left)
 
 -- the components that are left go on; without any the attempt has ended
-abbrev pub FromLeft : When → PlainAttempt → List Part → Goes
+abbrev pub FromLeft : When → PlainAttempt → List Part → Going
 FromLeft at a [] = Ends
 FromLeft at a (part ∷ left) = FromStage at a part left a.stage
 

@@ -3,6 +3,7 @@ pub mod ReadTexts
 pub mod ReadBlocks
 pub mod FoundContents
 pub mod Relevance
+pub mod Times
 pub mod Attempts
 pub mod Stages
 pub mod Supplies

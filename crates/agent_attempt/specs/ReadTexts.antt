@@ -1,5 +1,5 @@
 -- Texts of a site that are read once, and what stands for them in the code. Only private functions and invariants cite these definitions.
-use Rattle.std.specs.Prelude.{◌⊎◌, ℕ, List, Option, Some, None, Ok, Err}
+use Rattle.std.specs.Prelude.{◌≡◌, ◌⊎◌, ℕ, List, Option, Some, None, Ok, Err}
 use Rattle.rel_lexer.specs.declared.place.Place.{Place}
 use Rattle.rel_trace.specs.declared.kind.RelKind.{RelKind}
 use Rattle.rel_eval.specs.declared.question.Question.{Question}
@@ -8,8 +8,10 @@ use Rattle.script_text.specs.declared.error.ScriptError.{ScriptError}
 use Rattle.script_text.specs.declared.script.Script.{Script}
 use Rattle.script_text.specs.Readings.{shown_script}
 use Rattle.script_text.specs.Scripts.{IsVerdict}
+use Rattle.fix_site.specs.Contents.{IsFixlet}
 use Rattle.fix_site.specs.declared.action.Target.{Target}
 use Rattle.fix_site.specs.declared.action.Target.TheVariants as target
+use Rattle.fix_site.specs.declared.fixlet.Fixlet.{Fixlet}
 use Rattle.fix_site.specs.declared.fixlet.Success.{Success}
 use Rattle.fix_site.specs.declared.fixlet.Success.TheVariants as success
 
@@ -39,3 +41,10 @@ abbrev pub target_clause : Target → Option (List ℕ)
 target_clause target.All = None
 target_clause (target.Computers names) = None
 target_clause (target.Where question) = Some question
+
+-- The clauses, the question of the success rule and the script are those of a fixlet.
+pub record IsReadFixlet (fixlet : Fixlet) (clauses : List (List ℕ)) (rule : Option (List ℕ)) (read : Option Script) : Type 0 where
+  pub good : IsFixlet fixlet
+  pub relevance : clauses ≡ fixlet.relevance
+  pub success : rule ≡ success_clause fixlet.success
+  pub script : IsScriptOf fixlet.script read

@@ -1,5 +1,6 @@
 -- What is found of clauses, contents and targets that are asked at some time on a machine, with the looks that are made.
 use Rattle.std.specs.Prelude.{◌≡◌, ◌⊎◌, ◌+◌, ◌<◌, ◌^◌, ℕ, false, List, [], ◌∷◌, length, Contains, Option, Some, None, Ok}
+use Rattle.desk_base.specs.Counts.{CountsFaults}
 use Rattle.rel_eval.specs.declared.told.Truth.{Truth}
 use Rattle.rel_eval.specs.declared.told.Truth.TheVariants as truth
 use Rattle.act_rules.specs.declared.row.Row.{Row}
@@ -13,7 +14,7 @@ use Rattle.fix_site.specs.declared.fixlet.Success.{Success}
 use Rattle.fix_site.specs.declared.fixlet.Success.TheVariants as success
 use Rattle.script_text.specs.Scripts.{PlainScript, IsVerdict}
 use Rattle.script_run.specs.Asking.{When, JudgesOn, scene_of}
-use Rattle.script_run.specs.Machines.{MachineView}
+use Rattle.bf_machine.specs.Views.{MachineView, OnlyLooks}
 use Rattle.script_run.specs.ScriptWalks.{given_known}
 use Rattle.agent_attempt.specs.declared.found.Found.{Found}
 use Rattle.agent_attempt.specs.declared.found.Found.TheVariants.{Yes, No, Failed, Memory}
@@ -22,6 +23,11 @@ use Rattle.agent_attempt.specs.ActionContents.{Content, single, group}
 -- what is found by asking: from one view of the machine, an answer and another view
 abbrev pub Asking : Type 1
 Asking = MachineView → Found → MachineView → Type 0
+
+-- Only looks were made, and the machine's count of faults rose where one of them failed, and stayed otherwise.
+pub record HasAsked (old : MachineView) (answer : Found) (new : MachineView) : Type 0 where
+  pub only : OnlyLooks old new
+  pub counts : CountsFaults (answer ≡ Failed) old.faults new.faults
 
 -- nothing is asked, and this is found
 abbrev pub finds : Found → Asking

@@ -1,5 +1,7 @@
 -- Attempts of the code, as the attempts that they are.
 use Rattle.std.specs.Prelude.{ℕ, ℤ, List, [], ◌∷◌, ⊤}
+use Rattle.desk_base.specs.Moments.{IsMoment}
+use Rattle.line_forms.specs.Numbers.{IsOffset}
 use Rattle.rel_sources.specs.declared.pair.Pair.{Pair}
 use Rattle.script_text.specs.Scripts.{PlainScript}
 use Rattle.script_run.specs.Walks.{Settled}
@@ -53,3 +55,9 @@ abbrev pub IsStage : List Part → Stage → Type 0
 IsStage left stage.Starting = FirstHasScript left
 IsStage left (stage.Running run) = IsRun run
 IsStage left _ = ⊤
+
+-- An attempt was issued at a moment, began at an offset, and stands at a stage.
+pub record IsAttempt (action : Action) (offset : ℤ) (left : List Part) (stage : Stage) : Type 0 where
+  pub issued : IsMoment action.issued
+  pub began : IsOffset offset
+  pub stands : IsStage left stage

@@ -69,9 +69,7 @@ pub struct Attempt {
 }
 
 impl Model for Attempt {
-    ghost use Rattle.agent_attempt.specs.Stages.{AttemptState, IsStage};
-    ghost use Rattle.desk_base.specs.Moments.{IsMoment};
-    ghost use Rattle.line_forms.specs.Numbers.{IsOffset};
+    ghost use Rattle.agent_attempt.specs.Stages.{AttemptState, IsAttempt};
     ghost use Rattle.std.specs.Coded.{codes};
     ghost use Rattle.script_run.specs.contracts.run.Run as run;
 
@@ -88,7 +86,7 @@ impl Model for Attempt {
       past = record { failure = a.failure; exit = a.exit };
     } };
 
-    ghost invariant = { λ a. IsMoment a.action.issued × IsOffset a.offset × IsStage a.left.items a.stage };
+    ghost invariant = { λ a. IsAttempt a.action a.offset a.left.items a.stage };
 }
 
 impl Attempt {
@@ -162,7 +160,8 @@ impl Attempt {
     /// answer didn't want that file, or it came already. It takes no memory.
     pub fn supply(&mut self, digest: &[u8; 32], bytes: Option<Bytes>) -> bool
         ensures supplies { Supplies (shown_attempt self.old) digest.now bytes result (shown_attempt self.new) }
-        ensures waits { (started : ℕ) → StageWaitsBelow started (shown_stage self.old.stage) → StageWaitsBelow started (shown_stage self.new.stage) }
+        ensures waits { (started : ℕ) → StageWaitsBelow started (shown_stage self.old.stage)
+            → StageWaitsBelow started (shown_stage self.new.stage) }
     {
         if let Stage::Running(run) = &mut self.stage {
             return run.supply(digest, bytes);
@@ -200,7 +199,8 @@ fn group(
 
 /// Adds the fixlet of this id, if there is one, as the next component.
 fn add_part(parts: &mut VecDeque<Part>, site: &ReadSite, id: u64) -> Result<(), AllocError>
-    ensures { IfOk result (λ _. parts.new.items ≡ parts.old.items ++ numbered (length parts.old.items + 1) (fixlets_at (id ∷ []) site.now.blocks)) }
+    ensures { IfOk result (λ _. parts.new.items
+        ≡ parts.old.items ++ numbered (length parts.old.items + 1) (fixlets_at (id ∷ []) site.now.blocks)) }
 {
     match site.fixlet(id) {
         Some(fixlet) => {

@@ -1,5 +1,4 @@
 ghost use Rattle.std.specs.Prelude.{◌≡◌, ℕ, List, Some, IfOk};
-ghost use Rattle.script_run.specs.Machines.{view};
 ghost use Rattle.agent_attempt.specs.ReadTexts.{IsReadAs};
 ghost use Rattle.agent_attempt.specs.Relevance.{AllAre, Asks};
 
@@ -52,10 +51,7 @@ impl Clause {
 
     /// Asks the clause.
     pub(crate) fn ask<M: Machine>(&self, alloc: Global, machine: &mut M, time: &Time) -> Found
-        ensures asks { Asks time.now self.now
-            (view (M.world machine.old) (M.looked machine.old) (M.acted machine.old) (M.polled machine.old) (M.faults machine.old)) result
-            (view (M.world machine.new) (M.looked machine.new) (M.acted machine.new) (M.polled machine.new) (M.faults machine.new)) }
-        ensures started { M.started machine.new ≡ M.started machine.old }
+        ensures { Asks time.now self.now (M.told machine.old) result (M.told machine.new) }
     {
         match &self.question {
             Some(question) => Found::of(truth(alloc, question, machine, time.scene())),
@@ -126,10 +122,7 @@ pub(crate) fn ask_all<M: Machine>(
     machine: &mut M,
     time: &Time,
 ) -> Found
-    ensures asks { AllAre time.now clauses.now
-        (view (M.world machine.old) (M.looked machine.old) (M.acted machine.old) (M.polled machine.old) (M.faults machine.old)) result
-        (view (M.world machine.new) (M.looked machine.new) (M.acted machine.new) (M.polled machine.new) (M.faults machine.new)) }
-    ensures started { M.started machine.new ≡ M.started machine.old }
+    ensures { AllAre time.now clauses.now (M.told machine.old) result (M.told machine.new) }
 {
     for clause in clauses {
         match clause.ask(alloc, machine, time) {
@@ -147,10 +140,7 @@ pub(crate) fn ask_given<M: Machine>(
     machine: &mut M,
     time: &Time,
 ) -> Found
-    ensures asks { (text : List ℕ) → clause.now ≡ Some text → Asks time.now text
-        (view (M.world machine.old) (M.looked machine.old) (M.acted machine.old) (M.polled machine.old) (M.faults machine.old)) result
-        (view (M.world machine.new) (M.looked machine.new) (M.acted machine.new) (M.polled machine.new) (M.faults machine.new)) }
-    ensures started { M.started machine.new ≡ M.started machine.old }
+    ensures { (text : List ℕ) → clause.now ≡ Some text → Asks time.now text (M.told machine.old) result (M.told machine.new) }
 {
     match clause {
         Some(clause) => clause.ask(alloc, machine, time),

@@ -1,16 +1,16 @@
 // How the component at hand goes on.
-ghost use Rattle.std.specs.Prelude.{◌≡◌, ◌≤◌, ◌<◌, ◌+◌, ◌*◌, ℕ, List, ◌∷◌, length, Some, None, IfOk, IfSome};
-ghost use Rattle.script_run.specs.Machines.{MachineView, view};
+ghost use Rattle.std.specs.Prelude.{◌≡◌, ◌<◌, ◌+◌, ◌*◌, ℕ, List, ◌∷◌, length, Some, None, IfOk};
+ghost use Rattle.bf_machine.specs.Views.{MachineView};
 ghost use Rattle.script_run.specs.Asking.{When};
 ghost use Rattle.script_run.specs.RunPlaces.{WaitsBelow, from, wanted_at};
 ghost use Rattle.script_run.specs.Advances.{wanted_by};
 ghost use Rattle.agent_attempt.specs.declared.attempt.Part.{Part};
-ghost use Rattle.agent_attempt.specs.Attempts.{PlainStage, StageWaitsBelow, issue_date, judging, running, starting};
-ghost use Rattle.agent_attempt.specs.Going.{AfterRun, Through, exit_at, HasNote, SameAttempt};
+ghost use Rattle.agent_attempt.specs.Attempts.{PlainStage, coming, issue_date, judging, running, starting};
+ghost use Rattle.agent_attempt.specs.Going.{exit_at};
 ghost use Rattle.agent_attempt.specs.ReadTexts.{IsScriptOf};
 ghost use Rattle.agent_attempt.specs.Relevance.{FixletIs, Succeeds};
-ghost use Rattle.agent_attempt.specs.Stages.{FirstHasScript, IsRun, shown_attempt, shown_stage};
-ghost use Rattle.agent_attempt.specs.AttemptSteps.{Falls, OpensRun, StepsBy, StepsTo, first_component, stage_behind, weight_of, with_stage};
+ghost use Rattle.agent_attempt.specs.Stages.{FirstHasScript, IsRun, shown_attempt};
+ghost use Rattle.agent_attempt.specs.AttemptSteps.{Leaves, MakesStep, OpensRun, StepsByRan, first_component, stage_behind, with_stage};
 
 use crate::attempt::{Attempt, Stage};
 use crate::found::Found;
@@ -35,14 +35,9 @@ impl Attempt {
     ) -> Option<Went>
         requires stage { self.old.stage ≡ Stage.Coming }
         requires some { 0 < length self.old.left }
-        ensures steps { StepsTo time.now (shown_attempt self.old)
-            (view (M.world machine.old) (M.looked machine.old) (M.acted machine.old) (M.polled machine.old) (M.faults machine.old)) result
-            (view (M.world machine.new) (M.looked machine.new) (M.acted machine.new) (M.polled machine.new) (M.faults machine.new)) (shown_attempt self.new) }
-        ensures waits { StageWaitsBelow (M.started machine.new) (shown_stage self.new.stage) }
-        ensures started { M.started machine.old ≤ M.started machine.new }
-        ensures note { IfSome result HasNote }
-        ensures same { SameAttempt (shown_attempt self.old) (shown_attempt self.new) }
-        ensures falls { Falls result (weight_of (shown_attempt self.old)) (weight_of (shown_attempt self.new)) }
+        ensures { MakesStep time.now (with_stage coming (shown_attempt self.old))
+            (M.told machine.old) result
+            (M.told machine.new) (shown_attempt self.new) }
     {
         match self.is_relevant(alloc, machine, time) {
             Found::Yes => {
@@ -57,10 +52,8 @@ impl Attempt {
 
     /// Whether the component at hand is relevant.
     fn is_relevant<M: Machine>(&self, alloc: Global, machine: &mut M, time: &Time) -> Found
-        ensures asks { (part : Part) (left : List Part) → self.now.left ≡ part ∷ left → FixletIs time.now part.fixlet
-            (view (M.world machine.old) (M.looked machine.old) (M.acted machine.old) (M.polled machine.old) (M.faults machine.old)) result
-            (view (M.world machine.new) (M.looked machine.new) (M.acted machine.new) (M.polled machine.new) (M.faults machine.new)) }
-        ensures started { M.started machine.new ≡ M.started machine.old }
+        ensures { (part : Part) (left : List Part) → self.now.left ≡ part ∷ left
+            → FixletIs time.now part.fixlet (M.told machine.old) result (M.told machine.new) }
     {
         match self.left.front() {
             Some(part) => part.fixlet.is_relevant(alloc, machine, time),
@@ -72,11 +65,8 @@ impl Attempt {
     pub(crate) fn start(&mut self, alloc: Global) -> Option<Went>
         requires some { 0 < length self.old.left }
         requires script { FirstHasScript self.old.left }
-        ensures steps { (at : When) (machine : MachineView) → StepsTo at (with_stage starting (shown_attempt self.old)) machine result machine (shown_attempt self.new) }
-        ensures waits { (started : ℕ) → StageWaitsBelow started (shown_stage self.new.stage) }
-        ensures note { IfSome result HasNote }
-        ensures same { SameAttempt (shown_attempt self.old) (shown_attempt self.new) }
-        ensures falls { Falls result (weight_of (with_stage starting (shown_attempt self.old))) (weight_of (shown_attempt self.new)) }
+        ensures { (at : When) (machine : MachineView)
+            → MakesStep at (with_stage starting (shown_attempt self.old)) machine result machine (shown_attempt self.new) }
     {
         match self.opened(alloc) {
             Ok(run) => {
@@ -108,7 +98,8 @@ impl Attempt {
     fn script(&self) -> Result<Script, AllocError>
         requires some { 0 < length self.now.left }
         requires script { FirstHasScript self.now.left }
-        ensures { IfOk result (λ script. (part : Part) (left : List Part) → self.now.left ≡ part ∷ left → IsScriptOf part.fixlet.script (Some script)) }
+        ensures { IfOk result (λ script. (part : Part) (left : List Part) → self.now.left ≡ part ∷ left
+            → IsScriptOf part.fixlet.script (Some script)) }
     {
         match self.left.front() {
             Some(part) => part.fixlet.script(),
@@ -139,15 +130,10 @@ impl Attempt {
     ) -> Option<Went>
         requires some { 0 < length self.old.left }
         requires run { IsRun run }
-        requires waits { WaitsBelow (M.started machine.old) run.place }
-        ensures steps { StepsTo time.now (with_stage (running (from run) (wanted_at run.place)) (shown_attempt self.old))
-            (view (M.world machine.old) (M.looked machine.old) (M.acted machine.old) (M.polled machine.old) (M.faults machine.old)) result
-            (view (M.world machine.new) (M.looked machine.new) (M.acted machine.new) (M.polled machine.new) (M.faults machine.new)) (shown_attempt self.new) }
-        ensures waits { StageWaitsBelow (M.started machine.new) (shown_stage self.new.stage) }
-        ensures started { M.started machine.old ≤ M.started machine.new }
-        ensures note { IfSome result HasNote }
-        ensures same { SameAttempt (shown_attempt self.old) (shown_attempt self.new) }
-        ensures falls { Falls result (weight_of (with_stage (running (from run) (wanted_at run.place)) (shown_attempt self.old))) (weight_of (shown_attempt self.new)) }
+        requires waits { WaitsBelow (M.told machine.old).started run.place }
+        ensures { MakesStep time.now (with_stage (running (from run) (wanted_at run.place)) (shown_attempt self.old))
+            (M.told machine.old) result
+            (M.told machine.new) (shown_attempt self.new) }
     {
         let ran = run.advance(alloc, machine, time.moment(), time.offset());
         let exit = run.exit();
@@ -160,13 +146,11 @@ impl Attempt {
         requires some { 0 < length self.old.left }
         requires stage { (run : Run) × (self.old.stage ≡ stage_behind ran exit run) }
         ensures steps { (at : When) (before : PlainStage) (run : Run) (machine : MachineView) (part : Part) (left : List Part)
-            → self.old.left ≡ part ∷ left → self.old.stage ≡ stage_behind ran exit run → wanted_at run.place ≡ wanted_by ran → exit ≡ exit_at (from run)
-            → StepsBy at (AfterRun at (with_stage before (shown_attempt self.old)) part left (Through at (with_stage before (shown_attempt self.old)) left) ran (from run))
-            self.old.past machine result machine (shown_attempt self.new) }
+            → self.old.left ≡ part ∷ left → self.old.stage ≡ stage_behind ran exit run → wanted_at run.place ≡ wanted_by ran
+            → exit ≡ exit_at (from run) → StepsByRan at (with_stage before (shown_attempt self.old)) part left ran (from run)
+            machine result (shown_attempt self.new) }
         ensures stage { self.new.stage ≡ self.old.stage }
-        ensures note { IfSome result HasNote }
-        ensures same { SameAttempt (shown_attempt self.old) (shown_attempt self.new) }
-        ensures falls { Falls result (4 * length self.old.left + 1) (weight_of (shown_attempt self.new)) }
+        ensures leaves { Leaves (shown_attempt self.old) (4 * length self.old.left + 1) result (shown_attempt self.new) }
     {
         match ran {
             Ran::Held(line) => Some(Went::Held {
@@ -190,14 +174,9 @@ impl Attempt {
     ) -> Option<Went>
         requires stage { self.old.stage ≡ Stage.Coming }
         requires some { 0 < length self.old.left }
-        ensures steps { StepsTo time.now (with_stage (judging exit) (shown_attempt self.old))
-            (view (M.world machine.old) (M.looked machine.old) (M.acted machine.old) (M.polled machine.old) (M.faults machine.old)) result
-            (view (M.world machine.new) (M.looked machine.new) (M.acted machine.new) (M.polled machine.new) (M.faults machine.new)) (shown_attempt self.new) }
-        ensures waits { StageWaitsBelow (M.started machine.new) (shown_stage self.new.stage) }
-        ensures started { M.started machine.old ≤ M.started machine.new }
-        ensures note { IfSome result HasNote }
-        ensures same { SameAttempt (shown_attempt self.old) (shown_attempt self.new) }
-        ensures falls { Falls result (weight_of (with_stage (judging exit) (shown_attempt self.old))) (weight_of (shown_attempt self.new)) }
+        ensures { MakesStep time.now (with_stage (judging exit) (shown_attempt self.old))
+            (M.told machine.old) result
+            (M.told machine.new) (shown_attempt self.new) }
     {
         match self.succeeds(alloc, machine, time) {
             Found::Yes => {
@@ -215,10 +194,8 @@ impl Attempt {
 
     /// Whether the success rule of the component at hand holds.
     fn succeeds<M: Machine>(&self, alloc: Global, machine: &mut M, time: &Time) -> Found
-        ensures asks { (part : Part) (left : List Part) → self.now.left ≡ part ∷ left → Succeeds time.now part.fixlet part.fixlet.success
-            (view (M.world machine.old) (M.looked machine.old) (M.acted machine.old) (M.polled machine.old) (M.faults machine.old)) result
-            (view (M.world machine.new) (M.looked machine.new) (M.acted machine.new) (M.polled machine.new) (M.faults machine.new)) }
-        ensures started { M.started machine.new ≡ M.started machine.old }
+        ensures { (part : Part) (left : List Part) → self.now.left ≡ part ∷ left
+            → Succeeds time.now part.fixlet part.fixlet.success (M.told machine.old) result (M.told machine.new) }
     {
         match self.left.front() {
             Some(part) => part.fixlet.succeeds(alloc, machine, time),
@@ -241,15 +218,11 @@ impl Attempt {
 fn stage_behind(ran: &Ran, exit: Option<i64>, run: Run) -> Stage
     ensures { result ≡ stage_behind ran.now exit run }
 {
-    match ran {
-        Ran::Done => {
-            drop(run);
-            Stage::Judging(exit)
-        }
-        Ran::Failed(_, _) => {
-            drop(run);
-            Stage::Coming
-        }
-        Ran::Held(_) | Ran::Wants(_, _) | Ran::Memory => Stage::Running(run),
-    }
+    let stage = match ran {
+        Ran::Done => Stage::Judging(exit),
+        Ran::Failed(_, _) => Stage::Coming,
+        Ran::Held(_) | Ran::Wants(_, _) | Ran::Memory => return Stage::Running(run),
+    };
+    drop(run);
+    stage
 }

@@ -1,12 +1,12 @@
 // How an attempt goes on, component by component.
-ghost use Rattle.std.specs.Prelude.{◌≡◌, ◌≤◌, ◌<◌, ◌*◌, List, ◌∷◌, length, drop, None, IfSome};
-ghost use Rattle.script_run.specs.Machines.{MachineView, view};
+ghost use Rattle.std.specs.Prelude.{◌≡◌, ◌<◌, ◌*◌, List, ◌∷◌, length, drop, None};
+ghost use Rattle.bf_machine.specs.Views.{IsLater, MachineView};
 ghost use Rattle.script_run.specs.Asking.{When};
 ghost use Rattle.agent_attempt.specs.declared.attempt.Part.{Part};
 ghost use Rattle.agent_attempt.specs.Attempts.{StageWaitsBelow};
-ghost use Rattle.agent_attempt.specs.Going.{Fails, Through, ended, with_failure, GoesTo, HasNote, SameAttempt};
+ghost use Rattle.agent_attempt.specs.Going.{ended, with_failure, GoesTo, HasNote, SameAttempt};
 ghost use Rattle.agent_attempt.specs.Stages.{shown_attempt, shown_stage};
-ghost use Rattle.agent_attempt.specs.AttemptSteps.{Falls, StepsBy, StepsTo, weight_of};
+ghost use Rattle.agent_attempt.specs.AttemptSteps.{Leaves, MakesStep, StepsByFailing};
 
 use crate::attempt::{Attempt, Failure, Part, Stage};
 use crate::time::Time;
@@ -20,16 +20,16 @@ use std::mem;
 
 impl Attempt {
     /// Goes on until it is held, wants a file or ends. Where it ends it is done with. The program that it waits for is one that the
-    /// machine started.
+    /// machine started, and no program is forgotten.
     pub fn go_on<M: Machine>(&mut self, alloc: Global, machine: &mut M, time: &Time) -> Went
-        requires waits { StageWaitsBelow (M.started machine.old) (shown_stage self.old.stage) }
+        requires waits { StageWaitsBelow (M.told machine.old).started (shown_stage self.old.stage) }
         ensures goes { GoesTo time.now (shown_attempt self.old)
-            (view (M.world machine.old) (M.looked machine.old) (M.acted machine.old) (M.polled machine.old) (M.faults machine.old)) result
-            (view (M.world machine.new) (M.looked machine.new) (M.acted machine.new) (M.polled machine.new) (M.faults machine.new)) (shown_attempt self.new) }
-        ensures waits { StageWaitsBelow (M.started machine.new) (shown_stage self.new.stage) }
-        ensures started { M.started machine.old ≤ M.started machine.new }
+            (M.told machine.old) result
+            (M.told machine.new) (shown_attempt self.new) }
+        ensures waits { StageWaitsBelow (M.told machine.new).started (shown_stage self.new.stage) }
         ensures note { HasNote result }
         ensures same { SameAttempt (shown_attempt self.old) (shown_attempt self.new) }
+        ensures later { IsLater (M.told machine.old) (M.told machine.new) }
     {
         'steps: loop {
             if let Some(went) = self.step(alloc, machine, time) {
@@ -40,15 +40,10 @@ impl Attempt {
 
     /// One step of the component at hand: an answer where it stops there.
     fn step<M: Machine>(&mut self, alloc: Global, machine: &mut M, time: &Time) -> Option<Went>
-        requires waits { StageWaitsBelow (M.started machine.old) (shown_stage self.old.stage) }
-        ensures steps { StepsTo time.now (shown_attempt self.old)
-            (view (M.world machine.old) (M.looked machine.old) (M.acted machine.old) (M.polled machine.old) (M.faults machine.old)) result
-            (view (M.world machine.new) (M.looked machine.new) (M.acted machine.new) (M.polled machine.new) (M.faults machine.new)) (shown_attempt self.new) }
-        ensures waits { StageWaitsBelow (M.started machine.new) (shown_stage self.new.stage) }
-        ensures started { M.started machine.old ≤ M.started machine.new }
-        ensures note { IfSome result HasNote }
-        ensures same { SameAttempt (shown_attempt self.old) (shown_attempt self.new) }
-        ensures falls { Falls result (weight_of (shown_attempt self.old)) (weight_of (shown_attempt self.new)) }
+        requires waits { StageWaitsBelow (M.told machine.old).started (shown_stage self.old.stage) }
+        ensures { MakesStep time.now (shown_attempt self.old)
+            (M.told machine.old) result
+            (M.told machine.new) (shown_attempt self.new) }
     {
         if self.left.is_empty() {
             return Some(self.ended());
@@ -93,12 +88,9 @@ impl Attempt {
         requires stage { self.old.stage ≡ Stage.Coming }
         requires some { 0 < length self.old.left }
         ensures steps { (at : When) (machine : MachineView) (part : Part) (left : List Part) → self.old.left ≡ part ∷ left
-            → StepsBy at (Fails (shown_attempt self.old) part line cause exit (Through at (shown_attempt self.old) left)) self.old.past machine
-            result machine (shown_attempt self.new) }
+            → StepsByFailing at (shown_attempt self.old) part left line cause exit machine result (shown_attempt self.new) }
         ensures stage { self.new.stage ≡ Stage.Coming }
-        ensures note { IfSome result HasNote }
-        ensures same { SameAttempt (shown_attempt self.old) (shown_attempt self.new) }
-        ensures falls { Falls result (4 * length self.old.left) (weight_of (shown_attempt self.new)) }
+        ensures leaves { Leaves (shown_attempt self.old) (4 * length self.old.left) result (shown_attempt self.new) }
     {
         self.keep_failure(line, cause, exit);
         if self.action.all_members {

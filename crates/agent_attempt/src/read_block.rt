@@ -2,7 +2,6 @@ ghost use Rattle.std.specs.Prelude.{◌≡◌, IfOk, IsTrue, ◌↔◌, Contains
 ghost use Rattle.desk_base.specs.Moments.{IsMoment};
 ghost use Rattle.fix_site.specs.Actions.{IsAction};
 ghost use Rattle.fix_site.specs.Blocks.{IsBlock};
-ghost use Rattle.script_run.specs.Machines.{view};
 ghost use Rattle.agent_attempt.specs.ReadTexts.{target_clause};
 ghost use Rattle.agent_attempt.specs.ReadBlocks.{shown_block, read_id};
 ghost use Rattle.agent_attempt.specs.FoundContents.{IsFixletOf};
@@ -62,10 +61,7 @@ impl ReadBaseline {
 
     /// Asks its own clauses.
     pub(crate) fn ask<M: Machine>(&self, alloc: Global, machine: &mut M, time: &Time) -> Found
-        ensures asks { AllAre time.now self.now.relevance
-            (view (M.world machine.old) (M.looked machine.old) (M.acted machine.old) (M.polled machine.old) (M.faults machine.old)) result
-            (view (M.world machine.new) (M.looked machine.new) (M.acted machine.new) (M.polled machine.new) (M.faults machine.new)) }
-        ensures started { M.started machine.new ≡ M.started machine.old }
+        ensures { AllAre time.now self.now.relevance (M.told machine.old) result (M.told machine.new) }
     {
         ask_all(alloc, self.relevance.as_slice(), machine, time)
     }
@@ -124,10 +120,7 @@ impl ReadAction {
         machine: &mut M,
         time: &Time,
     ) -> Found
-        ensures asks { Targets time.now computer.now self.now.target
-            (view (M.world machine.old) (M.looked machine.old) (M.acted machine.old) (M.polled machine.old) (M.faults machine.old)) result
-            (view (M.world machine.new) (M.looked machine.new) (M.acted machine.new) (M.polled machine.new) (M.faults machine.new)) }
-        ensures started { M.started machine.new ≡ M.started machine.old }
+        ensures { Targets time.now computer.now self.now.target (M.told machine.old) result (M.told machine.new) }
     {
         match &self.action.target {
             Target::All => Found::Yes,

@@ -1,6 +1,5 @@
 ghost use Rattle.std.specs.Prelude.{◌≡◌, ◌<◌, ◌^◌, ℕ, List, length, Some, IfOk};
 ghost use Rattle.fix_site.specs.Contents.{IsFixlet};
-ghost use Rattle.script_run.specs.Machines.{view};
 ghost use Rattle.agent_attempt.specs.ReadTexts.{IsScriptOf, success_clause};
 ghost use Rattle.agent_attempt.specs.Relevance.{FixletIs, HasScript, Succeeds};
 
@@ -25,17 +24,14 @@ pub struct ReadFixlet {
 }
 
 impl Model for ReadFixlet {
-    ghost use Rattle.std.specs.Prelude.{◌≡◌};
     ghost use Rattle.fix_site.specs.declared.fixlet.Fixlet.{Fixlet};
-    ghost use Rattle.fix_site.specs.Contents.{IsFixlet};
-    ghost use Rattle.agent_attempt.specs.ReadTexts.{IsScriptOf, success_clause};
+    ghost use Rattle.agent_attempt.specs.ReadTexts.{IsReadFixlet};
 
     ghost Value = { Fixlet };
 
     ghost view = { λ f. f.fixlet };
 
-    ghost invariant = { λ f. IsFixlet f.fixlet × (f.relevance.items ≡ f.fixlet.relevance)
-        × (f.success ≡ success_clause f.fixlet.success) × IsScriptOf f.fixlet.script f.script };
+    ghost invariant = { λ f. IsReadFixlet f.fixlet f.relevance.items f.success f.script };
 }
 
 impl ReadFixlet {
@@ -93,10 +89,7 @@ impl ReadFixlet {
         machine: &mut M,
         time: &Time,
     ) -> Found
-        ensures asks { FixletIs time.now self.now
-            (view (M.world machine.old) (M.looked machine.old) (M.acted machine.old) (M.polled machine.old) (M.faults machine.old)) result
-            (view (M.world machine.new) (M.looked machine.new) (M.acted machine.new) (M.polled machine.new) (M.faults machine.new)) }
-        ensures started { M.started machine.new ≡ M.started machine.old }
+        ensures { FixletIs time.now self.now (M.told machine.old) result (M.told machine.new) }
     {
         if self.script.is_none() {
             // Proof: lines that are refused are no script.
@@ -108,10 +101,7 @@ impl ReadFixlet {
 
     /// Whether its success rule holds, after its script is done.
     pub(crate) fn succeeds<M: Machine>(&self, alloc: Global, machine: &mut M, time: &Time) -> Found
-        ensures asks { Succeeds time.now self.now self.now.success
-            (view (M.world machine.old) (M.looked machine.old) (M.acted machine.old) (M.polled machine.old) (M.faults machine.old)) result
-            (view (M.world machine.new) (M.looked machine.new) (M.acted machine.new) (M.polled machine.new) (M.faults machine.new)) }
-        ensures started { M.started machine.new ≡ M.started machine.old }
+        ensures { Succeeds time.now self.now self.now.success (M.told machine.old) result (M.told machine.new) }
     {
         match &self.fixlet.success {
             Success::Lines => Found::Yes,

@@ -1,9 +1,8 @@
-ghost use Rattle.std.specs.Prelude.{◌≡◌, IsTrue, ◌↔◌, ◌∷◌, [], Some};
+ghost use Rattle.std.specs.Prelude.{IsTrue, ◌↔◌, ◌∷◌, [], Some};
 ghost use Rattle.act_rules.specs.Rows.{IsRows};
 ghost use Rattle.act_rules.specs.Tallies.{StandsFor};
-ghost use Rattle.script_run.specs.Machines.{view};
 ghost use Rattle.agent_attempt.specs.ActionContents.{fixlets_at, group};
-ghost use Rattle.agent_attempt.specs.Relevance.{AsksThen, ContentIs, IsDue, MayBegin, SomeIs, Targets, and_then};
+ghost use Rattle.agent_attempt.specs.Relevance.{AsksThen, ContentIs, HasAsked, IsDue, MayBegin, SomeIs, Targets, and_then};
 ghost use Rattle.agent_attempt.specs.FoundContents.{shown_content, shown_if};
 
 use crate::found::Found;
@@ -25,10 +24,8 @@ pub fn relevant<M: Machine>(
     machine: &mut M,
     time: &Time,
 ) -> Found
-    ensures asks { ContentIs time.now (shown_if content.entry)
-        (view (M.world machine.old) (M.looked machine.old) (M.acted machine.old) (M.polled machine.old) (M.faults machine.old)) result
-        (view (M.world machine.new) (M.looked machine.new) (M.acted machine.new) (M.polled machine.new) (M.faults machine.new)) }
-    ensures started { M.started machine.new ≡ M.started machine.old }
+    ensures content { ContentIs time.now (shown_if content.entry) (M.told machine.old) result (M.told machine.new) }
+    ensures asked { HasAsked (M.told machine.old) result (M.told machine.new) }
 {
     match content {
         None => Found::No,
@@ -43,10 +40,7 @@ fn content_relevant<M: Machine>(
     machine: &mut M,
     time: &Time,
 ) -> Found
-    ensures asks { ContentIs time.now (Some (shown_content content.entry))
-        (view (M.world machine.old) (M.looked machine.old) (M.acted machine.old) (M.polled machine.old) (M.faults machine.old)) result
-        (view (M.world machine.new) (M.looked machine.new) (M.acted machine.new) (M.polled machine.new) (M.faults machine.new)) }
-    ensures started { M.started machine.new ≡ M.started machine.old }
+    ensures { ContentIs time.now (Some (shown_content content.entry)) (M.told machine.old) result (M.told machine.new) }
 {
     match content {
         Content::Fixlet(fixlet) => fixlet.is_relevant(alloc, machine, time),
@@ -64,10 +58,9 @@ fn baseline_relevant<M: Machine>(
     machine: &mut M,
     time: &Time,
 ) -> Found
-    ensures asks { ContentIs time.now (Some (group baseline.now.relevance (fixlets_at baseline.now.components site.now.blocks)))
-        (view (M.world machine.old) (M.looked machine.old) (M.acted machine.old) (M.polled machine.old) (M.faults machine.old)) result
-        (view (M.world machine.new) (M.looked machine.new) (M.acted machine.new) (M.polled machine.new) (M.faults machine.new)) }
-    ensures started { M.started machine.new ≡ M.started machine.old }
+    ensures { ContentIs time.now (Some (group baseline.now.relevance (fixlets_at baseline.now.components site.now.blocks)))
+        (M.told machine.old) result
+        (M.told machine.new) }
 {
     match baseline.ask(alloc, machine, time) {
         Found::Yes => some_relevant(alloc, site, baseline.components(), machine, time),
@@ -83,10 +76,7 @@ fn some_relevant<M: Machine>(
     machine: &mut M,
     time: &Time,
 ) -> Found
-    ensures asks { SomeIs time.now (fixlets_at ids.now site.now.blocks)
-        (view (M.world machine.old) (M.looked machine.old) (M.acted machine.old) (M.polled machine.old) (M.faults machine.old)) result
-        (view (M.world machine.new) (M.looked machine.new) (M.acted machine.new) (M.polled machine.new) (M.faults machine.new)) }
-    ensures started { M.started machine.new ≡ M.started machine.old }
+    ensures { SomeIs time.now (fixlets_at ids.now site.now.blocks) (M.told machine.old) result (M.told machine.new) }
 {
     for id in ids {
         match one_relevant(alloc, site, *id, machine, time) {
@@ -105,10 +95,7 @@ fn one_relevant<M: Machine>(
     machine: &mut M,
     time: &Time,
 ) -> Found
-    ensures asks { SomeIs time.now (fixlets_at (id ∷ []) site.now.blocks)
-        (view (M.world machine.old) (M.looked machine.old) (M.acted machine.old) (M.polled machine.old) (M.faults machine.old)) result
-        (view (M.world machine.new) (M.looked machine.new) (M.acted machine.new) (M.polled machine.new) (M.faults machine.new)) }
-    ensures started { M.started machine.new ≡ M.started machine.old }
+    ensures { SomeIs time.now (fixlets_at (id ∷ []) site.now.blocks) (M.told machine.old) result (M.told machine.new) }
 {
     match site.fixlet(id) {
         Some(fixlet) => fixlet.is_relevant(alloc, machine, time),
@@ -129,10 +116,10 @@ pub fn due<M: Machine>(
 ) -> Found
     requires rows { IsRows rows.now }
     requires tally { StandsFor tally.now action.now.rules.retries rows.now }
-    ensures asks { IsDue time.now computer.now action.now (shown_if content.entry) rows.now
-        (view (M.world machine.old) (M.looked machine.old) (M.acted machine.old) (M.polled machine.old) (M.faults machine.old)) result
-        (view (M.world machine.new) (M.looked machine.new) (M.acted machine.new) (M.polled machine.new) (M.faults machine.new)) }
-    ensures started { M.started machine.new ≡ M.started machine.old }
+    ensures due { IsDue time.now computer.now action.now (shown_if content.entry) rows.now
+        (M.told machine.old) result
+        (M.told machine.new) }
+    ensures asked { HasAsked (M.told machine.old) result (M.told machine.new) }
 {
     if may_begin(action, rows, tally, time) {
         return wanted(alloc, computer, action, content, machine, time);
@@ -149,10 +136,10 @@ fn wanted<M: Machine>(
     machine: &mut M,
     time: &Time,
 ) -> Found
-    ensures asks { AsksThen (Targets time.now computer.now action.now.target) (λ found. and_then found (ContentIs time.now (shown_if content.entry)))
-        (view (M.world machine.old) (M.looked machine.old) (M.acted machine.old) (M.polled machine.old) (M.faults machine.old)) result
-        (view (M.world machine.new) (M.looked machine.new) (M.acted machine.new) (M.polled machine.new) (M.faults machine.new)) }
-    ensures started { M.started machine.new ≡ M.started machine.old }
+    ensures { AsksThen (Targets time.now computer.now action.now.target)
+        (λ found. and_then found (ContentIs time.now (shown_if content.entry)))
+        (M.told machine.old) result
+        (M.told machine.new) }
 {
     match action.targets(alloc, computer, machine, time) {
         Found::Yes => relevant(alloc, content, machine, time),

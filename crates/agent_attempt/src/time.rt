@@ -16,16 +16,14 @@ pub struct Time {
 }
 
 impl Model for Time {
-    ghost use Rattle.std.specs.Prelude.{◌≡◌, [], None};
-    ghost use Rattle.desk_base.specs.Moments.{IsMoment};
-    ghost use Rattle.line_forms.specs.Numbers.{IsOffset};
     ghost use Rattle.script_run.specs.Asking.{When, when_of};
+    ghost use Rattle.agent_attempt.specs.Times.{IsTime};
 
     ghost Value = { When };
 
     ghost view = { λ t. when_of t.scene };
 
-    ghost invariant = { λ t. IsMoment t.scene.moment × IsOffset t.scene.offset × (t.scene.parameters ≡ []) × (t.scene.exit ≡ None) };
+    ghost invariant = { λ t. IsTime t.scene };
 }
 
 impl Time {

@@ -16,7 +16,7 @@ use Rattle.agent_core.specs.Stops.{Agrees, HasRow}
 use Rattle.agent_core.specs.Turns.{Marks, Turn}
 use Rattle.agent_core.proofs.Due.{due_may}
 use Rattle.agent_core.proofs.Begun.{ChangedHistories, marked_kept, saved_beginning, sound_broken}
-use Rattle.agent_core.proofs.GoingPoints.{going_same}
+use Rattle.agent_attempt.proofs.GoingPoints.{going_same}
 use Rattle.agent_core.proofs.Holding.{after_done, after_failed, after_memory, holds_all, holds_so}
 use Rattle.agent_core.proofs.RowCounts.{begun_there, held_row}
 use Rattle.agent_core.proofs.SavedOnce.{own_text}

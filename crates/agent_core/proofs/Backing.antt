@@ -5,7 +5,7 @@ use Rattle.desk_base.specs.Moments.{IsMoment}
 use Rattle.bf_world.specs.declared.command.Command.{Command}
 use Rattle.act_rules.specs.declared.row.Row.{Row}
 use Rattle.script_run.specs.Asking.{When}
-use Rattle.script_run.specs.Machines.{MachineView}
+use Rattle.bf_machine.specs.Views.{MachineView}
 use Rattle.agent_text.specs.Histories.{AreHistories, PlainHistory, rows_at}
 use Rattle.agent_text.specs.Pockets.{Holds}
 use Rattle.agent_attempt.specs.declared.found.Found.{Found}
@@ -19,7 +19,8 @@ use Rattle.agent_core.proofs.Agreeing.{Backs, agrees_backs, backs_own, has_own}
 use Rattle.agent_core.proofs.Due.{due_may}
 use Rattle.agent_core.proofs.Begun.{ChangedHistories, marked_kept, saved_beginning}
 use Rattle.agent_core.proofs.Holding.{after_done, after_failed, after_memory}
-use Rattle.agent_core.proofs.Quiet.{IsQuiet, content_quiet, due_quiet}
+use Rattle.agent_attempt.specs.Relevance.{HasAsked}
+use Rattle.agent_attempt.proofs.Quiet.{content_quiet, due_quiet}
 use Rattle.agent_core.proofs.RowCounts.{begun_there, count_begun, count_cleared, count_ended, held_row}
 use Rattle.agent_state.proofs.RowsAt.{rows_reported}
 use Rattle.agent_core.proofs.Sounding.{sound_saved}
@@ -101,8 +102,8 @@ came_saved acted first s now d new quiet same saves (inr has) is moved =
     let then = has_saved first now d.pocket.saved new.pocket.saved saves is (has_same first s.histories now.histories d.pocket.saved same has) in
     (then.action, then.number, then.of_turn, then.saved)
 
-asked : {acted : Option (List Command)} {first s : State} {marks : Marks} {d : Devices} (f : Found) (machine : MachineView) → Tried acted first marks s d → IsQuiet d.machine f machine → Tried acted first marks s (with_machine machine d)
-asked f machine t quiet = record { sound = t.sound; none = t.none; marked = t.marked; count = t.count; calm = quiet.acted ∙ t.calm }
+asked : {acted : Option (List Command)} {first s : State} {marks : Marks} {d : Devices} (f : Found) (machine : MachineView) → Tried acted first marks s d → HasAsked d.machine f machine → Tried acted first marks s (with_machine machine d)
+asked f machine t quiet = record { sound = t.sound; none = t.none; marked = t.marked; count = t.count; calm = quiet.only.acted ∙ t.calm }
 
 keeps_backed : ChangedHistories → (at : When) → IsMoment at.moment → (acted : Option (List Command)) (first : State) →
     Keeps at (λ s d. Stood acted first s d) (λ marks s d. Tried acted first marks s d) (λ began attempt s d. Has first s.histories d.pocket.saved) (λ changed would s d. Ended_ acted first s d) (λ a s d. Came acted first s d)
@@ -136,13 +137,13 @@ keeps_backed law at time acted first = record {
     none = t.none;
     marked = marked_kept law marks.histories action.id at.moment time t.marked may;
     count = λ of. count_cleared of action.id at.moment marks.histories ∙ t.count of;
-    calm = (content_quiet at _ d.machine _ machine asks).acted ∙ t.calm;
+    calm = (content_quiet at _ d.machine _ machine asks).only.acted ∙ t.calm;
   };
-  test_failed = λ marks s d action machine t asks is moved. absurd (moved ((content_quiet at _ d.machine _ machine asks).acted ∙ t.calm));
-  test_memory = λ marks s d action machine t asks is moved. absurd (moved ((content_quiet at _ d.machine _ machine asks).acted ∙ t.calm));
+  test_failed = λ marks s d action machine t asks is moved. absurd (moved ((content_quiet at _ d.machine _ machine asks).only.acted ∙ t.calm));
+  test_memory = λ marks s d action machine t asks is moved. absurd (moved ((content_quiet at _ d.machine _ machine asks).only.acted ∙ t.calm));
   passed = λ marks s d action machine t asks. asked _ machine t (due_quiet at _ action _ _ d.machine _ machine asks);
-  try_failed = λ marks s d action machine t asks is moved. absurd (moved ((due_quiet at _ action _ _ d.machine _ machine asks).acted ∙ t.calm));
-  try_memory = λ marks s d action machine t asks is moved. absurd (moved ((due_quiet at _ action _ _ d.machine _ machine asks).acted ∙ t.calm));
+  try_failed = λ marks s d action machine t asks is moved. absurd (moved ((due_quiet at _ action _ _ d.machine _ machine asks).only.acted ∙ t.calm));
+  try_memory = λ marks s d action machine t asks is moved. absurd (moved ((due_quiet at _ action _ _ d.machine _ machine asks).only.acted ∙ t.calm));
   begun_done = λ marks s d action content machine pocket t due there among saves.
       let begun = with_beginning action.id at.moment (with_histories marks.histories s) in
       let good = saved_beginning law at s marks.histories action time t.sound t.marked among (due_may at _ action _ _ _ _ due) in
@@ -153,8 +154,8 @@ keeps_backed law at time acted first = record {
         below = begun_there action.id at.moment marks.histories;
         saved = after_done (HasRow action.id (next_row action.id marks.histories)) _ d.pocket.saved pocket.saved saves.saves (has_own begun action.id _ good (begun_there action.id at.moment marks.histories));
       };
-  begun_failed = λ marks s d action machine pocket t due among saves is moved. absurd (moved ((due_quiet at _ action _ _ d.machine _ machine due).acted ∙ t.calm));
-  begun_memory = λ marks s d action machine pocket t due saves is moved. absurd (moved ((due_quiet at _ action _ _ d.machine _ machine due).acted ∙ t.calm));
+  begun_failed = λ marks s d action machine pocket t due among saves is moved. absurd (moved ((due_quiet at _ action _ _ d.machine _ machine due).only.acted ∙ t.calm));
+  begun_memory = λ marks s d action machine pocket t due saves is moved. absurd (moved ((due_quiet at _ action _ _ d.machine _ machine due).only.acted ∙ t.calm));
   no_memory = λ marks s d t is moved. absurd (moved t.calm);
   idle = λ marks s d t. inl t.calm;
   reported_done = λ changed would s d pocket b can saves. came_saved acted first s (as_saved (with_report s)) d (with_pocket pocket d) refl (reported s) (λ P old now. after_done P _ d.pocket.saved pocket.saved saves.saves now) b;

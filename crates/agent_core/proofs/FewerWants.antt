@@ -7,7 +7,7 @@ use Rattle.script_run.specs.declared.cause.Cause.{Cause}
 use Rattle.script_run.specs.declared.ran.Ran.{Ran}
 use Rattle.script_run.specs.declared.ran.Ran.TheVariants as ran
 use Rattle.script_run.specs.Asking.{When, known_in}
-use Rattle.script_run.specs.Machines.{MachineView}
+use Rattle.bf_machine.specs.Views.{MachineView}
 use Rattle.script_run.specs.RunPlaces.{around, place_walk, wanted_at}
 use Rattle.script_run.specs.ScriptWalks.{given_known, standing}
 use Rattle.script_run.specs.Walks.{Known, Rest, Settled, Walk, Wants, supplied}
@@ -21,7 +21,8 @@ use Rattle.agent_attempt.specs.declared.attempt.Part.{Part}
 use Rattle.agent_attempt.specs.declared.attempt.Stage.{Stage}
 use Rattle.agent_attempt.specs.declared.attempt.Stage.TheVariants as of_stage
 use Rattle.agent_attempt.specs.Attempts.{PlainAttempt, PlainStage, Past, coming, starting, running, judging, issue_date}
-use Rattle.agent_attempt.specs.Going.{Advances, AfterComing, AfterJudging, AfterRun, Ends, Fails, FromJudging, FromLeft, FromRunning, FromStage, FromStarting, Goes, GoesOn, Stays, Through, after_failure, exit_at, held_at, with_failure}
+use Rattle.script_run.specs.Advances.{Advances}
+use Rattle.agent_attempt.specs.Going.{AfterComing, AfterJudging, AfterRun, Ends, Fails, FromJudging, FromLeft, FromRunning, FromStage, FromStarting, Going, GoesOn, Stays, Through, after_failure, exit_at, held_at, with_failure}
 use Rattle.agent_attempt.specs.Stages.{AttemptState, shown_attempt, shown_stage}
 use Rattle.agent_attempt.specs.Supplies.{StageTakes, Supplies, wanted_of}
 use Rattle.agent_core.specs.declared.turned.Turned.{Turned}
@@ -78,10 +79,10 @@ abbrev total : List ℕ → ℕ
 total mosts = sum_by (λ n. n) mosts
 
 -- where a file is wanted, no more files than so many are left to want
-abbrev Leaves : ℕ → Goes → Type 0
+abbrev Leaves : ℕ → Going → Type 0
 Leaves most go = (past : Past) (old : MachineView) (digest : List ℕ) (new : MachineView) (then : PlainAttempt) → go past old (went.Wants digest) new (Some then) → (fewer : ℕ) × (fewer ≤ most) × AttemptWantsAtMost then fewer
 
-weaker : (go : Goes) (few most : ℕ) → few ≤ most → Leaves few go → Leaves most go
+weaker : (go : Going) (few most : ℕ) → few ≤ most → Leaves few go → Leaves most go
 weaker go few most le leaves past old digest new then h =
     let x = leaves past old digest new then h in
     let below = x.1 in
@@ -101,20 +102,20 @@ module _ (at : When) (a : PlainAttempt) where
   stays_leave : (left : List Part) (stage : PlainStage) (would : Went) (most : ℕ) → ((digest : List ℕ) → went.Wants digest ≡ would → ⊥) → Leaves most (Stays a left stage would)
   stays_leave left stage would most other past old digest new then h = absurd (other digest h.0)
 
-  failure_leaves : (all : Bool) (rest : Goes) (most : ℕ) → Leaves most rest → Leaves most (after_failure all rest)
+  failure_leaves : (all : Bool) (rest : Going) (most : ℕ) → Leaves most rest → Leaves most (after_failure all rest)
   failure_leaves true rest most leaves = leaves
   failure_leaves false rest most leaves = ends_leave most
 
-  fails_leave : (part : Part) (line : ℕ) (cause : Cause) (exit : Option ℤ) (rest : Goes) (most : ℕ) → Leaves most rest → Leaves most (Fails a part line cause exit rest)
+  fails_leave : (part : Part) (line : ℕ) (cause : Cause) (exit : Option ℤ) (rest : Going) (most : ℕ) → Leaves most rest → Leaves most (Fails a part line cause exit rest)
   fails_leave part line cause exit rest most leaves = λ past. failure_leaves a.action.all_members rest most leaves (with_failure part line cause exit past)
 
-  after_judging_leaves : (part : Part) (left : List Part) (exit : Option ℤ) (rest : Goes) (most : ℕ) → Leaves most rest → (f : Found) → Leaves most (AfterJudging a part left exit rest f)
+  after_judging_leaves : (part : Part) (left : List Part) (exit : Option ℤ) (rest : Going) (most : ℕ) → Leaves most rest → (f : Found) → Leaves most (AfterJudging a part left exit rest f)
   after_judging_leaves part left exit rest most leaves found.Yes = λ past. leaves (record past { exit = exit })
   after_judging_leaves part left exit rest most leaves found.No = fails_leave part 0 _ exit rest most leaves
   after_judging_leaves part left exit rest most leaves found.Failed = fails_leave part 0 _ exit rest most leaves
   after_judging_leaves part left exit rest most leaves found.Memory = stays_leave (part ∷ left) (judging exit) went.Memory most (λ digest e. cc)
 
-  judging_leaves : (part : Part) (left : List Part) (exit : Option ℤ) (rest : Goes) (most : ℕ) → Leaves most rest → Leaves most (FromJudging at a part left exit rest)
+  judging_leaves : (part : Part) (left : List Part) (exit : Option ℤ) (rest : Going) (most : ℕ) → Leaves most rest → Leaves most (FromJudging at a part left exit rest)
   judging_leaves part left exit rest most leaves past old digest new then (f, between, succeeds, h) = after_judging_leaves part left exit rest most leaves f past between digest new then h
 
   -- a file is wanted here
@@ -126,7 +127,7 @@ module _ (at : When) (a : PlainAttempt) where
     subst (λ x. AttemptWantsAtMost x (first + total mosts)) (sym (same_attempt then (held_at a (part ∷ left) (running walk (Some wanted)) past) h.2)) (first, mosts, few, all, refl),
   )
 
-  after_run_leaves : (part : Part) (left : List Part) (rest : Goes) (first : ℕ) (mosts : List ℕ) → AllFetchAtMost left mosts → Leaves (total mosts) rest → (came : Ran) (walk : Walk) → WantsAtMost walk first
+  after_run_leaves : (part : Part) (left : List Part) (rest : Going) (first : ℕ) (mosts : List ℕ) → AllFetchAtMost left mosts → Leaves (total mosts) rest → (came : Ran) (walk : Walk) → WantsAtMost walk first
       → Leaves (first + total mosts) (AfterRun at a part left rest came walk)
   after_run_leaves part left rest first mosts all leaves (ran.Held line) walk few = stays_leave (part ∷ left) (running walk None) (went.Held part.component line) (first + total mosts) (λ digest e. cc)
   after_run_leaves part left rest first mosts all leaves (ran.Wants line wanted) walk few = wants_leave part left walk wanted first mosts few all
@@ -135,18 +136,18 @@ module _ (at : When) (a : PlainAttempt) where
       weaker (Fails a part line cause (exit_at walk) rest) (total mosts) (first + total mosts) (omega arith) (fails_leave part line cause (exit_at walk) rest (total mosts) leaves)
   after_run_leaves part left rest first mosts all leaves ran.Memory walk few = stays_leave (part ∷ left) (running walk None) went.Memory (first + total mosts) (λ digest e. cc)
 
-  running_leaves : (part : Part) (left : List Part) (walk : Walk) (rest : Goes) (first : ℕ) (mosts : List ℕ) → AllFetchAtMost left mosts → Leaves (total mosts) rest → WantsAtMost walk first → Leaves (first + total mosts) (FromRunning at a part left walk rest)
+  running_leaves : (part : Part) (left : List Part) (walk : Walk) (rest : Going) (first : ℕ) (mosts : List ℕ) → AllFetchAtMost left mosts → Leaves (total mosts) rest → WantsAtMost walk first → Leaves (first + total mosts) (FromRunning at a part left walk rest)
   running_leaves part left walk rest first mosts all leaves few past old digest new then (came, between, further, advances, h) =
       after_run_leaves part left rest first mosts all leaves came further (advanced_few at old walk came between further first advances few) past between digest new then h
 
-  starting_leaves : (part : Part) (left : List Part) (rest : Goes) (first : ℕ) (mosts : List ℕ) → AllFetchAtMost left mosts → Leaves (total mosts) rest → FetchesAtMost part first → Leaves (first + total mosts) (FromStarting at a part left rest)
+  starting_leaves : (part : Part) (left : List Part) (rest : Going) (first : ℕ) (mosts : List ℕ) → AllFetchAtMost left mosts → Leaves (total mosts) rest → FetchesAtMost part first → Leaves (first + total mosts) (FromStarting at a part left rest)
   starting_leaves part left rest first mosts all leaves fetches past old digest new then (inl h) = absurd (let e = h.0 in cc)
   starting_leaves part left rest first mosts all leaves fetches past old digest new then (inr (script, verdict, h)) =
       let few : length script.prefetches ≤ first = fetches script verdict in
       running_leaves part left (standing script (issue_date a)) rest first mosts all leaves
       (λ results. let all = script_few script (given_known (issue_date a)) results in omega (arith, few, all)) past old digest new then h
 
-  after_coming_leaves : (part : Part) (left : List Part) (rest : Goes) (first : ℕ) (mosts : List ℕ) → AllFetchAtMost left mosts → Leaves (total mosts) rest → FetchesAtMost part first → (f : Found) → Leaves (first + total mosts) (AfterComing at a part left rest f)
+  after_coming_leaves : (part : Part) (left : List Part) (rest : Going) (first : ℕ) (mosts : List ℕ) → AllFetchAtMost left mosts → Leaves (total mosts) rest → FetchesAtMost part first → (f : Found) → Leaves (first + total mosts) (AfterComing at a part left rest f)
   after_coming_leaves part left rest first mosts all leaves fetches found.Yes = starting_leaves part left rest first mosts all leaves fetches
   after_coming_leaves part left rest first mosts all leaves fetches found.No = weaker rest (total mosts) (first + total mosts) (omega arith) leaves
   after_coming_leaves part left rest first mosts all leaves fetches found.Failed = weaker (Fails a part 0 _ None rest) (total mosts) (first + total mosts) (omega arith) (fails_leave part 0 _ None rest (total mosts) leaves)

@@ -8,7 +8,7 @@ use Rattle.act_rules.specs.Owed.{IsOwed}
 use Rattle.fix_site.specs.declared.action.Action.{Action}
 use Rattle.report_text.specs.ReportRows.{no_note}
 use Rattle.script_run.specs.Asking.{When}
-use Rattle.script_run.specs.Machines.{MachineView}
+use Rattle.bf_machine.specs.Views.{MachineView}
 use Rattle.agent_text.specs.declared.saved.Saved.{Saved}
 use Rattle.agent_text.specs.Histories.{AreHistories, PlainHistory, rows_at}
 use Rattle.agent_text.specs.Pockets.{Holds}

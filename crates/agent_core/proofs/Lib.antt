@@ -1,7 +1,6 @@
 pub mod LawfulRows
 pub mod TurnPoints
 pub mod Adding
-pub mod Quiet
 pub mod Causes
 pub mod Flowing
 pub mod Sounding
@@ -12,7 +11,6 @@ pub mod Mailing
 pub mod RowCounts
 pub mod GatheredIds
 pub mod Begun
-pub mod GoingPoints
 pub mod Agreeing
 pub mod Backing
 pub mod KeptLawful

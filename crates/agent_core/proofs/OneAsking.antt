@@ -10,14 +10,14 @@ use Rattle.fix_site.specs.declared.fixlet.Success.TheVariants as success
 use Rattle.rel_eval.specs.declared.told.Truth.{Truth}
 use Rattle.rel_eval.specs.declared.told.Truth.TheVariants as truth
 use Rattle.script_run.specs.Asking.{When, scene_of}
-use Rattle.script_run.specs.Machines.{MachineView}
+use Rattle.bf_machine.specs.Views.{MachineView}
 use Rattle.script_run.specs.ScriptWalks.{given_known}
 use Rattle.agent_attempt.specs.declared.found.Found.{Found}
 use Rattle.agent_attempt.specs.declared.found.Found.TheVariants.{Yes, No, Failed, Memory}
 use Rattle.agent_attempt.specs.ActionContents.{Content, single, group}
 use Rattle.agent_attempt.specs.Relevance.{AllAre, Asking, Asks, AsksThen, ContentIs, FixletIs, IsDue, SomeIs, Succeeds, Targets, and_then, finds, found_of, opposite, or_else}
 use Rattle.agent_core.proofs.OneLook.{Calm, OnePlan, SameView, judges_same}
-use Rattle.agent_core.proofs.Quiet.{all_quiet, asks_quiet, content_quiet, fixlet_quiet, some_quiet, targets_quiet}
+use Rattle.agent_attempt.proofs.Quiet.{all_quiet, asks_quiet, content_quiet, fixlet_quiet, some_quiet, targets_quiet}
 
 module _ (plan : OnePlan) (faults : ℕ) (low : faults < 2 ^ 64 - 1) where
   abbrev Same : MachineView → MachineView → Type 0
@@ -85,8 +85,8 @@ module _ (plan : OnePlan) (faults : ℕ) (low : faults < 2 ^ 64 - 1) where
   pub all_once : (at : When) (texts : List (List ℕ)) → Once (AllAre at texts)
   all_once at [] = finds_once Yes
   all_once at (text ∷ texts) =
-      then_once (Asks at text) (λ f. and_then f (AllAre at texts)) (asks_once at text) (λ old a new h. (asks_quiet at text old a new h).later)
-      (and_once (AllAre at texts) (all_once at texts)) (and_later (AllAre at texts) (λ old a new h. (all_quiet at texts old a new h).later)) (λ old a new h. h.0)
+      then_once (Asks at text) (λ f. and_then f (AllAre at texts)) (asks_once at text) (λ old a new h. (asks_quiet at text old a new h).only.later)
+      (and_once (AllAre at texts) (all_once at texts)) (and_later (AllAre at texts) (λ old a new h. (all_quiet at texts old a new h).only.later)) (λ old a new h. h.0)
 
   pub fixlet_once : (at : When) (fixlet : Fixlet) → Once (FixletIs at fixlet)
   fixlet_once at fixlet old a b new other calm (inl p) (inl q) e e' ample ample' = all_once at fixlet.relevance old a b new other calm p.1 q.1 e e' ample ample'
@@ -97,15 +97,15 @@ module _ (plan : OnePlan) (faults : ℕ) (low : faults < 2 ^ 64 - 1) where
   some_once : (at : When) (fixlets : List Fixlet) → Once (SomeIs at fixlets)
   some_once at [] = finds_once No
   some_once at (fixlet ∷ fixlets) =
-      then_once (FixletIs at fixlet) (λ f. or_else f (SomeIs at fixlets)) (fixlet_once at fixlet) (λ old a new h. (fixlet_quiet at fixlet old a new h).later)
-      (or_once (SomeIs at fixlets) (some_once at fixlets)) (or_later (SomeIs at fixlets) (λ old a new h. (some_quiet at fixlets old a new h).later)) (λ old a new h. h.0)
+      then_once (FixletIs at fixlet) (λ f. or_else f (SomeIs at fixlets)) (fixlet_once at fixlet) (λ old a new h. (fixlet_quiet at fixlet old a new h).only.later)
+      (or_once (SomeIs at fixlets) (some_once at fixlets)) (or_later (SomeIs at fixlets) (λ old a new h. (some_quiet at fixlets old a new h).only.later)) (λ old a new h. h.0)
 
   pub content_once : (at : When) (content : Option Content) → Once (ContentIs at content)
   content_once at None = finds_once No
   content_once at (Some (single fixlet)) = fixlet_once at fixlet
   content_once at (Some (group relevance components)) =
-      then_once (AllAre at relevance) (λ f. and_then f (SomeIs at components)) (all_once at relevance) (λ old a new h. (all_quiet at relevance old a new h).later)
-      (and_once (SomeIs at components) (some_once at components)) (and_later (SomeIs at components) (λ old a new h. (some_quiet at components old a new h).later)) (λ old a new h. h.0)
+      then_once (AllAre at relevance) (λ f. and_then f (SomeIs at components)) (all_once at relevance) (λ old a new h. (all_quiet at relevance old a new h).only.later)
+      (and_once (SomeIs at components) (some_once at components)) (and_later (SomeIs at components) (λ old a new h. (some_quiet at components old a new h).only.later)) (λ old a new h. h.0)
 
   targets_once : (at : When) (computer : List ℕ) (t : Target) → Once (Targets at computer t)
   targets_once at computer target.All old a b new other calm p q e e' ample ample' = finds_once Yes old a b new other calm p q e e' ample ample'
@@ -117,8 +117,8 @@ module _ (plan : OnePlan) (faults : ℕ) (low : faults < 2 ^ 64 - 1) where
 
   pub due_once : (at : When) (computer : List ℕ) (action : Action) (content : Option Content) (rows : List Row) → Once (IsDue at computer action content rows)
   due_once at computer action content rows old a b new other calm (inl p) (inl q) e e' ample ample' =
-      then_once (Targets at computer action.target) (λ f. and_then f (ContentIs at content)) (targets_once at computer action.target) (λ old a new h. (targets_quiet at computer action.target old a new h).later)
-      (and_once (ContentIs at content) (content_once at content)) (and_later (ContentIs at content) (λ old a new h. (content_quiet at content old a new h).later)) (λ old a new h. h.0) old a b new other calm p.1 q.1 e e' ample ample'
+      then_once (Targets at computer action.target) (λ f. and_then f (ContentIs at content)) (targets_once at computer action.target) (λ old a new h. (targets_quiet at computer action.target old a new h).only.later)
+      (and_once (ContentIs at content) (content_once at content)) (and_later (ContentIs at content) (λ old a new h. (content_quiet at content old a new h).only.later)) (λ old a new h. h.0) old a b new other calm p.1 q.1 e e' ample ample'
   due_once at computer action content rows old a b new other calm (inl p) (inr q) e e' ample ample' = absurd (q.0 p.0)
   due_once at computer action content rows old a b new other calm (inr p) (inl q) e e' ample ample' = absurd (p.0 q.0)
   due_once at computer action content rows old a b new other calm (inr p) (inr q) e e' ample ample' = finds_once No old a b new other calm p.1 q.1 e e' ample ample'
@@ -126,5 +126,5 @@ module _ (plan : OnePlan) (faults : ℕ) (low : faults < 2 ^ 64 - 1) where
   pub succeeds_once : (at : When) (fixlet : Fixlet) (rule : Success) → Once (Succeeds at fixlet rule)
   succeeds_once at fixlet success.Lines = finds_once Yes
   succeeds_once at fixlet success.Relevance =
-      then_once (AllAre at fixlet.relevance) (λ f. finds (opposite f)) (all_once at fixlet.relevance) (λ old a new h. (all_quiet at fixlet.relevance old a new h).later) (λ f. finds_once (opposite f)) (λ f. finds_later (opposite f)) (λ old a new h. h.0)
+      then_once (AllAre at fixlet.relevance) (λ f. finds (opposite f)) (all_once at fixlet.relevance) (λ old a new h. (all_quiet at fixlet.relevance old a new h).only.later) (λ f. finds_once (opposite f)) (λ f. finds_later (opposite f)) (λ old a new h. h.0)
   succeeds_once at fixlet (success.Clause question) = asks_once at question

@@ -1,12 +1,9 @@
 -- Where nothing fails and memory lasts, a script and an attempt go on in one way on a machine that tells its world.
-use Rattle.std.proofs.Common.{◌≡◌, ◌≢◌, ℕ, ◌-◌, ◌^◌, ◌<◌, ◌≤◌, ℤ, Bool, true, false, List, [], ◌∷◌, ◌++◌, ◌⊎◌, inl, inr, Option, Some, None, refl, sym, ap, subst, ◌∙◌, arith}
+use Rattle.std.proofs.Common.{◌≡◌, ◌≢◌, ℕ, ◌-◌, ◌^◌, ◌<◌, ℤ, Bool, true, false, List, [], ◌∷◌, ◌++◌, inl, inr, Option, Some, None, refl, sym, ap, subst, ◌∙◌, arith}
 use Rattle.std.specs.Prelude.{Ok, Result}
-use Rattle.bf_world.specs.declared.command.Acted.{Acted}
-use Rattle.bf_world.specs.declared.command.Acted.TheVariants as of_act
 use Rattle.bf_world.specs.declared.command.Polled.{Polled}
 use Rattle.bf_world.specs.declared.command.Polled.TheVariants as of_poll
 use Rattle.rel_eval.specs.declared.told.Truth.TheVariants as truth
-use Rattle.bf_machine.proofs.Telling.{later-RoseBy}
 use Rattle.script_text.specs.declared.error.ScriptError.{ScriptError}
 use Rattle.script_text.specs.Scripts.{IsVerdict, PlainScript}
 use Rattle.script_run.specs.declared.cause.Cause.{Cause}
@@ -14,7 +11,7 @@ use Rattle.script_run.specs.declared.ran.Ran.{Ran}
 use Rattle.script_run.specs.declared.ran.Ran.TheVariants as ran
 use Rattle.script_run.specs.Walks.{Known, Settled, said, judged, acted, polled, Next, Wants, Says, Tests, Pauses, Does, Polls, Ends, Fails, Walk}
 use Rattle.script_run.specs.ScriptWalks.{standing}
-use Rattle.script_run.specs.Machines.{Counts, MachineView, PollsOn}
+use Rattle.bf_machine.specs.Views.{IsLater, MachineView}
 use Rattle.script_run.specs.Asking.{When, scene_of}
 use Rattle.script_run.specs.RunSteps.{Any, Comes, Holds, Settles, Stops}
 use Rattle.agent_attempt.specs.declared.found.Found.{Found}
@@ -23,63 +20,17 @@ use Rattle.agent_attempt.specs.declared.went.Went.{Went}
 use Rattle.agent_attempt.specs.declared.went.Went.TheVariants as went
 use Rattle.agent_attempt.specs.declared.attempt.Part.{Part}
 use Rattle.agent_attempt.specs.Attempts.{PlainAttempt, PlainStage, Past, coming, starting, running, judging, issue_date}
-use Rattle.agent_attempt.specs.Going.{Advances, AfterComing, AfterJudging, AfterRun, Ends as AttemptEnds, Fails as AttemptFails, FromComing, FromJudging, FromLeft, FromRunning, FromStage, FromStarting, Goes, GoesOn, Stays, Through, after_failure, exit_at, with_failure}
-use Rattle.agent_core.proofs.GoingPoints.{Later, going_later, after_coming_leads, after_judging_leads, after_run_leads, through_leads}
+use Rattle.script_run.specs.Advances.{Advances}
+use Rattle.agent_attempt.specs.Going.{AfterComing, AfterJudging, AfterRun, Ends as AttemptEnds, Fails as AttemptFails, FromComing, FromJudging, FromLeft, FromRunning, FromStage, FromStarting, Going, GoesOn, Stays, Through, after_failure, exit_at, with_failure}
+use Rattle.agent_attempt.proofs.GoingPoints.{Later, later_points, after_coming_leads, after_judging_leads, after_run_leads, through_leads}
+use Rattle.agent_attempt.proofs.Lasting.{advances_later, comes_later, settles_later, stops_later}
 use Rattle.agent_core.proofs.OneAsking.{fixlet_once, succeeds_once}
 use Rattle.agent_core.proofs.OneLook.{Calm, OnePlan, SameView, acts_same, judges_same, polls_same, says_same}
-use Rattle.agent_core.proofs.Quiet.{fixlet_quiet, succeeds_quiet}
+use Rattle.agent_attempt.proofs.Quiet.{fixlet_quiet, succeeds_quiet}
 
 -- the law of lines that are scripts
 abbrev pub OneVerdict : Type 0
 OneVerdict = (lines : List (List ℕ)) (x y : Result PlainScript ScriptError) → IsVerdict lines x → IsVerdict lines y → x ≡ y
-
--- ---- counts
-counts_later : (failed : Type 0) (old new : ℕ) → failed ⊎ (failed → ⊥) → Counts failed old new → old ≤ new
-counts_later failed old new (inl f) counts = let rose = counts.rose f in omega (arith, rose)
-counts_later failed old new (inr f) counts = let same = counts.steady f in omega (arith, same)
-
-act_failed : (a : Acted) → (a ≡ of_act.Failed) ⊎ (a ≡ of_act.Failed → ⊥)
-act_failed of_act.Done = inr (λ e. absurd (cc))
-act_failed (of_act.Started process) = inr (λ e. absurd (cc))
-act_failed (of_act.Refused reason) = inr (λ e. absurd (cc))
-act_failed of_act.Failed = inl refl
-act_failed of_act.Memory = inr (λ e. absurd (cc))
-
-poll_failed : (a : Polled) → (a ≡ of_poll.Failed) ⊎ (a ≡ of_poll.Failed → ⊥)
-poll_failed of_poll.Running = inr (λ e. absurd (cc))
-poll_failed (of_poll.Exited code) = inr (λ e. absurd (cc))
-poll_failed of_poll.Failed = inl refl
-
-polls_later : (process : ℕ) (old : MachineView) (a : Polled) (new : MachineView) → PollsOn process old a new → old.faults ≤ new.faults
-polls_later process old a new p = counts_later (a ≡ of_poll.Failed) old.faults new.faults (poll_failed a) p.faults
-
-settles_later : (at : When) (known : Known) (next : Next) (old : MachineView) (r : Settled) (new : MachineView) → Settles at known next old r new → old.faults ≤ new.faults
-settles_later at known (Says n midway text) old (said a) new p = p.1.later
-settles_later at known (Tests n text) old (judged a) new p = p.1.later
-settles_later at known (Pauses n text) old (judged a) new p = p.2.later
-settles_later at known (Does n midway command) old (acted a) new p = counts_later (a ≡ of_act.Failed) old.faults new.faults (act_failed a) p.1.faults
-settles_later at known (Polls n process) old (polled a) new p = polls_later process old a new p.1
-settles_later at known next old r new p = absurd p
-
-holds_later : (at : When) (known : Known) (next : Next) (n : ℕ) (old new : MachineView) → Holds at known next n old new → old.faults ≤ new.faults
-holds_later at known (Pauses own text) n old new p = p.1.later
-holds_later at known (Polls own process) n old new p = polls_later process old of_poll.Running new p.1
-holds_later at known next n old new p = absurd p
-
--- an advance that doesn't want for memory
-stops_later : (at : When) (old : MachineView) (f : Walk) (a : Ran) (new : MachineView) → Stops at old f a new → a ≢ ran.Memory → old.faults ≤ new.faults
-stops_later at old f (ran.Held n) new p ample = holds_later at (f []).known (f []).next n old new p
-stops_later at old f (ran.Wants n digest) new p ample = let same = ap (λ (v : MachineView). v.faults) p.1 in omega (arith, same)
-stops_later at old f ran.Done new p ample = let same = ap (λ (v : MachineView). v.faults) p.1 in omega (arith, same)
-stops_later at old f (ran.Failed n cause) new p ample = let same = ap (λ (v : MachineView). v.faults) p.1 in omega (arith, same)
-stops_later at old f ran.Memory new p ample = absurd (ample refl)
-
-comes_later : (at : When) (f : Walk) (old : MachineView) (rs : List Settled) (new : MachineView) → Comes Any at old f rs new → old.faults ≤ new.faults
-comes_later at f old [] new h = let same = ap (λ (v : MachineView). v.faults) h in omega (arith, same)
-comes_later at f old (r ∷ rs) new (any, (between, settles, rest)) =
-    let first = settles_later at (f []).known (f []).next old r between settles in
-    let later = comes_later at (λ more. f (r ∷ more)) between rs new rest in
-    omega (arith, first, later)
 
 -- ---- one stop
 abbrev stop_at : Next → Ran
@@ -173,24 +124,24 @@ module _ (plan : OnePlan) (verdict : OneVerdict) (faults : ℕ) (low : faults < 
   comes_same f old [] [] mid far a b new other calm c d s t e e' ample ample' =
       let same = stops_same f a b old new other calm (subst (λ v. Stops at v f a new) c s) (subst (λ v. Stops at v f b other) d t) e e' ample ample' in (refl, same.0, same.1)
   comes_same f old [] (y ∷ ys) mid far a b new other calm c (any, (between, settles, rest)) s t e e' ample ample' =
-      let one = settles_later at (f []).known (f []).next old y between settles in
-      let two = comes_later at (λ more. f (y ∷ more)) between ys far rest in
-      let three = stops_later at far (λ more. f (y ∷ (ys ++ more))) b other t ample' in
+      let one = (settles_later at (f []).known (f []).next old y between settles).faults in
+      let two = (comes_later Any at (λ more. f (y ∷ more)) between ys far rest).faults in
+      let three = (stops_later at far (λ more. f (y ∷ (ys ++ more))) b other t).faults in
       let start = calm.count in
       absurd (stopped_or_settled f old y between a new calm settles (subst (λ v. Stops at v f a new) c s) (omega (arith, one, two, three, start, e')) e ample)
   comes_same f old (x ∷ xs) [] mid far a b new other calm (any, (between, settles, rest)) d s t e e' ample ample' =
-      let one = settles_later at (f []).known (f []).next old x between settles in
-      let two = comes_later at (λ more. f (x ∷ more)) between xs mid rest in
-      let three = stops_later at mid (λ more. f (x ∷ (xs ++ more))) a new s ample in
+      let one = (settles_later at (f []).known (f []).next old x between settles).faults in
+      let two = (comes_later Any at (λ more. f (x ∷ more)) between xs mid rest).faults in
+      let three = (stops_later at mid (λ more. f (x ∷ (xs ++ more))) a new s).faults in
       let start = calm.count in
       absurd (stopped_or_settled f old x between b other calm settles (subst (λ v. Stops at v f b other) d t) (omega (arith, one, two, three, start, e)) e' ample')
   comes_same f old (x ∷ xs) (y ∷ ys) mid far a b new other calm (any, (between, settles, rest)) (any', (between', settles', rest')) s t e e' ample ample' =
-      let one = settles_later at (f []).known (f []).next old x between settles in
-      let two = comes_later at (λ more. f (x ∷ more)) between xs mid rest in
-      let three = stops_later at mid (λ more. f (x ∷ (xs ++ more))) a new s ample in
-      let one' = settles_later at (f []).known (f []).next old y between' settles' in
-      let two' = comes_later at (λ more. f (y ∷ more)) between' ys far rest' in
-      let three' = stops_later at far (λ more. f (y ∷ (ys ++ more))) b other t ample' in
+      let one = (settles_later at (f []).known (f []).next old x between settles).faults in
+      let two = (comes_later Any at (λ more. f (x ∷ more)) between xs mid rest).faults in
+      let three = (stops_later at mid (λ more. f (x ∷ (xs ++ more))) a new s).faults in
+      let one' = (settles_later at (f []).known (f []).next old y between' settles').faults in
+      let two' = (comes_later Any at (λ more. f (y ∷ more)) between' ys far rest').faults in
+      let three' = (stops_later at far (λ more. f (y ∷ (ys ++ more))) b other t).faults in
       let start = calm.count in
       let same = settles_same (f []).known (f []).next old x y between between' calm settles settles' (omega (arith, one, two, three, start, e)) (omega (arith, one', two', three', start, e')) in
       let R : Settled → MachineView → Type 0 = λ z v. Comes Any at v (λ more. f (z ∷ more)) ys far in
@@ -210,7 +161,7 @@ module _ (plan : OnePlan) (verdict : OneVerdict) (faults : ℕ) (low : faults < 
   abbrev SameWay : Went → Went → MachineView → MachineView → Option PlainAttempt → Option PlainAttempt → Type 0
   SameWay answer would new other after then = (answer ≡ would) × Same new other × (after ≡ then)
 
-  abbrev Once : Goes → Type 0
+  abbrev Once : Going → Type 0
   Once go = (past : Past) (old : MachineView) (answer would : Went) (new other : MachineView) (after then : Option PlainAttempt) → Calm faults old → go past old answer new after → go past old would other then
       → new.faults ≡ faults → other.faults ≡ faults → answer ≢ went.Memory → would ≢ went.Memory → SameWay answer would new other after then
 
@@ -220,57 +171,57 @@ module _ (plan : OnePlan) (verdict : OneVerdict) (faults : ℕ) (low : faults < 
   stays_once : (a : PlainAttempt) (left : List Part) (stage : PlainStage) (would : Went) → Once (Stays a left stage would)
   stays_once a left stage says past old answer would new other after then calm p q e e' ample ample' = (p.0 ∙ sym q.0, left_same old new other calm p.1 q.1, p.2 ∙ sym q.2)
 
-  failure_once : (all : Bool) (rest : Goes) → Once rest → Once (after_failure all rest)
+  failure_once : (all : Bool) (rest : Going) → Once rest → Once (after_failure all rest)
   failure_once true rest once = once
   failure_once false rest once = ends_once
 
-  fails_once : (a : PlainAttempt) (part : Part) (line : ℕ) (cause : Cause) (exit : Option ℤ) (rest : Goes) → Once rest → Once (AttemptFails a part line cause exit rest)
+  fails_once : (a : PlainAttempt) (part : Part) (line : ℕ) (cause : Cause) (exit : Option ℤ) (rest : Going) → Once rest → Once (AttemptFails a part line cause exit rest)
   fails_once a part line cause exit rest once = λ past. failure_once a.action.all_members rest once (with_failure part line cause exit past)
 
-  after_judging_once : (a : PlainAttempt) (part : Part) (left : List Part) (exit : Option ℤ) (rest : Goes) → Once rest → (f : Found) → Once (AfterJudging a part left exit rest f)
+  after_judging_once : (a : PlainAttempt) (part : Part) (left : List Part) (exit : Option ℤ) (rest : Going) → Once rest → (f : Found) → Once (AfterJudging a part left exit rest f)
   after_judging_once a part left exit rest once found.Yes = λ past. once (record past { exit = exit })
   after_judging_once a part left exit rest once found.No = fails_once a part 0 _ exit rest once
   after_judging_once a part left exit rest once found.Failed = fails_once a part 0 _ exit rest once
   after_judging_once a part left exit rest once found.Memory = stays_once a (part ∷ left) (judging exit) _
 
-  -- what comes later doesn't lower the machine's count
-  abbrev Lasts : Goes → Type 0
-  Lasts go = (past : Past) (old : MachineView) (answer : Went) (new : MachineView) (after : Option PlainAttempt) → go past old answer new after → old.faults ≤ new.faults
+  -- what comes later doesn't lower the machine's counts
+  abbrev Lasts : Going → Type 0
+  Lasts go = (past : Past) (old : MachineView) (answer : Went) (new : MachineView) (after : Option PlainAttempt) → go past old answer new after → IsLater old new
 
-  judging_once : (a : PlainAttempt) (part : Part) (left : List Part) (exit : Option ℤ) (rest : Goes) → Lasts rest → Once rest → Once (FromJudging at a part left exit rest)
+  judging_once : (a : PlainAttempt) (part : Part) (left : List Part) (exit : Option ℤ) (rest : Going) → Lasts rest → Once rest → Once (FromJudging at a part left exit rest)
   judging_once a part left exit rest lasts once past old answer would new other after then calm (f, mid, p, h) (g, far, q, k) e e' ample ample' =
-      let one = (succeeds_quiet at part.fixlet part.fixlet.success old f mid p).later in
-      let two = after_judging_leads at a Later (going_later at a) part left exit rest lasts f past mid answer new after h in
-      let one' = (succeeds_quiet at part.fixlet part.fixlet.success old g far q).later in
-      let two' = after_judging_leads at a Later (going_later at a) part left exit rest lasts g past far would other then k in
+      let one = (succeeds_quiet at part.fixlet part.fixlet.success old f mid p).only.later in
+      let two = (after_judging_leads at a Later (later_points at a) part left exit rest lasts f past mid answer new after h).faults in
+      let one' = (succeeds_quiet at part.fixlet part.fixlet.success old g far q).only.later in
+      let two' = (after_judging_leads at a Later (later_points at a) part left exit rest lasts g past far would other then k).faults in
       let start = calm.count in
       let same = succeeds_once plan faults low at part.fixlet part.fixlet.success old f g mid far calm p q (omega (arith, one, two, start, e)) (omega (arith, one', two', start, e'))
       (λ m. ample (subst (λ x. AfterJudging a part left exit rest x past mid answer new after) m h).0) (λ m. ample' (subst (λ x. AfterJudging a part left exit rest x past far would other then) m k).0) in
       after_judging_once a part left exit rest once f past mid answer would new other after then same.1.1 h
       (subst (λ x. AfterJudging a part left exit rest x past mid would other then) (sym same.0) (subst (λ v. AfterJudging a part left exit rest g past v would other then) (sym same.1.0) k)) e e' ample ample'
 
-  after_run_once : (a : PlainAttempt) (part : Part) (left : List Part) (rest : Goes) → Lasts rest → Once rest → (came : Ran) (walk : Walk) → Once (AfterRun at a part left rest came walk)
+  after_run_once : (a : PlainAttempt) (part : Part) (left : List Part) (rest : Going) → Lasts rest → Once rest → (came : Ran) (walk : Walk) → Once (AfterRun at a part left rest came walk)
   after_run_once a part left rest lasts once (ran.Held line) walk = stays_once a (part ∷ left) (running walk None) _
   after_run_once a part left rest lasts once (ran.Wants line digest) walk = stays_once a (part ∷ left) (running walk (Some digest)) _
   after_run_once a part left rest lasts once ran.Done walk = judging_once a part left (exit_at walk) rest lasts once
   after_run_once a part left rest lasts once (ran.Failed line cause) walk = fails_once a part line cause (exit_at walk) rest once
   after_run_once a part left rest lasts once ran.Memory walk = stays_once a (part ∷ left) (running walk None) _
 
-  running_once : (a : PlainAttempt) (part : Part) (left : List Part) (walk : Walk) (rest : Goes) → Lasts rest → Once rest → Once (FromRunning at a part left walk rest)
+  running_once : (a : PlainAttempt) (part : Part) (left : List Part) (walk : Walk) (rest : Going) → Lasts rest → Once rest → Once (FromRunning at a part left walk rest)
   running_once a part left walk rest lasts once past old answer would new other after then calm (x, mid, one_left, p, h) (y, far, other_left, q, k) e e' ample ample' =
       let ample_x : x ≢ ran.Memory = λ m. ample (subst (λ z. AfterRun at a part left rest z one_left past mid answer new after) m h).0 in
       let ample_y : y ≢ ran.Memory = λ m. ample' (subst (λ z. AfterRun at a part left rest z other_left past far would other then) m k).0 in
-      let one = later-RoseBy _ old.faults mid.faults p.faults in
-      let two = after_run_leads at a Later (going_later at a) part left rest lasts x one_left past mid answer new after h in
-      let one' = later-RoseBy _ old.faults far.faults q.faults in
-      let two' = after_run_leads at a Later (going_later at a) part left rest lasts y other_left past far would other then k in
+      let one = (advances_later at old walk x mid one_left p).faults in
+      let two = (after_run_leads at a Later (later_points at a) part left rest lasts x one_left past mid answer new after h).faults in
+      let one' = (advances_later at old walk y far other_left q).faults in
+      let two' = (after_run_leads at a Later (later_points at a) part left rest lasts y other_left past far would other then k).faults in
       let start = calm.count in
       let same = advances_same walk old x y mid far one_left other_left calm p q (omega (arith, one, two, start, e)) (omega (arith, one', two', start, e')) ample_x ample_y in
       let met : AfterRun at a part left rest y one_left past far would other then = subst (λ w. AfterRun at a part left rest y w past far would other then) (sym same.2) k in
       after_run_once a part left rest lasts once x one_left past mid answer would new other after then same.1.1 h
       (subst (λ z. AfterRun at a part left rest z one_left past mid would other then) (sym same.0) (subst (λ v. AfterRun at a part left rest y one_left past v would other then) (sym same.1.0) met)) e e' ample ample'
 
-  starting_once : (a : PlainAttempt) (part : Part) (left : List Part) (rest : Goes) → Lasts rest → Once rest → Once (FromStarting at a part left rest)
+  starting_once : (a : PlainAttempt) (part : Part) (left : List Part) (rest : Going) → Lasts rest → Once rest → Once (FromStarting at a part left rest)
   starting_once a part left rest lasts once past old answer would new other after then calm (inl p) q e e' ample ample' = absurd (ample p.0)
   starting_once a part left rest lasts once past old answer would new other after then calm (inr p) (inl q) e e' ample ample' = absurd (ample' q.0)
   starting_once a part left rest lasts once past old answer would new other after then calm (inr (x, is, p)) (inr (y, is', q)) e e' ample ample' =
@@ -278,18 +229,18 @@ module _ (plan : OnePlan) (verdict : OneVerdict) (faults : ℕ) (low : faults < 
       running_once a part left (standing x (issue_date a)) rest lasts once past old answer would new other after then calm p
       (subst (λ z. FromRunning at a part left (standing z (issue_date a)) rest past old would other then) (sym same) q) e e' ample ample'
 
-  after_coming_once : (a : PlainAttempt) (part : Part) (left : List Part) (rest : Goes) → Lasts rest → Once rest → (f : Found) → Once (AfterComing at a part left rest f)
+  after_coming_once : (a : PlainAttempt) (part : Part) (left : List Part) (rest : Going) → Lasts rest → Once rest → (f : Found) → Once (AfterComing at a part left rest f)
   after_coming_once a part left rest lasts once found.Yes = starting_once a part left rest lasts once
   after_coming_once a part left rest lasts once found.No = once
   after_coming_once a part left rest lasts once found.Failed = fails_once a part 0 _ _ rest once
   after_coming_once a part left rest lasts once found.Memory = stays_once a (part ∷ left) coming _
 
-  coming_once : (a : PlainAttempt) (part : Part) (left : List Part) (rest : Goes) → Lasts rest → Once rest → Once (FromComing at a part left rest)
+  coming_once : (a : PlainAttempt) (part : Part) (left : List Part) (rest : Going) → Lasts rest → Once rest → Once (FromComing at a part left rest)
   coming_once a part left rest lasts once past old answer would new other after then calm (f, mid, p, h) (g, far, q, k) e e' ample ample' =
-      let one = (fixlet_quiet at part.fixlet old f mid p).later in
-      let two = after_coming_leads at a Later (going_later at a) part left rest lasts f past mid answer new after h in
-      let one' = (fixlet_quiet at part.fixlet old g far q).later in
-      let two' = after_coming_leads at a Later (going_later at a) part left rest lasts g past far would other then k in
+      let one = (fixlet_quiet at part.fixlet old f mid p).only.later in
+      let two = (after_coming_leads at a Later (later_points at a) part left rest lasts f past mid answer new after h).faults in
+      let one' = (fixlet_quiet at part.fixlet old g far q).only.later in
+      let two' = (after_coming_leads at a Later (later_points at a) part left rest lasts g past far would other then k).faults in
       let start = calm.count in
       let same = fixlet_once plan faults low at part.fixlet old f g mid far calm p q (omega (arith, one, two, start, e)) (omega (arith, one', two', start, e'))
       (λ m. ample (subst (λ x. AfterComing at a part left rest x past mid answer new after) m h).0) (λ m. ample' (subst (λ x. AfterComing at a part left rest x past far would other then) m k).0) in
@@ -297,7 +248,7 @@ module _ (plan : OnePlan) (verdict : OneVerdict) (faults : ℕ) (low : faults < 
       (subst (λ x. AfterComing at a part left rest x past mid would other then) (sym same.0) (subst (λ v. AfterComing at a part left rest g past v would other then) (sym same.1.0) k)) e e' ample ample'
 
   through_lasts : (a : PlainAttempt) (left : List Part) → Lasts (Through at a left)
-  through_lasts a left = through_leads at a Later (going_later at a) left
+  through_lasts a left = through_leads at a Later (later_points at a) left
 
   through_once : (a : PlainAttempt) (left : List Part) → Once (Through at a left)
   through_once a [] = ends_once

@@ -11,8 +11,8 @@ use Rattle.bf_world.specs.declared.key.Key.{Key}
 use Rattle.bf_world.specs.Done.{Outcome, done}
 use Rattle.bf_world.specs.Polled.{PollOutcome, polled as poll_of}
 use Rattle.bf_world.specs.Worlds.{WorldState}
-use Rattle.bf_machine.specs.Acts.{Acts, commands_added}
-use Rattle.bf_machine.specs.Polls.{Polls as PollAnswers, numbers_added}
+use Rattle.bf_machine.specs.Acts.{Acts, ActsOn, CountsStarted, commands_added}
+use Rattle.bf_machine.specs.Polls.{Polls as PollAnswers, PollsOn, numbers_added}
 use Rattle.bf_machine.specs.Told.{Grows, Told}
 use Rattle.rel_value.specs.Plain.{boolean, words, booleans}
 use Rattle.rel_sources.specs.declared.scene.Scene.{Scene}
@@ -30,7 +30,7 @@ use Rattle.rel_eval.specs.Pulls.{Skips}
 use Rattle.rel_eval.specs.Questions.{Reading, Reads, question, refused, undefined}
 use Rattle.rel_eval.specs.Singles.{one_text_of, truth_of, TellsText, TellsTruth, TextHasCause, TruthHasCause}
 use Rattle.script_run.specs.Walks.{said, judged, fault_in}
-use Rattle.script_run.specs.Machines.{ActsOn, MachineView, PollsOn, view}
+use Rattle.bf_machine.specs.Views.{MachineView, OnlyLooks}
 use Rattle.script_run.specs.Asking.{SaysQuestion, SaysReading, SaysText, SaysOn, JudgesKind, JudgesQuestion, JudgesReading, JudgesText, JudgesOn}
 use Rattle.script_run.proofs.OneAnswer.{says_once, judges_once}
 
@@ -53,10 +53,8 @@ some_of (Some x) is = (x, refl)
 some_same : {T : Type 0} (a b : T) → Some a ≡ Some b → a ≡ b
 some_same a b e = cc
 
-pub same_view : (x y : MachineView) → x.world ≡ y.world → x.looked ≡ y.looked → x.acted ≡ y.acted → x.polled ≡ y.polled → x.faults ≡ y.faults → x ≡ y
-same_view x y w l a p f =
-    ap (λ v. view v x.looked x.acted x.polled x.faults) w ∙ ap (λ v. view y.world v x.acted x.polled x.faults) l ∙ ap (λ v. view y.world y.looked v x.polled x.faults) a
-    ∙ ap (λ v. view y.world y.looked y.acted v x.faults) p ∙ ap (λ v. view y.world y.looked y.acted y.polled v) f
+pub same_view : (x y : MachineView) → x.world ≡ y.world → x.looked ≡ y.looked → x.acted ≡ y.acted → x.polled ≡ y.polled → x.started ≡ y.started → x.faults ≡ y.faults → x ≡ y
+same_view x y w l a p s f = λ j. record { world = w j; looked = l j; acted = a j; polled = p j; started = s j; faults = f j }
 
 -- a count that stands didn't rise
 pub no_rise : (faults a b : ℕ) → faults < 2 ^ 64 - 1 → a ≡ faults → b ≡ faults → Rose a b → ⊥
@@ -71,6 +69,14 @@ grown_once None new other k l some same p q = absurd (cc)
 grown_once (Some b) None other k l some same p q = absurd p
 grown_once (Some b) (Some n) None k l some same p q = absurd q
 grown_once (Some b) (Some n) (Some m) k l some same p q = (ap (λ x. Some x) (p ∙ ap (λ x. b ++ x) same ∙ sym q), refl)
+
+-- programs are started in one way by a command that didn't fail
+started_once : (a : Acted) (old new other : ℕ) → a ≢ of_act.Failed → CountsStarted old new a → CountsStarted old other a → new ≡ other
+started_once of_act.Done old new other sound p q = p ∙ sym q
+started_once (of_act.Started process) old new other sound p q = p.1 ∙ sym q.1
+started_once (of_act.Refused reason) old new other sound p q = p ∙ sym q
+started_once of_act.Failed old new other sound p q = absurd (sound refl)
+started_once of_act.Memory old new other sound p q = p ∙ sym q
 
 -- ---- the looks of a trace up to its first end or value
 abbrev IsHead : Trace → Type 0
@@ -193,6 +199,12 @@ module _ (plan : OnePlan) (faults : ℕ) (low : faults < 2 ^ 64 - 1) where
   abbrev pub SameView : MachineView → MachineView → Type 0
   SameView new other = (new ≡ other) × Calm faults new
 
+  looks_same : {old : MachineView} (new other : MachineView) → OnlyLooks old new → OnlyLooks old other → SameTold new.looked other.looked → new.faults ≡ faults → other.faults ≡ faults → Calm faults old → SameView new other
+  looks_same new other p q looks e e' calm = (
+    same_view new other (p.world ∙ sym q.world) looks.0 (p.acted ∙ sym q.acted) (p.polled ∙ sym q.polled) (p.started ∙ sym q.started) (e ∙ sym e'),
+    record { world = subst IsSome (sym p.world) calm.world; looked = looks.1; acted = subst IsSome (sym p.acted) calm.acted; polled = subst IsSome (sym p.polled) calm.polled; count = e },
+  )
+
   said_sound : (a : OneText) (x y : ℕ) → x ≡ faults → y ≡ faults → TextHasCause x y a → fault_in (said a) ≡ 0
   said_sound (one_text.Failed place) x y is is' cause = absurd (no_rise faults x y low is is' cause)
   said_sound (one_text.Text text) x y is is' cause = refl
@@ -214,7 +226,7 @@ module _ (plan : OnePlan) (faults : ℕ) (low : faults < 2 ^ 64 - 1) where
       let w = some_of old.world calm.world in
       let looks = says_looks plan w.0 old.world scene text old.looked new.looked other.looked a b w.1 calm.looked p.says q.says none none' ample ample' in (
         says_once w.0 scene text old old a b new other w.1 w.1 p q none none' ample ample',
-        (same_view new other (p.world ∙ sym q.world) looks.0 (p.acted ∙ sym q.acted) (p.polled ∙ sym q.polled) (e ∙ sym e'), record { world = subst IsSome (sym p.world) calm.world; looked = looks.1; acted = subst IsSome (sym p.acted) calm.acted; polled = subst IsSome (sym p.polled) calm.polled; count = e }),
+        looks_same new other p.only q.only looks e e' calm,
       )
 
   pub judges_same : (scene : Scene) (text : List ℕ) (old : MachineView) (a b : Truth) (new other : MachineView) → Calm faults old → JudgesOn scene text old a new → JudgesOn scene text old b other
@@ -225,7 +237,7 @@ module _ (plan : OnePlan) (faults : ℕ) (low : faults < 2 ^ 64 - 1) where
       let w = some_of old.world calm.world in
       let looks = judges_looks plan w.0 old.world scene text old.looked new.looked other.looked a b w.1 calm.looked p.judges q.judges none none' ample ample' in (
         judges_once w.0 scene text old old a b new other w.1 w.1 p q none none' ample ample',
-        (same_view new other (p.world ∙ sym q.world) looks.0 (p.acted ∙ sym q.acted) (p.polled ∙ sym q.polled) (e ∙ sym e'), record { world = subst IsSome (sym p.world) calm.world; looked = looks.1; acted = subst IsSome (sym p.acted) calm.acted; polled = subst IsSome (sym p.polled) calm.polled; count = e }),
+        looks_same new other p.only q.only looks e e' calm,
       )
 
   -- ---- commands and polls
@@ -247,14 +259,15 @@ module _ (plan : OnePlan) (faults : ℕ) (low : faults < 2 ^ 64 - 1) where
       let w = some_of old.world calm.world in
       let x = told_from old.world new.world w.0 (λ before now. Acts before now command moment a) w.1 p.world in
       let y = told_from old.world other.world w.0 (λ before now. Acts before now command moment b) w.1 q.world in
-      let sound : a ≢ of_act.Failed = λ f. no_rise faults old.faults new.faults low calm.count e (p.faults.rose f) in
-      let sound' : b ≢ of_act.Failed = λ f. no_rise faults old.faults other.faults low calm.count e' (q.faults.rose f) in
+      let sound : a ≢ of_act.Failed = λ f. no_rise faults old.faults new.faults low calm.count e (p.counts.rose f) in
+      let sound' : b ≢ of_act.Failed = λ f. no_rise faults old.faults other.faults low calm.count e' (q.counts.rose f) in
       let same = sym (acted_as w.0 x.0 command moment a x.2 ample sound) ∙ acted_as w.0 y.0 command moment b y.2 ample' sound' in
       let answer : a ≡ b = ap (λ (o : Outcome). o.answer) same in
       let world : new.world ≡ other.world = x.1 ∙ ap (λ (o : Outcome). Some o.after) same ∙ sym y.1 in
+      let started = started_once b old.started new.started other.started sound' (subst (CountsStarted old.started new.started) answer p.started) q.started in
       let acted = grown_once old.acted new.acted other.acted _ _ calm.acted (ap (commands_added command) answer) p.acted q.acted in (
         answer,
-        (same_view new other world (p.looked ∙ sym q.looked) acted.0 (p.polled ∙ sym q.polled) (e ∙ sym e'), record { world = subst IsSome (sym x.1) refl; looked = subst IsSome (sym p.looked) calm.looked; acted = acted.1; polled = subst IsSome (sym p.polled) calm.polled; count = e }),
+        (same_view new other world (p.looked ∙ sym q.looked) acted.0 (p.polled ∙ sym q.polled) started (e ∙ sym e'), record { world = subst IsSome (sym x.1) refl; looked = subst IsSome (sym p.looked) calm.looked; acted = acted.1; polled = subst IsSome (sym p.polled) calm.polled; count = e }),
       )
 
   polled_as : (w v : WorldState) (process : ℕ) (a : Polled) → PollAnswers w v process a → a ≢ of_poll.Failed → poll_of w process ≡ Some (record { answer = a; after = v })
@@ -268,8 +281,8 @@ module _ (plan : OnePlan) (faults : ℕ) (low : faults < 2 ^ 64 - 1) where
       let w = some_of old.world calm.world in
       let x = told_from old.world new.world w.0 (λ before now. PollAnswers before now process a) w.1 p.world in
       let y = told_from old.world other.world w.0 (λ before now. PollAnswers before now process b) w.1 q.world in
-      let sound : a ≢ of_poll.Failed = λ f. no_rise faults old.faults new.faults low calm.count e (p.faults.rose f) in
-      let sound' : b ≢ of_poll.Failed = λ f. no_rise faults old.faults other.faults low calm.count e' (q.faults.rose f) in
+      let sound : a ≢ of_poll.Failed = λ f. no_rise faults old.faults new.faults low calm.count e (p.counts.rose f) in
+      let sound' : b ≢ of_poll.Failed = λ f. no_rise faults old.faults other.faults low calm.count e' (q.counts.rose f) in
       let one : PollOutcome = record { answer = a; after = x.0 } in
       let two : PollOutcome = record { answer = b; after = y.0 } in
       let same : one ≡ two = some_same one two (sym (polled_as w.0 x.0 process a x.2 sound) ∙ polled_as w.0 y.0 process b y.2 sound') in
@@ -277,5 +290,5 @@ module _ (plan : OnePlan) (faults : ℕ) (low : faults < 2 ^ 64 - 1) where
       let world : new.world ≡ other.world = x.1 ∙ ap (λ (o : PollOutcome). Some o.after) same ∙ sym y.1 in
       let polled = grown_once old.polled new.polled other.polled _ _ calm.polled (ap (numbers_added process) answer) p.polled q.polled in (
         answer,
-        (same_view new other world (p.looked ∙ sym q.looked) (p.acted ∙ sym q.acted) polled.0 (e ∙ sym e'), record { world = subst IsSome (sym x.1) refl; looked = subst IsSome (sym p.looked) calm.looked; acted = subst IsSome (sym p.acted) calm.acted; polled = polled.1; count = e }),
+        (same_view new other world (p.looked ∙ sym q.looked) (p.acted ∙ sym q.acted) polled.0 (p.started ∙ sym q.started) (e ∙ sym e'), record { world = subst IsSome (sym x.1) refl; looked = subst IsSome (sym p.looked) calm.looked; acted = subst IsSome (sym p.acted) calm.acted; polled = polled.1; count = e }),
       )

@@ -3,11 +3,11 @@ use Rattle.std.proofs.Common.{◌≡◌, ◌≢◌, ℕ, ◌-◌, ◌^◌, ◌<�
 use Rattle.act_rules.specs.Rows.{last_row}
 use Rattle.fix_site.specs.declared.action.Action.{Action}
 use Rattle.script_run.specs.Asking.{When}
-use Rattle.script_run.specs.Machines.{MachineView}
+use Rattle.bf_machine.specs.Views.{MachineView}
 use Rattle.agent_text.specs.declared.pocket.SaveResult.{SaveResult}
 use Rattle.agent_text.specs.declared.pocket.SaveResult.TheVariants as save
 use Rattle.agent_text.specs.Histories.{rows_at}
-use Rattle.agent_text.specs.Pockets.{Saves}
+use Rattle.agent_text.specs.Pockets.{PocketView, Saves, SavesTo}
 use Rattle.agent_attempt.specs.declared.found.Found.{Found}
 use Rattle.agent_attempt.specs.declared.found.Found.TheVariants as found
 use Rattle.agent_attempt.specs.declared.went.Went.{Went}
@@ -18,15 +18,15 @@ use Rattle.agent_attempt.specs.Relevance.{Asking, ContentIs, IsDue}
 use Rattle.agent_core.specs.declared.turned.Turned.{Turned}
 use Rattle.agent_core.specs.declared.turned.Turned.TheVariants.{Idle, Interrupted, MachineFault, PocketFault, Memory}
 use Rattle.agent_core.specs.declared.turned.Turned.TheVariants as turned
-use Rattle.agent_core.specs.Saving.{Answers, AsksThen, Ending, SavesOn, SavesThen}
+use Rattle.agent_core.specs.Saving.{Answers, TurnAsks, Ending, SavesThen}
 use Rattle.agent_state.specs.States.{State, as_saved, broken_action, can_report, interrupted, text_of, with_beginning, with_end, with_held, with_histories, with_report, with_unsaved}
-use Rattle.agent_core.specs.Devices.{Devices, NoFaults, PocketView, TellsWorld, pocket_view}
-use Rattle.agent_core.specs.Turns.{AfterBeginning, AfterFirstSave, AfterGoing, AfterInterrupting, AfterLastSave, AfterTest, AfterTrying, Begins, Clears, Finishes, FirstSave, Goes, Interrupts, LastSave, Marks, ReportsAndSaves, StepFor, Steps, TestsOne, Tries, TriesEach, TriesMarked, Turn, beginning, may_clear, no_marks, outcome_of, with_mark}
-use Rattle.agent_core.proofs.GoingPoints.{Later, going_later, going_leads}
+use Rattle.agent_core.specs.Devices.{Devices, NoFaults, TellsWorld}
+use Rattle.agent_core.specs.Turns.{AfterBeginning, AfterFirstSave, AfterGoing, AfterInterrupting, AfterLastSave, AfterTest, AfterTrying, Begins, Clears, Finishes, FirstSave, TurnGoesOn, Interrupts, LastSave, Marks, ReportsAndSaves, StepFor, Steps, TestsOne, Tries, TriesEach, TriesMarked, Turn, beginning, may_clear, no_marks, outcome_of, with_mark}
+use Rattle.agent_attempt.proofs.GoingPoints.{going_later}
 use Rattle.agent_core.proofs.OneAsking.{Once as FoundOnce, content_once, due_once}
 use Rattle.agent_core.proofs.OneGoing.{OneVerdict, going_once}
 use Rattle.agent_core.proofs.OneLook.{Calm, OnePlan}
-use Rattle.agent_core.proofs.Quiet.{content_quiet, due_quiet}
+use Rattle.agent_attempt.proofs.Quiet.{content_quiet, due_quiet}
 use Rattle.agent_core.proofs.TurnPoints.{with_machine, with_pocket}
 
 -- ---- the machine's count is no less at the end
@@ -63,9 +63,9 @@ after_going_lasts at id began (went.Ended fail note) after s d =
     finish_lasts true (turned.Ended id began (outcome_of fail) fail) (with_end id at.moment (outcome_of fail) note s) d
 after_going_lasts at id began went.Memory after s d = answers_last Memory (with_held after s) d
 
-goes_last : (at : When) (began : Bool) (attempt : PlainAttempt) (s : State) (d : Devices) → Lasts d (Goes at began attempt s d)
+goes_last : (at : When) (began : Bool) (attempt : PlainAttempt) (s : State) (d : Devices) → Lasts d (TurnGoesOn at began attempt s d)
 goes_last at began attempt s d a s2 d2 (w, machine, after, goes, h) =
-    let first = going_leads at attempt Later (going_later at attempt) d.machine w machine after goes in
+    let first = (going_later at attempt d.machine w machine after goes).faults in
     let later = after_going_lasts at attempt.action.id began w after s (with_machine machine d) a s2 d2 h in
     omega (arith, first, later)
 
@@ -92,7 +92,7 @@ tries_last : (at : When) (s marked : State) (any : Bool) (actions : List Action)
 tries_last at s marked any [] d a s2 d2 (inl h) = answers_last Memory s d a s2 d2 h
 tries_last at s marked any [] d a s2 d2 (inr h) = finish_lasts any Idle marked d a s2 d2 h
 tries_last at s marked any (action ∷ actions) d a s2 d2 (f, machine, due, h) =
-    let first = (due_quiet at s.computer action (content_of action s.sites) (rows_at action.id marked.histories) d.machine f machine due).later in
+    let first = (due_quiet at s.computer action (content_of action s.sites) (rows_at action.id marked.histories) d.machine f machine due).only.later in
     let later = trying_lasts at s marked action (TriesEach at s marked any actions) (λ d. tries_last at s marked any actions d) f (with_machine machine d) a s2 d2 h in
     omega (arith, first, later)
 
@@ -105,7 +105,7 @@ test_lasts at s id marks next lasts found.Memory d = answers_last Memory s d
 tests_last : (may : Bool) (at : When) (s : State) (action : Action) (marks : Marks) (next : Marks → Devices → Ending) → ((marks : Marks) (d : Devices) → Lasts d (next marks d)) → (d : Devices) → Lasts d (TestsOne may at s action marks next d)
 tests_last false at s action marks next lasts d a s2 d2 h = lasts marks d a s2 d2 h
 tests_last true at s action marks next lasts d a s2 d2 (f, machine, is, h) =
-    let first = (content_quiet at (content_of action s.sites) d.machine f machine is).later in
+    let first = (content_quiet at (content_of action s.sites) d.machine f machine is).only.later in
     let later = test_lasts at s action.id marks next lasts f (with_machine machine d) a s2 d2 h in
     omega (arith, first, later)
 
@@ -124,7 +124,7 @@ saved_as text (Some before) None some h = absurd h
 saved_as text (Some before) (Some now) some h = ap (λ x. Some x) h
 
 same_pocket : (x y : PocketView) → x.saved ≡ y.saved → x.faults ≡ y.faults → x ≡ y
-same_pocket x y saved faults = ap (λ v. pocket_view v x.faults) saved ∙ ap (λ v. pocket_view y.saved v) faults
+same_pocket x y saved faults = λ j. record { saved = saved j; faults = faults j }
 
 module _ (plan : OnePlan) (verdict : OneVerdict) (faults : ℕ) (low : faults < 2 ^ 64 - 1) (at : When) where
   record CalmAll (d : Devices) : Type 0 where
@@ -155,11 +155,11 @@ module _ (plan : OnePlan) (verdict : OneVerdict) (faults : ℕ) (low : faults < 
   saves_once s d after calm fault once a b s2 s3 d2 d3 (r, pocket, saves, h) (r', pocket', saves', k) fine fine' =
       let is = done_of after fault r (with_pocket pocket d) a s2 d2 h fine in
       let is' = done_of after fault r' (with_pocket pocket' d) b s3 d3 k fine' in
-      let first : SavesOn (text_of s) d.pocket save.Done pocket = subst (λ x. SavesOn (text_of s) d.pocket x pocket) is saves in
-      let second : SavesOn (text_of s) d.pocket save.Done pocket' = subst (λ x. SavesOn (text_of s) d.pocket x pocket') is' saves' in
+      let first : SavesTo (text_of s) d.pocket save.Done pocket = subst (λ x. SavesTo (text_of s) d.pocket x pocket) is saves in
+      let second : SavesTo (text_of s) d.pocket save.Done pocket' = subst (λ x. SavesTo (text_of s) d.pocket x pocket') is' saves' in
       let now = saved_as (text_of s) d.pocket.saved pocket.saved calm.told first.saves in
       let now' = saved_as (text_of s) d.pocket.saved pocket'.saved calm.told second.saves in
-      let same : pocket ≡ pocket' = same_pocket pocket pocket' (now ∙ sym now') (first.faults.steady not_done ∙ sym (second.faults.steady not_done)) in
+      let same : pocket ≡ pocket' = same_pocket pocket pocket' (now ∙ sym now') (first.counts.steady not_done ∙ sym (second.counts.steady not_done)) in
       once pocket (record { machine = calm.machine; told = subst IsSome (sym now) refl }) a b s2 s3 d2 d3 (subst (λ x. after x (with_pocket pocket d) a s2 d2) is h)
       (subst (λ x. after save.Done (with_pocket x d) b s3 d3) (sym same) (subst (λ x. after x (with_pocket pocket' d) b s3 d3) is' k)) fine fine'
 
@@ -182,12 +182,12 @@ module _ (plan : OnePlan) (verdict : OneVerdict) (faults : ℕ) (low : faults < 
   after_going_once id began (went.Ended fail note) after s d calm = finish_once true _ (with_end id at.moment (outcome_of fail) note s) d calm
   after_going_once id began went.Memory after s d calm = answers_once Memory (with_held after s) d
 
-  goes_once : (began : Bool) (attempt : PlainAttempt) (s : State) (d : Devices) → CalmAll d → Once (Goes at began attempt s d)
+  goes_once : (began : Bool) (attempt : PlainAttempt) (s : State) (d : Devices) → CalmAll d → Once (TurnGoesOn at began attempt s d)
   goes_once began attempt s d calm a b s2 s3 d2 d3 (w, machine, after, p, h) (v, other, then, q, k) fine fine' =
       let id = attempt.action.id in
-      let one = going_leads at attempt Later (going_later at attempt) d.machine w machine after p in
+      let one = (going_later at attempt d.machine w machine after p).faults in
       let two = after_going_lasts at id began w after s (with_machine machine d) a s2 d2 h in
-      let one' = going_leads at attempt Later (going_later at attempt) d.machine v other then q in
+      let one' = (going_later at attempt d.machine v other then q).faults in
       let two' = after_going_lasts at id began v then s (with_machine other d) b s3 d3 k in
       let start = calm.machine.count in
       let end = fine.0 in
@@ -209,7 +209,7 @@ module _ (plan : OnePlan) (verdict : OneVerdict) (faults : ℕ) (low : faults < 
 
   -- ---- what is asked, and what comes behind it
   asks_once : (ask : Asking) → FoundOnce plan faults low ask → ((old : MachineView) (f : Found) (new : MachineView) → ask old f new → old.faults ≤ new.faults) → (after : Found → Devices → Ending)
-      → ((f : Found) (d : Devices) → CalmAll d → Once (after f d)) → Behind after → ((d : Devices) (a : Turned) (s2 : State) (d2 : Devices) → after found.Memory d a s2 d2 → a ≡ Memory) → (d : Devices) → CalmAll d → Once (AsksThen ask d after)
+      → ((f : Found) (d : Devices) → CalmAll d → Once (after f d)) → Behind after → ((d : Devices) (a : Turned) (s2 : State) (d2 : Devices) → after found.Memory d a s2 d2 → a ≡ Memory) → (d : Devices) → CalmAll d → Once (TurnAsks ask d after)
   asks_once ask one later after once lasts lacks d calm a b s2 s3 d2 d3 (f, machine, p, h) (g, other, q, k) fine fine' =
       let low_mid = later d.machine f machine p in
       let high_mid = lasts f (with_machine machine d) a s2 d2 h in
@@ -245,7 +245,7 @@ module _ (plan : OnePlan) (verdict : OneVerdict) (faults : ℕ) (low : faults < 
   tries_once s marked any (action ∷ actions) d calm a b s2 s3 d2 d3 h k fine fine' =
       let rows = rows_at action.id marked.histories in
       let content = content_of action s.sites in
-      asks_once (IsDue at s.computer action content rows) (due_once plan faults low at s.computer action content rows) (λ old f new h. (due_quiet at s.computer action content rows old f new h).later)
+      asks_once (IsDue at s.computer action content rows) (due_once plan faults low at s.computer action content rows) (λ old f new h. (due_quiet at s.computer action content rows old f new h).only.later)
       (AfterTrying at s marked action (TriesEach at s marked any actions)) (after_trying_once s marked action (TriesEach at s marked any actions) (λ d calm. tries_once s marked any actions d calm))
       (trying_lasts at s marked action (TriesEach at s marked any actions) (λ d. tries_last at s marked any actions d)) (λ d a s2 d2 h. h.0) d calm a b s2 s3 d2 d3 h k fine fine'
 
@@ -261,7 +261,7 @@ module _ (plan : OnePlan) (verdict : OneVerdict) (faults : ℕ) (low : faults < 
   tests_once false s action marks next once lasts d calm = once marks d calm
   tests_once true s action marks next once lasts d calm =
       let content = content_of action s.sites in
-      asks_once (ContentIs at content) (content_once plan faults low at content) (λ old f new h. (content_quiet at content old f new h).later) (AfterTest at s action.id marks next) (after_test_once s action.id marks next once)
+      asks_once (ContentIs at content) (content_once plan faults low at content) (λ old f new h. (content_quiet at content old f new h).only.later) (AfterTest at s action.id marks next) (after_test_once s action.id marks next once)
       (test_lasts at s action.id marks next lasts) (λ d a s2 d2 h. h.0) d calm
 
   clears_once : (s : State) (actions : List Action) (marks : Marks) (next : Marks → Devices → Ending) → ((marks : Marks) (d : Devices) → CalmAll d → Once (next marks d)) → ((marks : Marks) (d : Devices) → Lasts d (next marks d))

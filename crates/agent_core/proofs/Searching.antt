@@ -11,7 +11,7 @@ use Rattle.line_forms.specs.Numbers.{IsId}
 use Rattle.fix_site.specs.declared.action.Action.{Action}
 use Rattle.act_rules.specs.Rows.{last_row}
 use Rattle.script_run.specs.Asking.{When}
-use Rattle.script_run.specs.Machines.{MachineView}
+use Rattle.bf_machine.specs.Views.{MachineView}
 use Rattle.agent_text.specs.declared.pocket.SaveResult.TheVariants as save
 use Rattle.agent_text.specs.Histories.{PlainHistory, rows_at, with_cleared}
 use Rattle.agent_attempt.specs.declared.found.Found.{Found}
@@ -25,7 +25,8 @@ use Rattle.agent_core.specs.declared.turned.Turned.{Turned}
 use Rattle.agent_core.specs.declared.turned.Turned.TheVariants.{MachineFault, Memory}
 use Rattle.agent_core.specs.Saving.{Answers, Ending}
 use Rattle.agent_state.specs.States.{State, with_histories}
-use Rattle.agent_core.specs.Devices.{Devices, PocketView, devices}
+use Rattle.agent_core.specs.Devices.{Devices, devices}
+use Rattle.agent_text.specs.Pockets.{PocketView}
 use Rattle.agent_core.specs.Steps.{AnswersTry, BeginsAs, BeginsOne, CanBegin, FindsAfter, FindsDue, MarksAfter, MarksEach, TestsMark, TriesOne, mark_by, marked_by}
 use Rattle.agent_core.specs.Turns.{AfterTrying, Begins, Clears, Marks, TestsOne, Tries, TriesEach, TriesMarked, beginning, may_clear, no_marks, with_mark}
 use Rattle.agent_core.proofs.Due.{can_begin, due_may}

@@ -11,11 +11,12 @@ use Rattle.agent_text.specs.Histories.{PlainHistory, rows_at, with_begun}
 use Rattle.agent_attempt.specs.Attempts.{PlainAttempt}
 use Rattle.agent_core.specs.declared.turned.Turned.{Turned}
 use Rattle.agent_core.specs.declared.turned.Turned.TheVariants.{Memory}
-use Rattle.agent_core.specs.Saving.{OrMemory, SavesOn}
+use Rattle.agent_core.specs.Saving.{OrMemory}
+use Rattle.agent_text.specs.Pockets.{PocketView, SavesTo}
 use Rattle.agent_state.specs.States.{HeldRuns, State, as_saved, new_row, text_of, with_beginning, with_histories}
-use Rattle.agent_core.specs.Devices.{Devices, PocketView}
+use Rattle.agent_core.specs.Devices.{Devices}
 use Rattle.agent_core.specs.Steps.{BeginsAs, CanBegin, StopsBeginning, after_save}
-use Rattle.agent_core.specs.Turns.{Goes}
+use Rattle.agent_core.specs.Turns.{TurnGoesOn}
 use Rattle.agent_core.proofs.Flowing.{no_save}
 use Rattle.agent_state.proofs.RowsAt.{rows_here}
 use Rattle.agent_core.proofs.TurnPoints.{with_pocket}
@@ -25,11 +26,11 @@ pub begun_is : (hs : List PlainHistory) (attempt : PlainAttempt) (at : When) (be
     → with_histories begun s ≡ with_beginning attempt.action.id at.moment (with_histories hs s)
 begun_is hs attempt at begun s can is = ap (λ x. with_histories x s) (is ∙ ap (λ n. with_begun attempt.action.id (new_row n at.moment) hs) can.number)
 
-pub begins_done : (at : When) (s marked now : State) (d : Devices) (attempt : PlainAttempt) (pocket : PocketView) (a : Turned) (s2 : State) (d2 : Devices) → SavesOn (text_of (with_beginning attempt.action.id at.moment marked)) d.pocket save.Done pocket
-    → now ≡ as_saved (with_beginning attempt.action.id at.moment marked) → Goes at true attempt now (with_pocket pocket d) a s2 d2 → BeginsAs at s marked attempt d a s2 d2
-begins_done at s marked now d attempt pocket a s2 d2 saves saved h = (save.Done, pocket, saves, subst (λ x. Goes at true attempt x (with_pocket pocket d) a s2 d2) saved h)
+pub begins_done : (at : When) (s marked now : State) (d : Devices) (attempt : PlainAttempt) (pocket : PocketView) (a : Turned) (s2 : State) (d2 : Devices) → SavesTo (text_of (with_beginning attempt.action.id at.moment marked)) d.pocket save.Done pocket
+    → now ≡ as_saved (with_beginning attempt.action.id at.moment marked) → TurnGoesOn at true attempt now (with_pocket pocket d) a s2 d2 → BeginsAs at s marked attempt d a s2 d2
+begins_done at s marked now d attempt pocket a s2 d2 saves saved h = (save.Done, pocket, saves, subst (λ x. TurnGoesOn at true attempt x (with_pocket pocket d) a s2 d2) saved h)
 
-begins_stopped : (at : When) (s marked now : State) (d : Devices) (attempt : PlainAttempt) (result : SaveResult) (pocket : PocketView) (stop : Turned) → SavesOn (text_of (with_beginning attempt.action.id at.moment marked)) d.pocket result pocket
+begins_stopped : (at : When) (s marked now : State) (d : Devices) (attempt : PlainAttempt) (result : SaveResult) (pocket : PocketView) (stop : Turned) → SavesTo (text_of (with_beginning attempt.action.id at.moment marked)) d.pocket result pocket
     → StopsBeginning s marked result stop now → BeginsAs at s marked attempt d stop now (with_pocket pocket d)
 begins_stopped at s marked now d attempt save.Done pocket stop saves h = absurd h
 begins_stopped at s marked now d attempt save.Failed pocket stop saves h = (save.Failed, pocket, saves, (h.0, h.1, refl))
@@ -37,7 +38,7 @@ begins_stopped at s marked now d attempt save.Memory pocket stop saves h = (save
 
 -- the row wasn't saved, or memory ran out before
 pub begins_not : (at : When) (s marked now : State) (d : Devices) (attempt : PlainAttempt) (pocket : PocketView) (stop : Turned)
-    → ((stop ≡ Memory) × (now ≡ s) × (pocket ≡ d.pocket)) ⊎ ((result : SaveResult) × SavesOn (text_of (with_beginning attempt.action.id at.moment marked)) d.pocket result pocket × StopsBeginning s marked result stop now)
+    → ((stop ≡ Memory) × (now ≡ s) × (pocket ≡ d.pocket)) ⊎ ((result : SaveResult) × SavesTo (text_of (with_beginning attempt.action.id at.moment marked)) d.pocket result pocket × StopsBeginning s marked result stop now)
     → OrMemory s d (BeginsAs at s marked attempt d) stop now (with_pocket pocket d)
 begins_not at s marked now d attempt pocket stop (inl h) = inl (h.0, h.1, ap (λ p. with_pocket p d) h.2)
 begins_not at s marked now d attempt pocket stop (inr h) = inr (begins_stopped at s marked now d attempt h.0 pocket stop h.1 h.2)

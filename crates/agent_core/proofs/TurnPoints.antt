@@ -5,7 +5,7 @@ use Rattle.act_rules.specs.Rows.{last_row}
 use Rattle.act_rules.specs.declared.row.Note.{Note}
 use Rattle.fix_site.specs.declared.action.Action.{Action}
 use Rattle.script_run.specs.Asking.{When}
-use Rattle.script_run.specs.Machines.{MachineView}
+use Rattle.bf_machine.specs.Views.{MachineView}
 use Rattle.agent_text.specs.declared.pocket.SaveResult.{SaveResult}
 use Rattle.agent_text.specs.declared.pocket.SaveResult.TheVariants as save
 use Rattle.agent_text.specs.Histories.{rows_at}
@@ -21,9 +21,10 @@ use Rattle.agent_attempt.specs.Relevance.{ContentIs, IsDue}
 use Rattle.agent_core.specs.declared.turned.Turned.{Turned}
 use Rattle.agent_core.specs.declared.turned.Turned.TheVariants.{Idle, Interrupted, Held, Wants, Ended, MachineFault, PocketFault, Memory}
 use Rattle.agent_state.specs.States.{State, as_saved, broken_action, can_report, interrupted, text_of, with_beginning, with_end, with_held, with_histories, with_report, with_unsaved}
-use Rattle.agent_core.specs.Devices.{Devices, PocketView}
-use Rattle.agent_core.specs.Saving.{Answers, Ending, SavesOn}
-use Rattle.agent_core.specs.Turns.{AfterBeginning, AfterFirstSave, AfterGoing, AfterInterrupting, AfterLastSave, AfterTest, AfterTrying, Begins, Clears, Finishes, FirstSave, Goes, Interrupts, Marks, ReportsAndSaves, StepFor, Steps, TestsOne, Tries, TriesEach, TriesMarked, Turn, beginning, may_clear, no_marks, outcome_of, with_mark}
+use Rattle.agent_core.specs.Devices.{Devices}
+use Rattle.agent_text.specs.Pockets.{PocketView, SavesTo}
+use Rattle.agent_core.specs.Saving.{Answers, Ending}
+use Rattle.agent_core.specs.Turns.{AfterBeginning, AfterFirstSave, AfterGoing, AfterInterrupting, AfterLastSave, AfterTest, AfterTrying, Begins, Clears, Finishes, FirstSave, TurnGoesOn, Interrupts, Marks, ReportsAndSaves, StepFor, Steps, TestsOne, Tries, TriesEach, TriesMarked, Turn, beginning, may_clear, no_marks, outcome_of, with_mark}
 
 abbrev pub with_machine : MachineView → Devices → Devices
 with_machine machine d = record d { machine = machine }
@@ -42,11 +43,11 @@ answered P would s d a s2 d2 p h =
 pub record Keeps (at : When) (A : State → Devices → Type 0) (M : Marks → State → Devices → Type 0) (G : Bool → PlainAttempt → State → Devices → Type 0) (B : Bool → Turned → State → Devices → Type 0) (P : Turned → State → Devices → Type 0) : Type 0 where
   pub memory : (s : State) (d : Devices) → A s d → P Memory s d
   -- a broken attempt
-  pub broken_done : (s : State) (d : Devices) (id : ℕ) (pocket : PocketView) → A s d → broken_action s ≡ Some id → SavesOn (text_of (interrupted id at.moment s)) d.pocket save.Done pocket
+  pub broken_done : (s : State) (d : Devices) (id : ℕ) (pocket : PocketView) → A s d → broken_action s ≡ Some id → SavesTo (text_of (interrupted id at.moment s)) d.pocket save.Done pocket
       → B false (Interrupted id) (as_saved (interrupted id at.moment s)) (with_pocket pocket d)
-  pub broken_failed : (s : State) (d : Devices) (id : ℕ) (pocket : PocketView) → A s d → broken_action s ≡ Some id → SavesOn (text_of (interrupted id at.moment s)) d.pocket save.Failed pocket
+  pub broken_failed : (s : State) (d : Devices) (id : ℕ) (pocket : PocketView) → A s d → broken_action s ≡ Some id → SavesTo (text_of (interrupted id at.moment s)) d.pocket save.Failed pocket
       → P PocketFault (with_unsaved (interrupted id at.moment s)) (with_pocket pocket d)
-  pub broken_memory : (s : State) (d : Devices) (id : ℕ) (pocket : PocketView) → A s d → broken_action s ≡ Some id → SavesOn (text_of (interrupted id at.moment s)) d.pocket save.Memory pocket
+  pub broken_memory : (s : State) (d : Devices) (id : ℕ) (pocket : PocketView) → A s d → broken_action s ≡ Some id → SavesTo (text_of (interrupted id at.moment s)) d.pocket save.Memory pocket
       → P Memory (with_unsaved (interrupted id at.moment s)) (with_pocket pocket d)
   -- an attempt goes on
   pub resumes : (s : State) (d : Devices) (attempt : PlainAttempt) → A s d → broken_action s ≡ None → s.held ≡ Some attempt → G false attempt s d
@@ -78,44 +79,44 @@ pub record Keeps (at : When) (A : State → Devices → Type 0) (M : Marks → S
       → IsDue at s.computer action (content_of action s.sites) (rows_at action.id marks.histories) d.machine found.Memory machine → P Memory s (with_machine machine d)
   pub begun_done : (marks : Marks) (s : State) (d : Devices) (action : Action) (content : Content) (machine : MachineView) (pocket : PocketView) → M marks s d
       → IsDue at s.computer action (content_of action s.sites) (rows_at action.id marks.histories) d.machine found.Yes machine → content_of action s.sites ≡ Some content → Contains (actions_of s.sites) action
-      → SavesOn (text_of (with_beginning action.id at.moment (with_histories marks.histories s))) d.pocket save.Done pocket
+      → SavesTo (text_of (with_beginning action.id at.moment (with_histories marks.histories s))) d.pocket save.Done pocket
       → G true (beginning at action content (with_histories marks.histories s)) (as_saved (with_beginning action.id at.moment (with_histories marks.histories s))) (with_pocket pocket (with_machine machine d))
   pub begun_failed : (marks : Marks) (s : State) (d : Devices) (action : Action) (machine : MachineView) (pocket : PocketView) → M marks s d
       → IsDue at s.computer action (content_of action s.sites) (rows_at action.id marks.histories) d.machine found.Yes machine → Contains (actions_of s.sites) action
-      → SavesOn (text_of (with_beginning action.id at.moment (with_histories marks.histories s))) d.pocket save.Failed pocket
+      → SavesTo (text_of (with_beginning action.id at.moment (with_histories marks.histories s))) d.pocket save.Failed pocket
       → P PocketFault (with_unsaved (with_histories marks.histories s)) (with_pocket pocket (with_machine machine d))
   pub begun_memory : (marks : Marks) (s : State) (d : Devices) (action : Action) (machine : MachineView) (pocket : PocketView) → M marks s d
       → IsDue at s.computer action (content_of action s.sites) (rows_at action.id marks.histories) d.machine found.Yes machine
-      → SavesOn (text_of (with_beginning action.id at.moment (with_histories marks.histories s))) d.pocket save.Memory pocket
+      → SavesTo (text_of (with_beginning action.id at.moment (with_histories marks.histories s))) d.pocket save.Memory pocket
       → P Memory s (with_pocket pocket (with_machine machine d))
   pub no_memory : (marks : Marks) (s : State) (d : Devices) → M marks s d → P Memory s d
   pub idle : (marks : Marks) (s : State) (d : Devices) → M marks s d → B marks.any Idle (with_histories marks.histories s) d
   -- the end
   pub reported_done : (changed : Bool) (would : Turned) (s : State) (d : Devices) (pocket : PocketView) → B changed would s d → can_report s ≡ true
-      → SavesOn (text_of (with_report s)) d.pocket save.Done pocket → P would (as_saved (with_report s)) (with_pocket pocket d)
+      → SavesTo (text_of (with_report s)) d.pocket save.Done pocket → P would (as_saved (with_report s)) (with_pocket pocket d)
   pub reported_failed : (changed : Bool) (would : Turned) (s : State) (d : Devices) (pocket : PocketView) → B changed would s d → can_report s ≡ true
-      → SavesOn (text_of (with_report s)) d.pocket save.Failed pocket → P PocketFault (with_unsaved (with_report s)) (with_pocket pocket d)
+      → SavesTo (text_of (with_report s)) d.pocket save.Failed pocket → P PocketFault (with_unsaved (with_report s)) (with_pocket pocket d)
   pub reported_memory : (changed : Bool) (would : Turned) (s : State) (d : Devices) (pocket : PocketView) → B changed would s d → can_report s ≡ true
-      → SavesOn (text_of (with_report s)) d.pocket save.Memory pocket → P Memory (with_unsaved (with_report s)) (with_pocket pocket d)
+      → SavesTo (text_of (with_report s)) d.pocket save.Memory pocket → P Memory (with_unsaved (with_report s)) (with_pocket pocket d)
   pub changed_done : (would : Turned) (s : State) (d : Devices) (pocket : PocketView) → B true would s d
-      → SavesOn (text_of s) d.pocket save.Done pocket → P would (as_saved s) (with_pocket pocket d)
+      → SavesTo (text_of s) d.pocket save.Done pocket → P would (as_saved s) (with_pocket pocket d)
   pub changed_failed : (would : Turned) (s : State) (d : Devices) (pocket : PocketView) → B true would s d
-      → SavesOn (text_of s) d.pocket save.Failed pocket → P PocketFault (with_unsaved s) (with_pocket pocket d)
+      → SavesTo (text_of s) d.pocket save.Failed pocket → P PocketFault (with_unsaved s) (with_pocket pocket d)
   pub changed_memory : (would : Turned) (s : State) (d : Devices) (pocket : PocketView) → B true would s d
-      → SavesOn (text_of s) d.pocket save.Memory pocket → P Memory (with_unsaved s) (with_pocket pocket d)
+      → SavesTo (text_of s) d.pocket save.Memory pocket → P Memory (with_unsaved s) (with_pocket pocket d)
   pub unchanged : (would : Turned) (s : State) (d : Devices) → B false would s d → P would s d
 
 module _ (at : When) (A : State → Devices → Type 0) (M : Marks → State → Devices → Type 0) (G : Bool → PlainAttempt → State → Devices → Type 0) (B : Bool → Turned → State → Devices → Type 0) (P : Turned → State → Devices → Type 0)
     (k : Keeps at A M G B P) (a : Turned) (s2 : State) (d2 : Devices) where
   -- ---- the end of the turn
   after_report : (result : SaveResult) (changed : Bool) (would : Turned) (s : State) (d : Devices) (pocket : PocketView) → B changed would s d → can_report s ≡ true
-      → SavesOn (text_of (with_report s)) d.pocket result pocket → AfterLastSave would (with_report s) result (with_pocket pocket d) a s2 d2 → P a s2 d2
+      → SavesTo (text_of (with_report s)) d.pocket result pocket → AfterLastSave would (with_report s) result (with_pocket pocket d) a s2 d2 → P a s2 d2
   after_report save.Done changed would s d pocket b can saves h = answered P would _ _ a s2 d2 (k.reported_done changed would s d pocket b can saves) h
   after_report save.Failed changed would s d pocket b can saves h = answered P PocketFault _ _ a s2 d2 (k.reported_failed changed would s d pocket b can saves) h
   after_report save.Memory changed would s d pocket b can saves h = answered P Memory _ _ a s2 d2 (k.reported_memory changed would s d pocket b can saves) h
 
   after_change : (result : SaveResult) (would : Turned) (s : State) (d : Devices) (pocket : PocketView) → B true would s d
-      → SavesOn (text_of s) d.pocket result pocket → AfterLastSave would s result (with_pocket pocket d) a s2 d2 → P a s2 d2
+      → SavesTo (text_of s) d.pocket result pocket → AfterLastSave would s result (with_pocket pocket d) a s2 d2 → P a s2 d2
   after_change save.Done would s d pocket b saves h = answered P would _ _ a s2 d2 (k.changed_done would s d pocket b saves) h
   after_change save.Failed would s d pocket b saves h = answered P PocketFault _ _ a s2 d2 (k.changed_failed would s d pocket b saves) h
   after_change save.Memory would s d pocket b saves h = answered P Memory _ _ a s2 d2 (k.changed_memory would s d pocket b saves) h
@@ -136,11 +137,11 @@ module _ (at : When) (A : State → Devices → Type 0) (M : Marks → State →
   goes_by (went.Ended fail note) began attempt s d machine after g goes h = finishes true _ _ _ (k.ends began attempt s d fail note machine after g goes) h
   goes_by went.Memory began attempt s d machine after g goes h = answered P Memory _ _ a s2 d2 (k.lacks began attempt s d machine after g goes) h
 
-  goes : (began : Bool) (attempt : PlainAttempt) (s : State) (d : Devices) → G began attempt s d → Goes at began attempt s d a s2 d2 → P a s2 d2
+  goes : (began : Bool) (attempt : PlainAttempt) (s : State) (d : Devices) → G began attempt s d → TurnGoesOn at began attempt s d a s2 d2 → P a s2 d2
   goes began attempt s d g h = goes_by h.0 began attempt s d h.1 h.2 g h.3 h.4
 
   -- ---- a broken attempt
-  after_broken : (result : SaveResult) (id : ℕ) (s : State) (d : Devices) (pocket : PocketView) → A s d → broken_action s ≡ Some id → SavesOn (text_of (interrupted id at.moment s)) d.pocket result pocket
+  after_broken : (result : SaveResult) (id : ℕ) (s : State) (d : Devices) (pocket : PocketView) → A s d → broken_action s ≡ Some id → SavesTo (text_of (interrupted id at.moment s)) d.pocket result pocket
       → AfterInterrupting id (interrupted id at.moment s) result (with_pocket pocket d) a s2 d2 → P a s2 d2
   after_broken save.Done id s d pocket stands is saves h = finishes false _ _ _ (k.broken_done s d id pocket stands is saves) h
   after_broken save.Failed id s d pocket stands is saves h = answered P PocketFault _ _ a s2 d2 (k.broken_failed s d id pocket stands is saves) h
@@ -153,7 +154,7 @@ module _ (at : When) (A : State → Devices → Type 0) (M : Marks → State →
   -- ---- an action begins
   after_begun : (result : SaveResult) (marks : Marks) (s : State) (d : Devices) (action : Action) (content : Content) (machine : MachineView) (pocket : PocketView) → M marks s d
       → IsDue at s.computer action (content_of action s.sites) (rows_at action.id marks.histories) d.machine found.Yes machine → content_of action s.sites ≡ Some content → Contains (actions_of s.sites) action
-      → SavesOn (text_of (with_beginning action.id at.moment (with_histories marks.histories s))) d.pocket result pocket
+      → SavesTo (text_of (with_beginning action.id at.moment (with_histories marks.histories s))) d.pocket result pocket
       → AfterBeginning at s (with_histories marks.histories s) (with_beginning action.id at.moment (with_histories marks.histories s)) (beginning at action content (with_histories marks.histories s)) result (with_pocket pocket (with_machine machine d)) a s2 d2
       → P a s2 d2
   after_begun save.Done marks s d action content machine pocket m due is among saves h = goes true _ _ _ (k.begun_done marks s d action content machine pocket m due is among saves) h
@@ -219,20 +220,20 @@ module _ (at : When) (A : State → Devices → Type 0) (M : Marks → State →
   steps_keep s d stands h = step_for (broken_action s) s.held s d stands refl refl h
 
   -- ---- the first save
-  after_first : (result : SaveResult) (s : State) (d : Devices) (pocket : PocketView) → (SavesOn (text_of s) d.pocket save.Done pocket → A (as_saved s) (with_pocket pocket d))
-      → (SavesOn (text_of s) d.pocket save.Failed pocket → P PocketFault s (with_pocket pocket d)) → (SavesOn (text_of s) d.pocket save.Memory pocket → P Memory s (with_pocket pocket d))
-      → SavesOn (text_of s) d.pocket result pocket → AfterFirstSave at s result (with_pocket pocket d) a s2 d2 → P a s2 d2
+  after_first : (result : SaveResult) (s : State) (d : Devices) (pocket : PocketView) → (SavesTo (text_of s) d.pocket save.Done pocket → A (as_saved s) (with_pocket pocket d))
+      → (SavesTo (text_of s) d.pocket save.Failed pocket → P PocketFault s (with_pocket pocket d)) → (SavesTo (text_of s) d.pocket save.Memory pocket → P Memory s (with_pocket pocket d))
+      → SavesTo (text_of s) d.pocket result pocket → AfterFirstSave at s result (with_pocket pocket d) a s2 d2 → P a s2 d2
   after_first save.Done s d pocket done failed memory saves h = steps_keep (as_saved s) (with_pocket pocket d) (done saves) h
   after_first save.Failed s d pocket done failed memory saves h = answered P PocketFault s (with_pocket pocket d) a s2 d2 (failed saves) h
   after_first save.Memory s d pocket done failed memory saves h = answered P Memory s (with_pocket pocket d) a s2 d2 (memory saves) h
 
-  first_by : (unsaved : Bool) (s : State) (d : Devices) → (unsaved ≡ false → A s d) → ((pocket : PocketView) → SavesOn (text_of s) d.pocket save.Done pocket → A (as_saved s) (with_pocket pocket d))
-      → ((pocket : PocketView) → SavesOn (text_of s) d.pocket save.Failed pocket → P PocketFault s (with_pocket pocket d)) → ((pocket : PocketView) → SavesOn (text_of s) d.pocket save.Memory pocket → P Memory s (with_pocket pocket d))
+  first_by : (unsaved : Bool) (s : State) (d : Devices) → (unsaved ≡ false → A s d) → ((pocket : PocketView) → SavesTo (text_of s) d.pocket save.Done pocket → A (as_saved s) (with_pocket pocket d))
+      → ((pocket : PocketView) → SavesTo (text_of s) d.pocket save.Failed pocket → P PocketFault s (with_pocket pocket d)) → ((pocket : PocketView) → SavesTo (text_of s) d.pocket save.Memory pocket → P Memory s (with_pocket pocket d))
       → FirstSave unsaved at s d a s2 d2 → P a s2 d2
   first_by false s d none done failed memory h = steps_keep s d (none refl) h
   first_by true s d none done failed memory h = after_first h.0 s d h.1 (done h.1) (failed h.1) (memory h.1) h.2 h.3
 
-  pub turn_keeps : (s : State) (d : Devices) → (s.unsaved ≡ false → A s d) → ((pocket : PocketView) → SavesOn (text_of s) d.pocket save.Done pocket → A (as_saved s) (with_pocket pocket d))
-      → ((pocket : PocketView) → SavesOn (text_of s) d.pocket save.Failed pocket → P PocketFault s (with_pocket pocket d)) → ((pocket : PocketView) → SavesOn (text_of s) d.pocket save.Memory pocket → P Memory s (with_pocket pocket d))
+  pub turn_keeps : (s : State) (d : Devices) → (s.unsaved ≡ false → A s d) → ((pocket : PocketView) → SavesTo (text_of s) d.pocket save.Done pocket → A (as_saved s) (with_pocket pocket d))
+      → ((pocket : PocketView) → SavesTo (text_of s) d.pocket save.Failed pocket → P PocketFault s (with_pocket pocket d)) → ((pocket : PocketView) → SavesTo (text_of s) d.pocket save.Memory pocket → P Memory s (with_pocket pocket d))
       → Turn at s d a s2 d2 → P a s2 d2
   turn_keeps s d none done failed memory h = first_by s.unsaved s d none done failed memory h

@@ -1,8 +1,11 @@
 -- What contracts see of an agent, and what holds of each.
+use Rattle.std.specs.Prelude.{◌≡◌, ℕ, None, Some}
 use Rattle.agent_attempt.specs.ActionContents.{actions_of}
+use Rattle.agent_attempt.specs.Attempts.{PlainAttempt, StageWaitsBelow}
 use Rattle.agent_core.specs.declared.parts.Parts.{Parts}
 use Rattle.agent_core.specs.Agents.{AgentState, shown_state}
-use Rattle.agent_state.specs.States.{State, IsSound}
+use Rattle.agent_core.specs.Stops.{HeldWaitsBelow}
+use Rattle.agent_state.specs.States.{HeldRuns, State, IsSound}
 use Rattle.agent_state.specs.Lookups.{TalliesStand}
 
 abbrev pub agent_of : Parts → AgentState
@@ -24,3 +27,15 @@ state_of a = shown_state (agent_of a)
 pub record IsSoundParts (a : Parts) : Type 0 where
   pub sound : IsSound (state_of a)
   pub tallies : TalliesStand a.tallies (actions_of a.sites) a.histories
+
+-- they are sound on a machine that started so many programs: the one that the held attempt waits for is one of those
+pub record AreSoundOn (started : ℕ) (a : Parts) : Type 0 where
+  pub sound : IsSoundParts a
+  pub waits : HeldWaitsBelow started (state_of a).held
+
+-- this attempt, whose row runs, can go on on such a machine; no other is held
+pub record CanGoOn (started : ℕ) (attempt : PlainAttempt) (a : Parts) : Type 0 where
+  pub sound : IsSoundParts a
+  pub free : a.held ≡ None
+  pub runs : HeldRuns (Some attempt) a.histories
+  pub waits : StageWaitsBelow started attempt.stage

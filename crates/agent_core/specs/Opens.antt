@@ -1,8 +1,9 @@
 -- What opening an agent from its pocket answers.
 use Rattle.std.specs.Prelude.{◌≡◌, ℕ, List, [], length, false, Option, Some, None, ⊤, Ok, Err}
+use Rattle.desk_base.specs.Counts.{CountsFaults}
 use Rattle.agent_text.specs.declared.saved.Saved.{Saved}
 use Rattle.agent_text.specs.declared.error.SavedError.TheVariants as error
-use Rattle.agent_text.specs.Pockets.{Holds}
+use Rattle.agent_text.specs.Pockets.{Holds, PocketView}
 use Rattle.agent_text.specs.SavedTexts.{ReadsSaved}
 use Rattle.agent_core.specs.declared.opening.Opened.{Opened}
 use Rattle.agent_core.specs.declared.opening.Opened.TheVariants as opened
@@ -41,3 +42,9 @@ OpensAgent computer told (opened.BadPocket line) =
     (text : List ℕ) × Holds told (λ now. now ≡ Some text) × ReadsSaved computer text (Err (error.BadLine line))
 OpensAgent computer told opened.PocketFault = ⊤
 OpensAgent computer told opened.Memory = ⊤
+
+-- An agent is opened from a pocket, which keeps its text.
+pub record OpensFrom (computer : List ℕ) (old : PocketView) (answer : Opened) (new : PocketView) : Type 0 where
+  pub opens : OpensAgent computer old.saved answer
+  pub saved : new.saved ≡ old.saved
+  pub counts : CountsFaults (answer ≡ opened.PocketFault) old.faults new.faults

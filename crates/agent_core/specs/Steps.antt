@@ -5,10 +5,10 @@ use Rattle.line_forms.specs.Numbers.{IsId}
 use Rattle.act_rules.specs.Rows.{HasEnded, last_row}
 use Rattle.fix_site.specs.declared.action.Action.{Action}
 use Rattle.script_run.specs.Asking.{When}
-use Rattle.script_run.specs.Machines.{MachineView}
+use Rattle.bf_machine.specs.Views.{MachineView}
 use Rattle.agent_text.specs.declared.pocket.SaveResult.{SaveResult}
 use Rattle.agent_text.specs.declared.pocket.SaveResult.TheVariants as save
-use Rattle.agent_text.specs.Histories.{PlainHistory, rows_at}
+use Rattle.agent_text.specs.Histories.{AreHistories, PlainHistory, rows_at}
 use Rattle.agent_text.specs.SavedTexts.{most_bytes}
 use Rattle.agent_attempt.specs.declared.found.Found.{Found}
 use Rattle.agent_attempt.specs.declared.found.Found.TheVariants.{Yes, No, Failed}
@@ -21,9 +21,11 @@ use Rattle.agent_state.specs.declared.spare.Spare.{Spare}
 use Rattle.agent_core.specs.declared.turned.Turned.{Turned}
 use Rattle.agent_core.specs.declared.turned.Turned.TheVariants.{MachineFault, Memory, PocketFault}
 use Rattle.agent_state.specs.Counting.{pending_count}
-use Rattle.agent_core.specs.Saving.{Ending, SavesOn, SavesThen}
+use Rattle.agent_core.specs.Saving.{Ending, SavesThen}
+use Rattle.agent_text.specs.Pockets.{PocketView, SavesTo}
+use Rattle.agent_core.specs.Inside.{IsSoundParts, state_of}
 use Rattle.agent_state.specs.States.{State, as_saved, text_of, with_beginning, with_histories, with_unsaved}
-use Rattle.agent_core.specs.Devices.{Devices, PocketView}
+use Rattle.agent_core.specs.Devices.{Devices}
 use Rattle.agent_core.specs.Turns.{AfterBeginning, Marks, beginning, may_clear, with_mark}
 
 -- the state after a save
@@ -32,13 +34,21 @@ after_save save.Done s = as_saved s
 after_save save.Failed s = s
 after_save save.Memory s = s
 
+-- A save of these parts was answered so.
+pub record SavesParts (old : Parts) (before : PocketView) (answer : SaveResult) (new : Parts) (now : PocketView) : Type 0 where
+  pub saves : SavesTo (text_of (state_of old)) before answer now
+  pub state : state_of new ≡ after_save answer (state_of old)
+  pub sound : IsSoundParts new
+  pub room : new.outbox.capacity ≡ old.outbox.capacity
+
 -- ---- what is taken before anything that can't be undone
 -- It is enough for the end of a turn in which so many more actions become pending.
 pub record Suffices (more : ℕ) (spare : Spare) (parts : Parts) : Type 0 where
   pub computer : spare.computer ≡ parts.name
   pub empty : spare.rows.items ≡ []
   pub rows : min 500 (pending_count parts.histories + more) ≤ vec_capacity spare.rows
-  pub text : most_bytes parts.histories parts.outbox.reports + (108 + 113 * min 500 (pending_count parts.histories + more)) ≤ spare.text.capacity
+  pub text : most_bytes parts.histories parts.outbox.reports + (108 + 113 * min 500 (pending_count parts.histories + more))
+      ≤ spare.text.capacity
   pub outbox : length parts.outbox.reports < parts.outbox.capacity
 
 -- ---- what stops a turn before a beginning
@@ -64,13 +74,17 @@ abbrev pub marked_by : When → ℕ → Bool → Marks → Marks
 marked_by at id true marks = with_mark at id marks
 marked_by at id false marks = marks
 
+-- what marking comes to: from one view of the machine, whether anything is marked, the histories with the marks, and another view
+abbrev pub Marking : Type 1
+Marking = MachineView → Result Bool Turned → List PlainHistory → MachineView → Type 0
+
 -- what comes after an action was tested for its mark
-abbrev pub MarksAfter : (Bool → MachineView → Result Bool Turned → List PlainHistory → MachineView → Type 0) → Result Bool Turned → MachineView → Result Bool Turned → List PlainHistory → MachineView → Type 0
+abbrev pub MarksAfter : (Bool → Marking) → Result Bool Turned → Marking
 MarksAfter next (Ok mark) old answer hs new = next mark old answer hs new
 MarksAfter next (Err stop) old answer hs new = (answer ≡ Err stop) × (new ≡ old)
 
 -- The actions are tested one after another.
-abbrev pub MarksEach : When → State → List Action → Marks → MachineView → Result Bool Turned → List PlainHistory → MachineView → Type 0
+abbrev pub MarksEach : When → State → List Action → Marks → Marking
 MarksEach at s [] marks old answer hs new = (answer ≡ Ok marks.any) × (hs ≡ marks.histories) × (new ≡ old)
 MarksEach at s (action ∷ actions) marks old answer hs new =
     (mark : Result Bool Turned) × (between : MachineView)
@@ -88,6 +102,20 @@ unmarked h = record h { rows = map unmarked_row h.rows }
 abbrev pub AreMarked : List PlainHistory → List PlainHistory → Type 0
 AreMarked hs marked = map unmarked marked ≡ map unmarked hs
 
+-- the marks of these actions are made, and the histories stay good
+pub record MakesMarks (at : When) (s : State) (actions : List Action) (hs : List PlainHistory) (old : MachineView)
+    (answer : Result Bool Turned) (now : List PlainHistory) (new : MachineView) : Type 0 where
+  pub marks : MarksEach at s actions (record { histories = hs; any = false }) old answer now new
+  pub marked : AreMarked hs now
+  pub good : AreHistories now
+
+-- no attempt is held, and these are the histories but for marks
+pub record AreMarksOf (a : Parts) (hs : List PlainHistory) : Type 0 where
+  pub sound : IsSoundParts a
+  pub free : a.held ≡ None
+  pub marked : AreMarked a.histories hs
+  pub good : AreHistories hs
+
 -- ---- the first action that is due
 -- the attempt that begins, or want of memory for it
 abbrev pub BeginsOne : When → State → Action → Option Content → Result (Option AttemptState) Turned → Type 0
@@ -102,19 +130,23 @@ AnswersTry at s marked action Yes answer = BeginsOne at marked action (content_o
 AnswersTry at s marked action No answer = answer ≡ Ok None
 AnswersTry at s marked action found answer = answer ≡ Err (stop_of found)
 
+-- what trying comes to: from one view of the machine, the attempt of an action that is due, if one is, and another view
+abbrev pub Trying : Type 1
+Trying = MachineView → Result (Option AttemptState) Turned → MachineView → Type 0
+
 -- An action is tried.
-abbrev pub TriesOne : When → State → List PlainHistory → Action → MachineView → Result (Option AttemptState) Turned → MachineView → Type 0
+abbrev pub TriesOne : When → State → List PlainHistory → Action → Trying
 TriesOne at s marked action old answer new =
     (found : Found) × IsDue at s.computer action (content_of action s.sites) (rows_at action.id marked) old found new
     × AnswersTry at s (with_histories marked s) action found answer
 
 -- what comes after an action was tried
-abbrev pub FindsAfter : (MachineView → Result (Option AttemptState) Turned → MachineView → Type 0) → Result (Option AttemptState) Turned → MachineView → Result (Option AttemptState) Turned → MachineView → Type 0
+abbrev pub FindsAfter : Trying → Result (Option AttemptState) Turned → Trying
 FindsAfter next (Ok None) old answer new = next old answer new
 FindsAfter next one old answer new = (answer ≡ one) × (new ≡ old)
 
 -- The actions are tried one after another, up to the first that is due.
-abbrev pub FindsDue : When → State → List PlainHistory → List Action → MachineView → Result (Option AttemptState) Turned → MachineView → Type 0
+abbrev pub FindsDue : When → State → List PlainHistory → List Action → Trying
 FindsDue at s marked [] old answer new = (answer ≡ Ok None) × (new ≡ old)
 FindsDue at s marked (action ∷ actions) old answer new =
     (one : Result (Option AttemptState) Turned) × (between : MachineView) × TriesOne at s marked action old one between
@@ -142,7 +174,7 @@ StopsBeginning s marked save.Memory stop s2 = (stop ≡ Memory) × (s2 ≡ s)
 
 -- The state with the row of a beginning is saved, or the turn stops, also where memory runs out before.
 abbrev pub SavesBeginning : State → State → State → PocketView → Result Spare Turned → State → PocketView → Type 0
-SavesBeginning s marked begun old (Ok spare) s2 new = SavesOn (text_of begun) old save.Done new × (s2 ≡ as_saved begun)
+SavesBeginning s marked begun old (Ok spare) s2 new = SavesTo (text_of begun) old save.Done new × (s2 ≡ as_saved begun)
 SavesBeginning s marked begun old (Err stop) s2 new =
     ((stop ≡ Memory) × (s2 ≡ s) × (new ≡ old))
-    ⊎ ((result : SaveResult) × SavesOn (text_of begun) old result new × StopsBeginning s marked result stop s2)
+    ⊎ ((result : SaveResult) × SavesTo (text_of begun) old result new × StopsBeginning s marked result stop s2)

@@ -1,6 +1,6 @@
 -- What a stop at any moment leaves: attempts whose rows are saved, and rows each of which began when a run was owed.
 use Rattle.std.specs.Prelude.{◌≡◌, ◌⊎◌, ℕ, ◌≤◌, List, length, All, Option, Some, None, Ok, ⊤}
-use Rattle.desk_base.specs.Counts.{Rose}
+use Rattle.desk_base.specs.Counts.{CountsFaults, Rose}
 use Rattle.act_rules.specs.declared.rule.Rules.{Rules}
 use Rattle.act_rules.specs.Lawful as rows
 use Rattle.fix_site.specs.declared.action.Action.{Action}
@@ -9,6 +9,7 @@ use Rattle.agent_text.specs.Histories.{PlainHistory, rows_at}
 use Rattle.agent_text.specs.Pockets.{Holds}
 use Rattle.agent_text.specs.SavedTexts.{ReadsSaved}
 use Rattle.agent_attempt.specs.Attempts.{PlainAttempt, StageWaitsBelow}
+use Rattle.agent_core.specs.Devices.{Devices}
 use Rattle.agent_core.specs.declared.turned.Turned.{Turned}
 use Rattle.agent_core.specs.declared.turned.Turned.TheVariants as turned
 use Rattle.agent_state.specs.States.{State, next_row}
@@ -72,8 +73,15 @@ abbrev pub HeldWaitsBelow : ℕ → Option PlainAttempt → Type 0
 HeldWaitsBelow started None = ⊤
 HeldWaitsBelow started (Some attempt) = StageWaitsBelow started attempt.stage
 
--- a fault is shown by its device's count
-abbrev pub TurnHasCause : ℕ → ℕ → ℕ → ℕ → Turned → Type 0
-TurnHasCause machine machine2 pocket pocket2 turned.MachineFault = Rose machine machine2
-TurnHasCause machine machine2 pocket pocket2 turned.PocketFault = Rose pocket pocket2
-TurnHasCause machine machine2 pocket pocket2 _ = ⊤
+-- The machine's count rose where the turn ends by its fault, and stayed where its answer is Idle or Interrupted. Where an attempt went
+-- on, a fault is a failure of the attempt.
+abbrev pub MachineHasCause : ℕ → ℕ → Turned → Type 0
+MachineHasCause old new turned.MachineFault = Rose old new
+MachineHasCause old new turned.Idle = new ≡ old
+MachineHasCause old new (turned.Interrupted id) = new ≡ old
+MachineHasCause old new answer = old ≤ new
+
+-- A fault is shown by its device's count: the pocket's rose where the turn ends by its fault, and else it stayed.
+pub record TurnHasCause (old : Devices) (answer : Turned) (new : Devices) : Type 0 where
+  pub machine : MachineHasCause old.machine.faults new.machine.faults answer
+  pub pocket : CountsFaults (answer ≡ turned.PocketFault) old.pocket.faults new.pocket.faults

@@ -7,7 +7,7 @@ use Rattle.act_rules.specs.declared.row.Outcome.TheVariants as outcome
 use Rattle.act_rules.specs.Rows.{last_row}
 use Rattle.fix_site.specs.declared.action.Action.{Action}
 use Rattle.script_run.specs.Asking.{When}
-use Rattle.script_run.specs.Machines.{MachineView}
+use Rattle.bf_machine.specs.Views.{MachineView}
 use Rattle.agent_text.specs.declared.pocket.SaveResult.{SaveResult}
 use Rattle.agent_text.specs.declared.pocket.SaveResult.TheVariants as save
 use Rattle.agent_text.specs.Histories.{PlainHistory, rows_at, with_cleared}
@@ -24,7 +24,7 @@ use Rattle.agent_core.specs.declared.turned.Turned.{Turned}
 use Rattle.agent_core.specs.declared.turned.Turned.TheVariants.{Idle, Interrupted, Held, Wants, Ended, MachineFault, PocketFault, Memory}
 use Rattle.agent_state.specs.States.{State, as_saved, broken_action, can_report, interrupted, next_row, with_beginning, with_end, with_held, with_histories, with_report, with_unsaved}
 use Rattle.agent_core.specs.Devices.{Devices}
-use Rattle.agent_core.specs.Saving.{Ending, Answers, AsksThen, OrMemory, SavesThen}
+use Rattle.agent_core.specs.Saving.{Ending, Answers, TurnAsks, OrMemory, SavesThen}
 
 -- ---- the end of a turn
 -- what comes after the last save: where it isn't done, the new state stands unsaved
@@ -63,8 +63,8 @@ AfterGoing at id began (went.Ended fail note) after s d =
 AfterGoing at id began went.Memory after s d = Answers Memory (with_held after s) d
 
 -- An attempt goes on, and the turn ends with it.
-abbrev pub Goes : When → Bool → PlainAttempt → State → Devices → Ending
-Goes at began attempt s d answer s2 d2 =
+abbrev pub TurnGoesOn : When → Bool → PlainAttempt → State → Devices → Ending
+TurnGoesOn at began attempt s d answer s2 d2 =
     (w : Went) × (machine : MachineView) × (after : Option PlainAttempt) × GoesOn at attempt d.machine w machine after
     × AfterGoing at attempt.action.id began w after s (record d { machine = machine }) answer s2 d2
 
@@ -106,7 +106,7 @@ AfterTest at s id marks next found.Memory d = Answers Memory s d
 abbrev pub TestsOne : Bool → When → State → Action → Marks → (Marks → Devices → Ending) → Devices → Ending
 TestsOne false at s action marks next d = next marks d
 TestsOne true at s action marks next d =
-    AsksThen (ContentIs at (content_of action s.sites)) d (AfterTest at s action.id marks next)
+    TurnAsks (ContentIs at (content_of action s.sites)) d (AfterTest at s action.id marks next)
 
 -- The actions are tested one after another, and those that aren't relevant are marked.
 abbrev pub Clears : When → State → List Action → Marks → (Marks → Devices → Ending) → Devices → Ending
@@ -119,7 +119,7 @@ Clears at s (action ∷ actions) marks next d =
 -- what comes after the row of a beginning was saved: where the save fails no row is added, and the marks stand unsaved; where it has no
 -- memory, which stands for want of memory before it too, the state is as the first save left it
 abbrev pub AfterBeginning : When → State → State → State → PlainAttempt → SaveResult → Devices → Ending
-AfterBeginning at s marked begun attempt save.Done d = Goes at true attempt (as_saved begun) d
+AfterBeginning at s marked begun attempt save.Done d = TurnGoesOn at true attempt (as_saved begun) d
 AfterBeginning at s marked begun attempt save.Failed d = Answers PocketFault (with_unsaved marked) d
 AfterBeginning at s marked begun attempt save.Memory d = Answers Memory s d
 
@@ -147,7 +147,7 @@ AfterTrying at s marked action next found.Memory d = Answers Memory s d
 abbrev pub TriesEach : When → State → State → Bool → List Action → Devices → Ending
 TriesEach at s marked any [] d = OrMemory s d (Finishes any Idle marked d)
 TriesEach at s marked any (action ∷ actions) d =
-    AsksThen (IsDue at s.computer action (content_of action s.sites) (rows_at action.id marked.histories)) d
+    TurnAsks (IsDue at s.computer action (content_of action s.sites) (rows_at action.id marked.histories)) d
     (AfterTrying at s marked action (TriesEach at s marked any actions))
 
 -- the actions are tried after these marks
@@ -166,7 +166,7 @@ Tries at s actions d = OrMemory s d (Clears at s actions (no_marks s) (TriesMark
 -- the first of these that applies: a broken attempt ends, the held one goes on, the actions are tried
 abbrev pub StepFor : When → Option ℕ → Option PlainAttempt → State → Devices → Ending
 StepFor at (Some id) held s d = Interrupts at id s d
-StepFor at None (Some attempt) s d = OrMemory s d (Goes at false attempt s d)
+StepFor at None (Some attempt) s d = OrMemory s d (TurnGoesOn at false attempt s d)
 StepFor at None None s d = Tries at s (actions_of s.sites) d
 
 abbrev pub Steps : When → State → Devices → Ending

@@ -57,7 +57,8 @@ impl Agent {
     pub fn supply(&mut self, digest: &[u8; 32], bytes: Option<Bytes>) -> bool
         ensures supplies { SuppliesState (shown_state self.old) digest.now bytes result (shown_state self.new) }
         // The program that the held attempt waits for is the same one.
-        ensures waits { (started : ℕ) → HeldWaitsBelow started (shown_state self.old).held → HeldWaitsBelow started (shown_state self.new).held }
+        ensures waits { (started : ℕ) → HeldWaitsBelow started (shown_state self.old).held
+            → HeldWaitsBelow started (shown_state self.new).held }
     {
         match &mut self.parts.held {
             Some(attempt) => attempt.supply(digest, bytes),

@@ -1,14 +1,12 @@
 // The beginning of an attempt.
-ghost use Rattle.std.specs.Prelude.{◌≡◌, ◌≤◌, IfOk, None, Some};
-ghost use Rattle.script_run.specs.Machines.{view};
+ghost use Rattle.std.specs.Prelude.{◌≡◌, IfOk, None, Some};
 ghost use Rattle.agent_text.specs.Histories.{AreHistories, with_begun};
 ghost use Rattle.agent_attempt.specs.Stages.{shown_attempt};
-ghost use Rattle.agent_core.specs.Inside.{IsSoundParts, state_of};
+ghost use Rattle.agent_core.specs.Inside.{AreSoundOn, IsSoundParts, state_of};
 ghost use Rattle.agent_core.specs.Saving.{OrMemory};
 ghost use Rattle.agent_state.specs.States.{HeldRuns, new_row, with_beginning, with_histories};
-ghost use Rattle.agent_core.specs.Devices.{devices, pocket_view};
-ghost use Rattle.agent_core.specs.Steps.{AreMarked, BeginsAs, CanBegin, SavesBeginning, Suffices};
-ghost use Rattle.agent_core.specs.Stops.{HeldWaitsBelow};
+ghost use Rattle.agent_core.specs.Devices.{devices};
+ghost use Rattle.agent_core.specs.Steps.{AreMarksOf, BeginsAs, CanBegin, SavesBeginning, Suffices};
 
 use crate::parts::Parts;
 use crate::turned::Turned;
@@ -39,19 +37,13 @@ impl Parts {
         attempt: Attempt,
         time: &Time,
     ) -> Turned
-        requires sound { IsSoundParts self.old }
-        requires free { self.old.held ≡ None }
-        requires marked { AreMarked self.old.histories marked }
-        requires good { AreHistories marked }
+        requires marks { AreMarksOf self.old marked }
         requires begins { CanBegin (shown_attempt attempt) marked }
-        ensures begins { OrMemory (state_of self.old)
-            (devices (view (M.world machine.old) (M.looked machine.old) (M.acted machine.old) (M.polled machine.old) (M.faults machine.old)) (pocket_view (P.saved pocket.old) (P.faults pocket.old)))
+        ensures begins { OrMemory (state_of self.old) (devices (M.told machine.old) (P.told pocket.old))
             (BeginsAs time.now (state_of self.old) (with_histories marked (state_of self.old)) (shown_attempt attempt)
-            (devices (view (M.world machine.old) (M.looked machine.old) (M.acted machine.old) (M.polled machine.old) (M.faults machine.old)) (pocket_view (P.saved pocket.old) (P.faults pocket.old)))) result (state_of self.new)
-            (devices (view (M.world machine.new) (M.looked machine.new) (M.acted machine.new) (M.polled machine.new) (M.faults machine.new)) (pocket_view (P.saved pocket.new) (P.faults pocket.new))) }
-        ensures waits { HeldWaitsBelow (M.started machine.new) (state_of self.new).held }
-        ensures started { M.started machine.old ≤ M.started machine.new }
-        ensures sound { IsSoundParts self.new }
+            (devices (M.told machine.old) (P.told pocket.old)))
+            result (state_of self.new) (devices (M.told machine.new) (P.told pocket.new)) }
+        ensures sound { AreSoundOn (M.told machine.new).started self.new }
     {
         match self.save_beginning(alloc, pocket, marked, &attempt, time) {
             Ok(spare) => self.go(alloc, machine, pocket, attempt, true, spare, time),
@@ -71,14 +63,11 @@ impl Parts {
         attempt: &Attempt,
         time: &Time,
     ) -> Result<Spare, Turned>
-        requires sound { IsSoundParts self.old }
-        requires free { self.old.held ≡ None }
-        requires marked { AreMarked self.old.histories marked }
-        requires good { AreHistories marked }
+        requires marks { AreMarksOf self.old marked }
         requires begins { CanBegin (shown_attempt attempt.now) marked }
         ensures saves { SavesBeginning (state_of self.old) (with_histories marked (state_of self.old))
             (with_beginning attempt.now.action.id time.now.moment (with_histories marked (state_of self.old)))
-            (pocket_view (P.saved pocket.old) (P.faults pocket.old)) result (state_of self.new) (pocket_view (P.saved pocket.new) (P.faults pocket.new)) }
+            (P.told pocket.old) result (state_of self.new) (P.told pocket.new) }
         ensures spare { IfOk result (λ spare. Suffices 1 spare self.new) }
         ensures runs { IfOk result (λ spare. HeldRuns (Some (shown_attempt attempt.now)) self.new.histories) }
         ensures free { self.new.held ≡ None }
@@ -116,7 +105,8 @@ fn with_row(
     time: &Time,
 ) -> Result<Histories, AllocError>
     requires { CanBegin (shown_attempt attempt.now) marked.now }
-    ensures begun { IfOk result (λ begun. begun ≡ with_begun attempt.now.action.id (new_row attempt.now.row time.now.moment) marked.now) }
+    ensures begun { IfOk result (λ begun.
+        begun ≡ with_begun attempt.now.action.id (new_row attempt.now.row time.now.moment) marked.now) }
     ensures good { IfOk result AreHistories }
 {
     changed_histories_can_be_saved();

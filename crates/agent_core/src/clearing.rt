@@ -1,14 +1,13 @@
 // Clearing marks.
-ghost use Rattle.std.specs.Prelude.{◌≡◌, ◌∷◌, [], false};
+ghost use Rattle.std.specs.Prelude.{◌≡◌, ◌∷◌, []};
 ghost use Rattle.std.specs.List.{filter_map};
 ghost use Rattle.act_rules.specs.Rows.{last_row};
-ghost use Rattle.script_run.specs.Machines.{view};
 ghost use Rattle.agent_text.specs.Histories.{AreHistories, rows_at};
 ghost use Rattle.agent_attempt.specs.ReadBlocks.{shown_block};
 ghost use Rattle.agent_attempt.specs.ActionContents.{actions_of, as_action};
 ghost use Rattle.agent_core.specs.Inside.{IsSoundParts, state_of};
 ghost use Rattle.agent_state.specs.Lookups.{rows_if};
-ghost use Rattle.agent_core.specs.Steps.{AreMarked, MarksEach, TestsMark};
+ghost use Rattle.agent_core.specs.Steps.{MakesMarks, TestsMark};
 ghost use Rattle.agent_core.specs.Turns.{may_clear};
 
 use crate::parts::Parts;
@@ -31,12 +30,8 @@ impl Parts {
     ) -> Result<bool, Turned>
         requires sound { IsSoundParts self.now }
         requires same { marked.old ≡ self.now.histories }
-        ensures marks { MarksEach time.now (state_of self.now) (actions_of self.now.sites) (record { histories = marked.old; any = false })
-            (view (M.world machine.old) (M.looked machine.old) (M.acted machine.old) (M.polled machine.old) (M.faults machine.old)) result marked.new
-            (view (M.world machine.new) (M.looked machine.new) (M.acted machine.new) (M.polled machine.new) (M.faults machine.new)) }
-        ensures marked { AreMarked marked.old marked.new }
-        ensures good { AreHistories marked.new }
-        ensures started { M.started machine.new ≡ M.started machine.old }
+        ensures { MakesMarks time.now (state_of self.now) (actions_of self.now.sites) marked.old
+            (M.told machine.old) result marked.new (M.told machine.new) }
     {
         let mut any = false;
         for block in self.sites.actions() {
@@ -58,12 +53,8 @@ impl Parts {
     ) -> Result<bool, Turned>
         requires sound { IsSoundParts self.now }
         requires good { AreHistories marked.old }
-        ensures marks { MarksEach time.now (state_of self.now) (filter_map as_action (shown_block block.now ∷ [])) (record { histories = marked.old; any = false })
-            (view (M.world machine.old) (M.looked machine.old) (M.acted machine.old) (M.polled machine.old) (M.faults machine.old)) result marked.new
-            (view (M.world machine.new) (M.looked machine.new) (M.acted machine.new) (M.polled machine.new) (M.faults machine.new)) }
-        ensures marked { AreMarked marked.old marked.new }
-        ensures good { AreHistories marked.new }
-        ensures started { M.started machine.new ≡ M.started machine.old }
+        ensures { MakesMarks time.now (state_of self.now) (filter_map as_action (shown_block block.now ∷ [])) marked.old
+            (M.told machine.old) result marked.new (M.told machine.new) }
     {
         let ReadBlock::Action(action) = block else {
             return Ok(false);
@@ -85,11 +76,9 @@ impl Parts {
         action: &ReadAction,
         marked: &Histories,
     ) -> Result<bool, Turned>
-        requires sound { IsSoundParts self.now }
-        ensures tests { TestsMark (may_clear (last_row (rows_at action.now.id marked.now))) time.now (state_of self.now) action.now
-            (view (M.world machine.old) (M.looked machine.old) (M.acted machine.old) (M.polled machine.old) (M.faults machine.old)) result
-            (view (M.world machine.new) (M.looked machine.new) (M.acted machine.new) (M.polled machine.new) (M.faults machine.new)) }
-        ensures started { M.started machine.new ≡ M.started machine.old }
+        requires { IsSoundParts self.now }
+        ensures { TestsMark (may_clear (last_row (rows_at action.now.id marked.now))) time.now (state_of self.now) action.now
+            (M.told machine.old) result (M.told machine.new) }
     {
         if !may_clear(marked.rows(action.action().id)) {
             return Ok(false);

@@ -1,10 +1,10 @@
 // The end of a turn: its report, and its last save.
 ghost use Rattle.std.specs.Prelude.{◌≡◌, ◌<◌, ◌≤◌, min, [], length, take, true, vec_capacity};
-ghost use Rattle.script_run.specs.Machines.{MachineView};
+ghost use Rattle.bf_machine.specs.Views.{MachineView};
 ghost use Rattle.agent_text.specs.Histories.{report_rows};
 ghost use Rattle.agent_core.specs.Inside.{IsSoundParts, state_of};
 ghost use Rattle.agent_state.specs.States.{can_report, text_of, with_report};
-ghost use Rattle.agent_core.specs.Devices.{devices, pocket_view};
+ghost use Rattle.agent_core.specs.Devices.{devices};
 ghost use Rattle.agent_state.specs.Counting.{pending_count};
 ghost use Rattle.agent_core.specs.Steps.{Suffices};
 ghost use Rattle.agent_core.specs.Turns.{Finishes, LastSave};
@@ -36,8 +36,8 @@ impl Parts {
     ) -> Turned
         requires sound { IsSoundParts self.old }
         requires spare { Suffices 0 spare self.old }
-        ensures finishes { (machine : MachineView) → Finishes changed would (state_of self.old) (devices machine (pocket_view (P.saved pocket.old) (P.faults pocket.old))) result
-            (state_of self.new) (devices machine (pocket_view (P.saved pocket.new) (P.faults pocket.new))) }
+        ensures finishes { (machine : MachineView) → Finishes changed would (state_of self.old)
+            (devices machine (P.told pocket.old)) result (state_of self.new) (devices machine (P.told pocket.new)) }
         ensures sound { IsSoundParts self.new }
         ensures held { (state_of self.new).held ≡ (state_of self.old).held }
     {
@@ -93,8 +93,8 @@ impl Parts {
     fn save_last<P: Pocket>(&mut self, pocket: &mut P, room: &mut Room, would: Turned) -> Turned
         requires sound { IsSoundParts self.old }
         requires within { length (text_of (state_of self.old)) ≤ room.old.capacity }
-        ensures saves { (machine : MachineView) → LastSave true would (state_of self.old) (devices machine (pocket_view (P.saved pocket.old) (P.faults pocket.old))) result
-            (state_of self.new) (devices machine (pocket_view (P.saved pocket.new) (P.faults pocket.new))) }
+        ensures saves { (machine : MachineView) → LastSave true would (state_of self.old)
+            (devices machine (P.told pocket.old)) result (state_of self.new) (devices machine (P.told pocket.new)) }
         ensures sound { IsSoundParts self.new }
         ensures held { (state_of self.new).held ≡ (state_of self.old).held }
     {

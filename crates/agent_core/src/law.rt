@@ -38,8 +38,8 @@ use script_text::one_verdict;
 
 /// What an agent saves is read back as what it saved, or want of memory stands in its place. An agent that is opened from it has that.
 pub fn a_saved_state_is_read_again()
-    ensures opened { (s : State) (agent : AgentState) → IsSound s → OpensAgent s.computer (Some (Some (text_of s))) (opening.Agent agent)
-        → shown_state agent ≡ opened_state (saved_of s) }
+    ensures opened { (s : State) (agent : AgentState) → IsSound s
+        → OpensAgent s.computer (Some (Some (text_of s))) (opening.Agent agent) → shown_state agent ≡ opened_state (saved_of s) }
     ensures read { (s : State) (answer : Result Saved SavedError) → IsSound s → ReadsSaved s.computer (text_of s) answer
         → (answer ≡ Ok (saved_of s)) ⊎ (answer ≡ Err NoMemory) }
 {
@@ -58,17 +58,18 @@ pub fn one_turn()
     one_verdict();
 }
 
-/// So are the calls between turns: settling and supplying, and gathering but for want of memory. An agent that is opened from a pocket that
-/// tells its text shows one state.
+/// What a call between turns comes to is a function of its arguments and the state: of settling, of supplying, and of gathering but for
+/// want of memory. An agent that is opened from a pocket that tells its text shows one state.
 pub fn one_change()
     ensures settled { (seq : ℕ) (verdict : Verdict) (s s2 s3 : State) (answer other : Bool) → SettlesState seq verdict s answer s2
         → SettlesState seq verdict s other s3 → (answer ≡ other) × (s2 ≡ s3) }
-    ensures gathered { (site : Site) (s s2 s3 : State) (answer other : Gathered) → GathersSite s site answer s2 → GathersSite s site other s3
-        → answer ≢ gathering.Memory → other ≢ gathering.Memory → (answer ≡ other) × (s2 ≡ s3) }
-    ensures supplied { (digest : List ℕ) (bytes : Option (List ℕ)) (s s2 s3 : State) (answer other : Bool) → SuppliesState s digest bytes answer s2
-        → SuppliesState s digest bytes other s3 → (answer ≡ other) × (s2 ≡ s3) }
+    ensures gathered { (site : Site) (s s2 s3 : State) (answer other : Gathered) → GathersSite s site answer s2
+        → GathersSite s site other s3 → answer ≢ gathering.Memory → other ≢ gathering.Memory → (answer ≡ other) × (s2 ≡ s3) }
+    ensures supplied { (digest : List ℕ) (bytes : Option (List ℕ)) (s s2 s3 : State) (answer other : Bool)
+        → SuppliesState s digest bytes answer s2 → SuppliesState s digest bytes other s3 → (answer ≡ other) × (s2 ≡ s3) }
     ensures opened { (computer : List ℕ) (told : Option (Option (List ℕ))) (agent other : AgentState) → IsSome told
-        → OpensAgent computer told (opening.Agent agent) → OpensAgent computer told (opening.Agent other) → shown_state agent ≡ shown_state other }
+        → OpensAgent computer told (opening.Agent agent) → OpensAgent computer told (opening.Agent other)
+        → shown_state agent ≡ shown_state other }
 {
     one_saved();
     lines_are_read_again();
@@ -81,8 +82,8 @@ pub fn a_turn_adds_one_report()
         → ((s2.reports ≡ s.reports) × (s2.next ≡ s.next))
         ⊎ ((report : Report) × (report.seq ≡ s.next) × (s2.reports ≡ s.reports ++ report ∷ []) × (s2.next ≡ s.next + 1)) }
     ensures saved { (at : When) (s s2 : State) (d d2 : Devices) (answer : Turned) → Turn at s d answer s2 d2
-        → answer ≢ PocketFault → answer ≢ Memory → IsSome d.pocket.saved → (s.unsaved ≡ false → d.pocket.saved ≡ Some (Some (text_of s)))
-        → d2.pocket.saved ≡ Some (Some (text_of s2)) }
+        → answer ≢ PocketFault → answer ≢ Memory → IsSome d.pocket.saved
+        → (s.unsaved ≡ false → d.pocket.saved ≡ Some (Some (text_of s))) → d2.pocket.saved ≡ Some (Some (text_of s2)) }
 {}
 
 /// To the delivery of reports a turn that doesn't end by a pocket's fault or want of memory is nothing, a save, or a report that is made
@@ -94,8 +95,8 @@ pub fn turns_are_steps()
         → (m2 : Mail) × IsStep m m2 × IsMailOf m2 s2 d2.pocket.saved × ((s.unsaved ≡ true) ⊎ (m ≡ saved m) → m2 ≡ saved m2) }
     ensures settled { (seq : ℕ) (verdict : Verdict) (s s2 : State) (m : Mail) (told : Option (Option (List ℕ)))
         → SettlesState seq verdict s true s2 → IsMailOf m s told → IsMailOf (settled seq m) s2 told }
-    ensures opened { (computer : List ℕ) (told : Option (Option (List ℕ))) (s : State) (agent : AgentState) (m : Mail) → IsSome told
-        → OpensAgent computer told (opening.Agent agent) → IsMailOf m s told → s.computer ≡ computer
+    ensures opened { (computer : List ℕ) (told : Option (Option (List ℕ))) (s : State) (agent : AgentState) (m : Mail)
+        → IsSome told → OpensAgent computer told (opening.Agent agent) → IsMailOf m s told → s.computer ≡ computer
         → IsMailOf (restarted m) (shown_state agent) told }
 {
     one_saved();
@@ -104,8 +105,8 @@ pub fn turns_are_steps()
 
 /// An attempt that wants a file, is given it, and wants one again in its next turn, can want fewer files from then on.
 pub fn wants_come_to_an_end()
-    ensures { (at : When) (agent : AgentState) (given s2 : State) (d d2 : Devices) (attempt then : PlainAttempt) (bytes : Option (List ℕ))
-        (id : ℕ) (digest next : List ℕ) (began : Bool) (most : ℕ) → (shown_state agent).held ≡ Some attempt
+    ensures { (at : When) (agent : AgentState) (given s2 : State) (d d2 : Devices) (attempt then : PlainAttempt)
+        (bytes : Option (List ℕ)) (id : ℕ) (digest next : List ℕ) (began : Bool) (most : ℕ) → (shown_state agent).held ≡ Some attempt
         → AttemptWantsAtMost attempt most → SuppliesHeld (shown_state agent).held digest bytes true given.held
         → Turn at given d (Wants id began next) s2 d2 → s2.held ≡ Some then
         → (fewer : ℕ) × (fewer < most) × AttemptWantsAtMost then fewer }
@@ -114,8 +115,8 @@ pub fn wants_come_to_an_end()
 /// Over any list of calls, stops among them, rows that each began when a run was owed stay so, the agent's and the saved ones, and an
 /// attempt that is held is backed by the saved text.
 pub fn stops_leave_rows_lawful()
-    ensures { (table : Table) (calls : List Call) (s s2 : State) (saved saved2 : Option (List ℕ)) → All (IsCall table) calls → IsSound s
-        → HaveRules table (actions_of s.sites) → BothLawful table s (Some saved) → Agrees s.held (Some saved)
+    ensures { (table : Table) (calls : List Call) (s s2 : State) (saved saved2 : Option (List ℕ)) → All (IsCall table) calls
+        → IsSound s → HaveRules table (actions_of s.sites) → BothLawful table s (Some saved) → Agrees s.held (Some saved)
         → DoAll calls s saved s2 saved2 → BothLawful table s2 (Some saved2) × Agrees s2.held (Some saved2) }
 {
     changed_histories_can_be_saved();

@@ -1,10 +1,9 @@
 // Opening an agent from its pocket.
-ghost use Rattle.std.specs.Prelude.{◌≡◌, ◌≤◌, ◌≢◌, Some, IfOk};
-ghost use Rattle.desk_base.specs.Counts.{Rose};
+ghost use Rattle.std.specs.Prelude.{◌≡◌, ◌≢◌, Some, IfOk};
 ghost use Rattle.line_forms.specs.Names.{IsName};
 ghost use Rattle.agent_text.specs.SavedTexts.{IsSaved};
 ghost use Rattle.agent_core.specs.Agents.{shown_state};
-ghost use Rattle.agent_core.specs.Opens.{OpensAgent, new_state, opened_state};
+ghost use Rattle.agent_core.specs.Opens.{OpensAgent, OpensFrom, new_state, opened_state};
 
 use crate::agent::Agent;
 use crate::parts::Parts;
@@ -31,11 +30,7 @@ impl Agent {
     /// and without an attempt. Where nothing is saved it has none of these, and its next number is 1.
     pub fn open<P: Pocket>(alloc: Global, name: &Text, pocket: &mut P) -> Opened
         requires { IsName name.now }
-        ensures opens { OpensAgent name.now (P.saved pocket.old) result }
-        ensures saved { P.saved pocket.new ≡ P.saved pocket.old }
-        ensures later { P.faults pocket.old ≤ P.faults pocket.new }
-        ensures failed { result ≡ Opened.PocketFault → Rose (P.faults pocket.old) (P.faults pocket.new) }
-        ensures steady { result ≢ Opened.PocketFault → P.faults pocket.new ≡ P.faults pocket.old }
+        ensures { OpensFrom name.now (P.told pocket.old) result (P.told pocket.new) }
     {
         match pocket.load() {
             Loaded::Nothing => match Agent::fresh(alloc, name) {

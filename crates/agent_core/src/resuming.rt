@@ -1,21 +1,19 @@
 // Attempts that end, go on, or were broken off.
-ghost use Rattle.std.specs.Prelude.{◌≡◌, ◌≤◌, IfOk, IfSome, IsSomeAnd, IsTrue, None, Some, false};
+ghost use Rattle.std.specs.Prelude.{◌≡◌, IfOk, IfSome, IsSomeAnd, IsTrue, None, Some, false};
 ghost use Rattle.act_rules.specs.Rows.{last_row};
-ghost use Rattle.script_run.specs.Machines.{MachineView, view};
+ghost use Rattle.bf_machine.specs.Views.{MachineView};
 ghost use Rattle.agent_text.specs.SavedRows.{IsSavedNote};
 ghost use Rattle.agent_text.specs.Histories.{rows_at, with_ended};
 ghost use Rattle.report_text.specs.ReportRows.{IsExit};
 ghost use Rattle.agent_attempt.specs.declared.went.Went.TheVariants.{Ended};
-ghost use Rattle.agent_attempt.specs.Attempts.{StageWaitsBelow};
 ghost use Rattle.agent_attempt.specs.Going.{HasNote};
 ghost use Rattle.agent_attempt.specs.Stages.{shown_attempt};
-ghost use Rattle.agent_core.specs.Inside.{IsSoundParts, state_of};
+ghost use Rattle.agent_core.specs.Inside.{AreSoundOn, CanGoOn, IsSoundParts, state_of};
 ghost use Rattle.agent_core.specs.Saving.{OrMemory};
-ghost use Rattle.agent_state.specs.States.{HeldRuns, State, broken_action, is_of_another, with_held, with_histories};
-ghost use Rattle.agent_core.specs.Devices.{devices, pocket_view};
+ghost use Rattle.agent_state.specs.States.{State, broken_action, is_of_another, with_held, with_histories};
+ghost use Rattle.agent_core.specs.Devices.{devices};
 ghost use Rattle.agent_core.specs.Steps.{Suffices};
-ghost use Rattle.agent_core.specs.Stops.{HeldWaitsBelow};
-ghost use Rattle.agent_core.specs.Turns.{Goes, Interrupts, outcome_of};
+ghost use Rattle.agent_core.specs.Turns.{TurnGoesOn, Interrupts, outcome_of};
 
 use crate::beginning::NO_NOTE;
 use crate::parts::Parts;
@@ -62,8 +60,8 @@ impl Parts {
     ) -> Turned
         requires sound { IsSoundParts self.old }
         requires broken { broken_action (state_of self.old) ≡ Some id }
-        ensures interrupts { (machine : MachineView) → Interrupts time.now id (state_of self.old) (devices machine (pocket_view (P.saved pocket.old) (P.faults pocket.old))) result
-            (state_of self.new) (devices machine (pocket_view (P.saved pocket.new) (P.faults pocket.new))) }
+        ensures interrupts { (machine : MachineView) → Interrupts time.now id (state_of self.old)
+            (devices machine (P.told pocket.old)) result (state_of self.new) (devices machine (P.told pocket.new)) }
         ensures sound { IsSoundParts self.new }
         ensures held { (state_of self.new).held ≡ (state_of self.old).held }
     {
@@ -91,7 +89,8 @@ impl Parts {
         requires running { IsSomeAnd (last_row (rows_at id self.old.histories)) (λ row. row.end ≡ None) }
         requires free { IsTrue (is_of_another id (state_of self.old).held) }
         requires note { IsSavedNote outcome note }
-        ensures state { state_of self.new ≡ with_histories (with_ended id time.now.moment outcome note self.old.histories) (state_of self.old) }
+        ensures state { state_of self.new
+            ≡ with_histories (with_ended id time.now.moment outcome note self.old.histories) (state_of self.old) }
         ensures room { self.new.outbox ≡ self.old.outbox }
         ensures sound { IsSoundParts self.new }
     {
@@ -109,18 +108,14 @@ impl Parts {
         attempt: Attempt,
         time: &Time,
     ) -> Turned
-        requires sound { IsSoundParts self.old }
-        requires free { self.old.held ≡ None }
-        requires runs { HeldRuns (Some (shown_attempt attempt)) self.old.histories }
-        requires waits { StageWaitsBelow (M.started machine.old) (shown_attempt attempt).stage }
+        requires { CanGoOn (M.told machine.old).started (shown_attempt attempt) self.old }
         ensures goes { OrMemory (with_held (Some (shown_attempt attempt)) (state_of self.old))
-            (devices (view (M.world machine.old) (M.looked machine.old) (M.acted machine.old) (M.polled machine.old) (M.faults machine.old)) (pocket_view (P.saved pocket.old) (P.faults pocket.old)))
-            (Goes time.now false (shown_attempt attempt) (with_held (Some (shown_attempt attempt)) (state_of self.old))
-            (devices (view (M.world machine.old) (M.looked machine.old) (M.acted machine.old) (M.polled machine.old) (M.faults machine.old)) (pocket_view (P.saved pocket.old) (P.faults pocket.old)))) result (state_of self.new)
-            (devices (view (M.world machine.new) (M.looked machine.new) (M.acted machine.new) (M.polled machine.new) (M.faults machine.new)) (pocket_view (P.saved pocket.new) (P.faults pocket.new))) }
-        ensures waits { HeldWaitsBelow (M.started machine.new) (state_of self.new).held }
-        ensures started { M.started machine.old ≤ M.started machine.new }
-        ensures sound { IsSoundParts self.new }
+            (devices (M.told machine.old) (P.told pocket.old))
+            (TurnGoesOn time.now false (shown_attempt attempt) (with_held (Some (shown_attempt attempt)) (state_of self.old))
+            (devices (M.told machine.old) (P.told pocket.old)))
+            result (state_of self.new)
+            (devices (M.told machine.new) (P.told pocket.new)) }
+        ensures sound { AreSoundOn (M.told machine.new).started self.new }
     {
         match self.take_spare(alloc) {
             Ok(spare) => self.go(alloc, machine, pocket, attempt, false, spare, time),
@@ -142,17 +137,12 @@ impl Parts {
         spare: Spare,
         time: &Time,
     ) -> Turned
-        requires sound { IsSoundParts self.old }
-        requires free { self.old.held ≡ None }
-        requires runs { HeldRuns (Some (shown_attempt attempt)) self.old.histories }
+        requires can { CanGoOn (M.told machine.old).started (shown_attempt attempt) self.old }
         requires spare { Suffices 1 spare self.old }
-        requires waits { StageWaitsBelow (M.started machine.old) (shown_attempt attempt).stage }
-        ensures goes { (s : State) → with_held None s ≡ state_of self.old → Goes time.now began (shown_attempt attempt) s
-            (devices (view (M.world machine.old) (M.looked machine.old) (M.acted machine.old) (M.polled machine.old) (M.faults machine.old)) (pocket_view (P.saved pocket.old) (P.faults pocket.old))) result (state_of self.new)
-            (devices (view (M.world machine.new) (M.looked machine.new) (M.acted machine.new) (M.polled machine.new) (M.faults machine.new)) (pocket_view (P.saved pocket.new) (P.faults pocket.new))) }
-        ensures waits { HeldWaitsBelow (M.started machine.new) (state_of self.new).held }
-        ensures started { M.started machine.old ≤ M.started machine.new }
-        ensures sound { IsSoundParts self.new }
+        ensures goes { (s : State) → with_held None s ≡ state_of self.old → TurnGoesOn time.now began (shown_attempt attempt) s
+            (devices (M.told machine.old) (P.told pocket.old)) result (state_of self.new)
+            (devices (M.told machine.new) (P.told pocket.new)) }
+        ensures sound { AreSoundOn (M.told machine.new).started self.new }
     {
         let id = attempt.action_id();
         match attempt.go_on(alloc, machine, time) {

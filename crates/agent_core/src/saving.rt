@@ -1,10 +1,8 @@
 // Saving an agent's state.
-ghost use Rattle.std.specs.Prelude.{◌≡◌, ◌≤◌, length};
+ghost use Rattle.std.specs.Prelude.{◌≤◌, length};
 ghost use Rattle.agent_core.specs.Inside.{IsSoundParts, state_of};
 ghost use Rattle.agent_state.specs.States.{text_of};
-ghost use Rattle.agent_core.specs.Devices.{pocket_view};
-ghost use Rattle.agent_core.specs.Saving.{SavesOn};
-ghost use Rattle.agent_core.specs.Steps.{after_save};
+ghost use Rattle.agent_core.specs.Steps.{SavesParts};
 
 use crate::parts::Parts;
 use agent_text::{Pocket, SaveResult, fill_saved, saved_size, saved_texts_are_short};
@@ -14,12 +12,8 @@ use std::alloc::Global;
 impl Parts {
     /// Saves the state.
     pub(crate) fn save<P: Pocket>(&mut self, alloc: Global, pocket: &mut P) -> SaveResult
-        requires sound { IsSoundParts self.old }
-        ensures saves { SavesOn (text_of (state_of self.old)) (pocket_view (P.saved pocket.old) (P.faults pocket.old)) result
-            (pocket_view (P.saved pocket.new) (P.faults pocket.new)) }
-        ensures state { state_of self.new ≡ after_save result (state_of self.old) }
-        ensures sound { IsSoundParts self.new }
-        ensures room { self.new.outbox.capacity ≡ self.old.outbox.capacity }
+        requires { IsSoundParts self.old }
+        ensures { SavesParts self.old (P.told pocket.old) result self.new (P.told pocket.new) }
     {
         let Some(size) = saved_size(&self.histories, self.outbox.all()) else {
             return SaveResult::Memory;
@@ -35,11 +29,7 @@ impl Parts {
     pub(crate) fn save_in<P: Pocket>(&mut self, pocket: &mut P, room: &mut Room) -> SaveResult
         requires sound { IsSoundParts self.old }
         requires within { length (text_of (state_of self.old)) ≤ room.old.capacity }
-        ensures saves { SavesOn (text_of (state_of self.old)) (pocket_view (P.saved pocket.old) (P.faults pocket.old)) result
-            (pocket_view (P.saved pocket.new) (P.faults pocket.new)) }
-        ensures state { state_of self.new ≡ after_save result (state_of self.old) }
-        ensures sound { IsSoundParts self.new }
-        ensures room { self.new.outbox.capacity ≡ self.old.outbox.capacity }
+        ensures parts { SavesParts self.old (P.told pocket.old) result self.new (P.told pocket.new) }
         ensures text { room.old.capacity ≤ room.new.capacity }
     {
         room.clear();

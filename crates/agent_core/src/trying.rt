@@ -1,17 +1,16 @@
 // Trying the actions: the first that is due.
-ghost use Rattle.std.specs.Prelude.{◌≡◌, ◌≤◌, ◌∷◌, [], None, false};
+ghost use Rattle.std.specs.Prelude.{◌≡◌, ◌∷◌, [], None, false};
 ghost use Rattle.std.specs.List.{filter_map};
 ghost use Rattle.act_rules.specs.Tallies.{StandsFor};
-ghost use Rattle.script_run.specs.Machines.{MachineView, view};
-ghost use Rattle.agent_text.specs.Histories.{AreHistories, rows_at};
+ghost use Rattle.bf_machine.specs.Views.{MachineView};
+ghost use Rattle.agent_text.specs.Histories.{rows_at};
 ghost use Rattle.agent_attempt.specs.ReadBlocks.{shown_block};
 ghost use Rattle.agent_attempt.specs.ActionContents.{actions_of, as_action};
-ghost use Rattle.agent_core.specs.Inside.{IsSoundParts, state_of};
+ghost use Rattle.agent_core.specs.Inside.{AreSoundOn, IsSoundParts, state_of};
 ghost use Rattle.agent_core.specs.Saving.{OrMemory};
 ghost use Rattle.agent_state.specs.States.{broken_action, with_histories};
-ghost use Rattle.agent_core.specs.Devices.{devices, pocket_view};
-ghost use Rattle.agent_core.specs.Steps.{AreMarked, FindsDue, TriesOne};
-ghost use Rattle.agent_core.specs.Stops.{HeldWaitsBelow};
+ghost use Rattle.agent_core.specs.Devices.{devices};
+ghost use Rattle.agent_core.specs.Steps.{AreMarked, AreMarksOf, FindsDue, TriesOne};
 ghost use Rattle.agent_core.specs.Turns.{Finishes, Tries};
 
 use crate::parts::Parts;
@@ -36,11 +35,9 @@ impl Parts {
         requires free { self.old.held ≡ None }
         requires ended { broken_action (state_of self.old) ≡ None }
         ensures tries { Tries time.now (state_of self.old) (actions_of self.old.sites)
-            (devices (view (M.world machine.old) (M.looked machine.old) (M.acted machine.old) (M.polled machine.old) (M.faults machine.old)) (pocket_view (P.saved pocket.old) (P.faults pocket.old))) result (state_of self.new)
-            (devices (view (M.world machine.new) (M.looked machine.new) (M.acted machine.new) (M.polled machine.new) (M.faults machine.new)) (pocket_view (P.saved pocket.new) (P.faults pocket.new))) }
-        ensures waits { HeldWaitsBelow (M.started machine.new) (state_of self.new).held }
-        ensures started { M.started machine.old ≤ M.started machine.new }
-        ensures sound { IsSoundParts self.new }
+            (devices (M.told machine.old) (P.told pocket.old)) result (state_of self.new)
+            (devices (M.told machine.new) (P.told pocket.new)) }
+        ensures sound { AreSoundOn (M.told machine.new).started self.new }
     {
         let Ok(mut marked) = self.histories.copy() else {
             return Turned::Memory;
@@ -66,10 +63,8 @@ impl Parts {
     ) -> Result<Option<Attempt>, Turned>
         requires sound { IsSoundParts self.now }
         requires marked { AreMarked self.now.histories marked.now }
-        ensures finds { FindsDue time.now (state_of self.now) marked.now (actions_of self.now.sites)
-            (view (M.world machine.old) (M.looked machine.old) (M.acted machine.old) (M.polled machine.old) (M.faults machine.old)) result
-            (view (M.world machine.new) (M.looked machine.new) (M.acted machine.new) (M.polled machine.new) (M.faults machine.new)) }
-        ensures started { M.started machine.new ≡ M.started machine.old }
+        ensures { FindsDue time.now (state_of self.now) marked.now (actions_of self.now.sites)
+            (M.told machine.old) result (M.told machine.new) }
     {
         for block in self.sites.actions() {
             if let Some(attempt) = self.try_block(alloc, machine, time, block, marked)? {
@@ -90,10 +85,8 @@ impl Parts {
     ) -> Result<Option<Attempt>, Turned>
         requires sound { IsSoundParts self.now }
         requires marked { AreMarked self.now.histories marked.now }
-        ensures finds { FindsDue time.now (state_of self.now) marked.now (filter_map as_action (shown_block block.now ∷ []))
-            (view (M.world machine.old) (M.looked machine.old) (M.acted machine.old) (M.polled machine.old) (M.faults machine.old)) result
-            (view (M.world machine.new) (M.looked machine.new) (M.acted machine.new) (M.polled machine.new) (M.faults machine.new)) }
-        ensures started { M.started machine.new ≡ M.started machine.old }
+        ensures { FindsDue time.now (state_of self.now) marked.now (filter_map as_action (shown_block block.now ∷ []))
+            (M.told machine.old) result (M.told machine.new) }
     {
         match block {
             ReadBlock::Action(action) => self.try_one(alloc, machine, time, action, marked),
@@ -112,10 +105,8 @@ impl Parts {
     ) -> Result<Option<Attempt>, Turned>
         requires sound { IsSoundParts self.now }
         requires marked { AreMarked self.now.histories marked.now }
-        ensures tries { TriesOne time.now (state_of self.now) marked.now action.now
-            (view (M.world machine.old) (M.looked machine.old) (M.acted machine.old) (M.polled machine.old) (M.faults machine.old)) result
-            (view (M.world machine.new) (M.looked machine.new) (M.acted machine.new) (M.polled machine.new) (M.faults machine.new)) }
-        ensures started { M.started machine.new ≡ M.started machine.old }
+        ensures { TriesOne time.now (state_of self.now) marked.now action.now
+            (M.told machine.old) result (M.told machine.new) }
     {
         let content = self.sites.content(action.action());
         let rows = rows_of(marked.rows(action.action().id));
@@ -158,16 +149,11 @@ impl Parts {
         marked: Histories,
         any: bool,
     ) -> Turned
-        requires sound { IsSoundParts self.old }
-        requires free { self.old.held ≡ None }
-        requires marked { AreMarked self.old.histories marked }
-        requires good { AreHistories marked }
+        requires marks { AreMarksOf self.old marked }
         requires same { any ≡ false → marked ≡ self.old.histories }
-        ensures finishes { (machine : MachineView) → OrMemory (state_of self.old)
-            (devices machine (pocket_view (P.saved pocket.old) (P.faults pocket.old)))
-            (Finishes any Turned.Idle (with_histories marked (state_of self.old))
-            (devices machine (pocket_view (P.saved pocket.old) (P.faults pocket.old)))) result
-            (state_of self.new) (devices machine (pocket_view (P.saved pocket.new) (P.faults pocket.new))) }
+        ensures finishes { (machine : MachineView) → OrMemory (state_of self.old) (devices machine (P.told pocket.old))
+            (Finishes any Turned.Idle (with_histories marked (state_of self.old)) (devices machine (P.told pocket.old)))
+            result (state_of self.new) (devices machine (P.told pocket.new)) }
         ensures held { (state_of self.new).held ≡ (state_of self.old).held }
         ensures sound { IsSoundParts self.new }
     {

@@ -2,10 +2,9 @@
 ghost use Rattle.std.specs.Prelude.{◌≢◌, ◌≤◌};
 ghost use Rattle.desk_base.specs.Moments.{IsMoment};
 ghost use Rattle.line_forms.specs.Numbers.{IsOffset};
-ghost use Rattle.script_run.specs.Machines.{view};
 ghost use Rattle.agent_core.specs.Agents.{shown_state};
-ghost use Rattle.agent_core.specs.Devices.{devices, pocket_view};
-ghost use Rattle.agent_core.specs.Inside.{IsSoundParts, state_of};
+ghost use Rattle.agent_core.specs.Devices.{devices};
+ghost use Rattle.agent_core.specs.Inside.{AreSoundOn, state_of};
 ghost use Rattle.agent_core.specs.Turns.{Steps, Turn};
 ghost use Rattle.agent_attempt.specs.ActionContents.{actions_of};
 ghost use Rattle.agent_core.specs.Stops.{Agrees, BothLawful, HaveRules, HeldWaitsBelow, Table, TurnHasCause, TurnIsBacked};
@@ -34,24 +33,26 @@ impl Agent {
     ) -> Turned
         requires moment { IsMoment moment }
         requires offset { IsOffset offset }
-        requires waits { HeldWaitsBelow (M.started machine.old) (shown_state self.old).held }
+        requires waits { HeldWaitsBelow (M.told machine.old).started (shown_state self.old).held }
         ensures turns { Turn (record { moment = moment; offset = offset }) (shown_state self.old)
-            (devices (view (M.world machine.old) (M.looked machine.old) (M.acted machine.old) (M.polled machine.old) (M.faults machine.old))
-            (pocket_view (P.saved pocket.old) (P.faults pocket.old))) result (shown_state self.new)
-            (devices (view (M.world machine.new) (M.looked machine.new) (M.acted machine.new) (M.polled machine.new) (M.faults machine.new))
-            (pocket_view (P.saved pocket.new) (P.faults pocket.new))) }
+            (devices (M.told machine.old) (P.told pocket.old)) result (shown_state self.new)
+            (devices (M.told machine.new) (P.told pocket.new)) }
         // The program that the held attempt waits for then is one that the machine started.
-        ensures waits { HeldWaitsBelow (M.started machine.new) (shown_state self.new).held }
-        ensures started { M.started machine.old ≤ M.started machine.new }
+        ensures waits { HeldWaitsBelow (M.told machine.new).started (shown_state self.new).held }
+        ensures started { (M.told machine.old).started ≤ (M.told machine.new).started }
         // An agent and a pocket that agreed agree, at every answer.
-        ensures agrees { Agrees (shown_state self.old).held (P.saved pocket.old) → Agrees (shown_state self.new).held (P.saved pocket.new) }
+        ensures agrees { Agrees (shown_state self.old).held (P.told pocket.old).saved
+            → Agrees (shown_state self.new).held (P.told pocket.new).saved }
         // Lawful rows stay lawful, the agent's and the saved ones, under rules that the gathered actions have.
-        ensures lawful { (table : Table) → HaveRules table (actions_of self.old.sites) → BothLawful table (shown_state self.old) (P.saved pocket.old)
-            → BothLawful table (shown_state self.new) (P.saved pocket.new) }
+        ensures lawful { (table : Table) → HaveRules table (actions_of self.old.sites)
+            → BothLawful table (shown_state self.old) (P.told pocket.old).saved
+            → BothLawful table (shown_state self.new) (P.told pocket.new).saved }
         // An attempt of which a command was done in this turn is backed by the saved text.
-        ensures backed { Agrees (shown_state self.old).held (P.saved pocket.old) → M.acted machine.new ≢ M.acted machine.old
-            → TurnIsBacked (shown_state self.old) (shown_state self.new) (P.saved pocket.new) }
-        ensures cause { TurnHasCause (M.faults machine.old) (M.faults machine.new) (P.faults pocket.old) (P.faults pocket.new) result }
+        ensures backed { Agrees (shown_state self.old).held (P.told pocket.old).saved
+            → (M.told machine.new).acted ≢ (M.told machine.old).acted
+            → TurnIsBacked (shown_state self.old) (shown_state self.new) (P.told pocket.new).saved }
+        ensures cause { TurnHasCause (devices (M.told machine.old) (P.told pocket.old)) result
+            (devices (M.told machine.new) (P.told pocket.new)) }
     {
         changed_histories_can_be_saved();
         lawful_rows_stay_lawful();
@@ -71,14 +72,11 @@ impl Parts {
         pocket: &mut P,
         time: &Time,
     ) -> Turned
-        requires sound { IsSoundParts self.old }
-        requires waits { HeldWaitsBelow (M.started machine.old) (state_of self.old).held }
+        requires { AreSoundOn (M.told machine.old).started self.old }
         ensures turns { Turn time.now (state_of self.old)
-            (devices (view (M.world machine.old) (M.looked machine.old) (M.acted machine.old) (M.polled machine.old) (M.faults machine.old)) (pocket_view (P.saved pocket.old) (P.faults pocket.old))) result (state_of self.new)
-            (devices (view (M.world machine.new) (M.looked machine.new) (M.acted machine.new) (M.polled machine.new) (M.faults machine.new)) (pocket_view (P.saved pocket.new) (P.faults pocket.new))) }
-        ensures waits { HeldWaitsBelow (M.started machine.new) (state_of self.new).held }
-        ensures started { M.started machine.old ≤ M.started machine.new }
-        ensures sound { IsSoundParts self.new }
+            (devices (M.told machine.old) (P.told pocket.old)) result (state_of self.new)
+            (devices (M.told machine.new) (P.told pocket.new)) }
+        ensures sound { AreSoundOn (M.told machine.new).started self.new }
     {
         if !self.unsaved {
             return self.step(alloc, machine, pocket, time);
@@ -98,14 +96,11 @@ impl Parts {
         pocket: &mut P,
         time: &Time,
     ) -> Turned
-        requires sound { IsSoundParts self.old }
-        requires waits { HeldWaitsBelow (M.started machine.old) (state_of self.old).held }
+        requires { AreSoundOn (M.told machine.old).started self.old }
         ensures steps { Steps time.now (state_of self.old)
-            (devices (view (M.world machine.old) (M.looked machine.old) (M.acted machine.old) (M.polled machine.old) (M.faults machine.old)) (pocket_view (P.saved pocket.old) (P.faults pocket.old))) result (state_of self.new)
-            (devices (view (M.world machine.new) (M.looked machine.new) (M.acted machine.new) (M.polled machine.new) (M.faults machine.new)) (pocket_view (P.saved pocket.new) (P.faults pocket.new))) }
-        ensures waits { HeldWaitsBelow (M.started machine.new) (state_of self.new).held }
-        ensures started { M.started machine.old ≤ M.started machine.new }
-        ensures sound { IsSoundParts self.new }
+            (devices (M.told machine.old) (P.told pocket.old)) result (state_of self.new)
+            (devices (M.told machine.new) (P.told pocket.new)) }
+        ensures sound { AreSoundOn (M.told machine.new).started self.new }
     {
         if let Some(id) = self.broken() {
             return self.interrupt(alloc, pocket, id, time);

@@ -1,8 +1,9 @@
 -- Pockets in memory, as contracts see them, and what a call does to them beyond what the trait says.
-use Rattle.std.specs.Prelude.{◌≡◌, ℕ, ◌+◌, List, None}
+use Rattle.std.specs.Prelude.{◌≡◌, ℕ, ◌+◌, List, None, Some}
 use Rattle.std.specs.declared.option.Option.{Option}
 use Rattle.desk_base.specs.CallStates.{CallState, IsListed, no_calls}
 use Rattle.desk_base.specs.MemoryStates.{Succeeds, Fails}
+use Rattle.agent_text.specs.Pockets.{PocketView}
 use Rattle.agent_text.specs.declared.pocket.Loaded.{Loaded}
 use Rattle.agent_text.specs.declared.pocket.Loaded.TheVariants as loaded
 use Rattle.agent_text.specs.declared.pocket.SaveResult.{SaveResult}
@@ -18,9 +19,9 @@ pub record PocketState : Type 0 where
 abbrev pub empty_pocket : List ℕ → List ℕ → PocketState
 empty_pocket loads saves = record { text = None; loads = no_calls loads; saves = no_calls saves }
 
--- how many calls have failed
-abbrev pub faults_of : PocketState → ℕ
-faults_of p = p.loads.faults + p.saves.faults
+-- what it tells
+abbrev pub pocket_view : PocketState → PocketView
+pocket_view p = record { saved = Some p.text; faults = p.loads.faults + p.saves.faults }
 
 -- A load fails exactly where it is listed.
 abbrev pub LoadsMemory : PocketState → PocketState → Loaded → Type 0

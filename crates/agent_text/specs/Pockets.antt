@@ -1,10 +1,16 @@
--- What a pocket holds, where it tells that, and what a load and a save do.
+-- What a pocket tells of itself, and what a load and a save do.
 use Rattle.std.specs.Prelude.{◌≡◌, ◌⊎◌, ℕ, List, ⊤, None, Some}
 use Rattle.std.specs.declared.option.Option.{Option}
+use Rattle.desk_base.specs.Counts.{CountsFaults}
 use Rattle.agent_text.specs.declared.pocket.Loaded.{Loaded}
 use Rattle.agent_text.specs.declared.pocket.Loaded.TheVariants as loaded
 use Rattle.agent_text.specs.declared.pocket.SaveResult.{SaveResult}
 use Rattle.agent_text.specs.declared.pocket.SaveResult.TheVariants as save
+
+-- the saved text, or that there is none, where it tells that, and its count of faults
+pub record PocketView : Type 0 where
+  pub saved : Option (Option (List ℕ))
+  pub faults : ℕ
 
 -- P holds of the saved text, or of there being none, where that is told.
 abbrev pub Holds : Option (Option (List ℕ)) → (Option (List ℕ) → Type 0) → Type 0
@@ -33,3 +39,14 @@ SavedAs text save.Memory before now = now ≡ before
 -- the same of what is told
 abbrev pub Saves : List ℕ → SaveResult → Option (Option (List ℕ)) → Option (Option (List ℕ)) → Type 0
 Saves text result old new = Changes old new (SavedAs text result)
+
+-- A load was answered so.
+pub record LoadsFrom (old : PocketView) (answer : Loaded) (new : PocketView) : Type 0 where
+  pub loads : Loads old.saved answer
+  pub saved : new.saved ≡ old.saved
+  pub counts : CountsFaults (answer ≡ loaded.Failed) old.faults new.faults
+
+-- A save of this text was answered so.
+pub record SavesTo (text : List ℕ) (old : PocketView) (answer : SaveResult) (new : PocketView) : Type 0 where
+  pub saves : Saves text answer old.saved new.saved
+  pub counts : CountsFaults (answer ≡ save.Failed) old.faults new.faults

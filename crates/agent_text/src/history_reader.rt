@@ -55,7 +55,8 @@ fn take_history(
 
 /// Takes the line of an action above those of these histories, if it is ahead.
 fn take_action(before: &[History], lines: &mut Lines<'_>) -> Option<u64>
-    ensures { TakesOne (λ action. IsId action × IsAbove (map shown_history before.now) action) action_line lines.old lines.new result }
+    ensures { TakesOne (λ action. IsId action
+        × IsAbove (map shown_history before.now) action) action_line lines.old lines.new result }
 {
     let action = read_id(lines.rest_ahead(b"action")?)?;
     if !is_above(before, action) {

@@ -47,7 +47,8 @@ pub fn saved_texts_are_short()
 pub fn changed_histories_can_be_saved()
     ensures begun { (hs : List PlainHistory) (action : ℕ) (row : Row) → AreHistories hs → IsId action
         → IfSome (last_row (rows_at action hs)) HasEnded → length (rows_at action hs) + 1 < 2 ^ 32
-        → row.number ≡ length (rows_at action hs) + 1 → HasMoments row → IsSavedRow row → AreHistories (with_begun action row hs) }
+        → row.number ≡ length (rows_at action hs) + 1 → HasMoments row → IsSavedRow row
+        → AreHistories (with_begun action row hs) }
     ensures ended { (hs : List PlainHistory) (action : ℕ) (moment : ℤ) (outcome : Outcome) (note : Note) → AreHistories hs
         → IsMoment moment → IsSomeAnd (last_row (rows_at action hs)) (λ row. row.end ≡ None) → IsSavedNote outcome note
         → AreHistories (with_ended action moment outcome note hs) }

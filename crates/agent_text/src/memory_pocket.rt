@@ -1,7 +1,6 @@
-ghost use Rattle.std.specs.Prelude.{◌≡◌, ◌≢◌, ◌≤◌, Some, option_copied};
-ghost use Rattle.desk_base.specs.Counts.{Rose};
-ghost use Rattle.agent_text.specs.Pockets.{Loads, Saves};
-ghost use Rattle.agent_text.specs.PocketStates.{LoadsMemory, SavesMemory, empty_pocket, faults_of};
+ghost use Rattle.std.specs.Prelude.{◌≡◌, option_copied};
+ghost use Rattle.agent_text.specs.Pockets.{LoadsFrom, SavesTo};
+ghost use Rattle.agent_text.specs.PocketStates.{LoadsMemory, SavesMemory, empty_pocket, pocket_view};
 
 use crate::pocket::{Loaded, Pocket, SaveResult};
 use desk_base::{Bytes, Calls};
@@ -48,24 +47,16 @@ impl MemoryPocket {
 }
 
 impl Pocket for MemoryPocket {
-    ghost saved = { λ p. Some p.text };
-
-    ghost faults = { faults_of };
+    ghost told = { pocket_view };
 
     fn open(&mut self, _place: &Text) -> Result<(), AllocError>
-        ensures saved { Some self.new.text ≡ Some self.old.text }
-        ensures steady { faults_of self.new ≡ faults_of self.old }
-        ensures memory { self.new ≡ self.old }
+        ensures { self.new ≡ self.old }
     {
         Ok(())
     }
 
     fn load(&mut self) -> Loaded
-        ensures loads { Loads (Some self.old.text) result }
-        ensures saved { Some self.new.text ≡ Some self.old.text }
-        ensures later { faults_of self.old ≤ faults_of self.new }
-        ensures failed { result ≡ Loaded.Failed → Rose (faults_of self.old) (faults_of self.new) }
-        ensures steady { result ≢ Loaded.Failed → faults_of self.new ≡ faults_of self.old }
+        ensures loads { LoadsFrom (pocket_view self.old) result (pocket_view self.new) }
         ensures memory { LoadsMemory self.old self.new result }
     {
         if self.loads.begin() {
@@ -82,10 +73,7 @@ impl Pocket for MemoryPocket {
     }
 
     fn save(&mut self, text: &[u8]) -> SaveResult
-        ensures saves { Saves text.now result (Some self.old.text) (Some self.new.text) }
-        ensures later { faults_of self.old ≤ faults_of self.new }
-        ensures failed { result ≡ SaveResult.Failed → Rose (faults_of self.old) (faults_of self.new) }
-        ensures steady { result ≢ SaveResult.Failed → faults_of self.new ≡ faults_of self.old }
+        ensures saves { SavesTo text.now (pocket_view self.old) result (pocket_view self.new) }
         ensures memory { SavesMemory self.old self.new result }
     {
         if self.saves.begin() {

@@ -1,6 +1,5 @@
-ghost use Rattle.std.specs.Prelude.{◌≡◌, ◌≢◌, ◌≤◌, List, ℕ, Option, IfOk};
-ghost use Rattle.desk_base.specs.Counts.{Rose};
-ghost use Rattle.agent_text.specs.Pockets.{Loads, Saves};
+ghost use Rattle.std.specs.Prelude.{◌≡◌, IfOk};
+ghost use Rattle.agent_text.specs.Pockets.{PocketView, LoadsFrom, SavesTo};
 
 use desk_base::Bytes;
 use rel_lexer::Text;
@@ -46,29 +45,18 @@ pub enum SaveResult {
 
 /// What outlives a stop: one text.
 pub trait Pocket {
-    /// The saved text, or that there is none, where it tells that.
-    ghost saved: { Self → Option (Option (List ℕ)) };
-
-    /// How often a load or a save has failed.
-    ghost faults: { Self → ℕ };
+    /// What it tells of itself.
+    ghost told: { Self → PocketView };
 
     /// Names the place at which the text is kept. The error is want of memory.
     fn open(&mut self, place: &Text) -> Result<(), AllocError>
-        ensures saved { saved self.new ≡ saved self.old }
-        ensures steady { faults self.new ≡ faults self.old };
+        ensures { told self.new ≡ told self.old };
 
     /// The saved text.
     fn load(&mut self) -> Loaded
-        ensures loads { Loads (saved self.old) result }
-        ensures saved { saved self.new ≡ saved self.old }
-        ensures later { faults self.old ≤ faults self.new }
-        ensures failed { result ≡ Loaded.Failed → Rose (faults self.old) (faults self.new) }
-        ensures steady { result ≢ Loaded.Failed → faults self.new ≡ faults self.old };
+        ensures { LoadsFrom (told self.old) result (told self.new) };
 
     /// Saves this text in place of the one before.
     fn save(&mut self, text: &[u8]) -> SaveResult
-        ensures saves { Saves text.now result (saved self.old) (saved self.new) }
-        ensures later { faults self.old ≤ faults self.new }
-        ensures failed { result ≡ SaveResult.Failed → Rose (faults self.old) (faults self.new) }
-        ensures steady { result ≢ SaveResult.Failed → faults self.new ≡ faults self.old };
+        ensures { SavesTo text.now (told self.old) result (told self.new) };
 }

@@ -25,8 +25,18 @@ pub fn fill_saved(
     reports: &[Report],
     room: &mut Room,
 )
-    requires { HasRoom room.old (length (saved_text (record { computer = computer.now; next = next; histories = histories.now; reports = reports.now }))) }
-    ensures { Fills room.old room.new (saved_text (record { computer = computer.now; next = next; histories = histories.now; reports = reports.now })) }
+    requires { HasRoom room.old (length (saved_text (record {
+      computer = computer.now;
+      next = next;
+      histories = histories.now;
+      reports = reports.now;
+    }))) }
+    ensures { Fills room.old room.new (saved_text (record {
+      computer = computer.now;
+      next = next;
+      histories = histories.now;
+      reports = reports.now;
+    })) }
 {
     fill_head(computer, next, room);
     fill_histories(histories.as_slice(), room);

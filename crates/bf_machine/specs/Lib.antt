@@ -1,4 +1,5 @@
 pub mod Told
+pub mod Views
 pub mod Rises
 pub mod Looks
 pub mod Acts

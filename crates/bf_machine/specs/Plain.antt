@@ -10,6 +10,7 @@ use Rattle.bf_world.specs.declared.command.Acted.TheVariants as acted
 use Rattle.bf_world.specs.declared.command.Polled.{Polled}
 use Rattle.bf_world.specs.declared.command.Polled.TheVariants as polled
 use Rattle.bf_world.specs.Worlds.{WorldState}
+use Rattle.bf_machine.specs.Views.{MachineView}
 use Rattle.bf_machine.specs.declared.machine.Looked.{Looked}
 use Rattle.bf_machine.specs.declared.machine.Looked.TheVariants as looked
 
@@ -38,6 +39,17 @@ unasked world looks acts polls = record {
 -- how many calls have failed
 abbrev pub faults_of : PlainState → ℕ
 faults_of m = m.looks.faults + m.acts.faults + m.polls.faults
+
+-- what it tells
+abbrev pub plain_view : PlainState → MachineView
+plain_view m = record {
+  world = Some m.world;
+  looked = Some m.looked;
+  acted = Some m.acted;
+  polled = Some m.polled;
+  started = length m.world.started;
+  faults = faults_of m;
+}
 
 -- A look fails exactly where it is listed.
 abbrev pub LooksPlain : PlainState → PlainState → Looked → Type 0

@@ -1,14 +1,12 @@
-ghost use Rattle.std.specs.Prelude.{◌≡◌, ◌≢◌, ◌<◌, ◌≤◌, ◌∷◌, ◌++◌, [], length, Some, IfOk, OnErr};
-ghost use Rattle.desk_base.specs.Counts.{Rose};
+ghost use Rattle.std.specs.Prelude.{◌≡◌, ◌≢◌, ◌<◌, ◌∷◌, ◌++◌, [], length, IfOk, OnErr};
 ghost use Rattle.desk_base.specs.Moments.{IsMoment};
 ghost use Rattle.bf_world.specs.Answers.{HasMoment, IsGoodAnswer, HasAscendingNames};
 ghost use Rattle.bf_world.specs.Done.{FitsCommand, StartsByStart};
 ghost use Rattle.bf_world.specs.Shown.{shown};
-ghost use Rattle.bf_machine.specs.Told.{Told, Grows};
-ghost use Rattle.bf_machine.specs.Looks.{Shows, keys_added, IsGood, Ascends};
-ghost use Rattle.bf_machine.specs.Acts.{Acts, commands_added, CountsStarted};
-ghost use Rattle.bf_machine.specs.Polls.{Polls, numbers_added};
-ghost use Rattle.bf_machine.specs.Plain.{unasked, counted, faults_of, LooksPlain, ActsPlain, PollsPlain};
+ghost use Rattle.bf_machine.specs.Looks.{LooksOn};
+ghost use Rattle.bf_machine.specs.Acts.{Acts, ActsOn, commands_added, CountsStarted};
+ghost use Rattle.bf_machine.specs.Polls.{PollsOn};
+ghost use Rattle.bf_machine.specs.Plain.{unasked, counted, plain_view, LooksPlain, ActsPlain, PollsPlain};
 
 use crate::polled_numbers::PolledNumbers;
 use crate::{Looked, Machine};
@@ -133,42 +131,16 @@ impl PlainMachine {
 }
 
 impl Machine for PlainMachine {
-    ghost world = { λ m. Some m.world };
-
-    ghost looked = { λ m. Some m.looked };
-
-    ghost acted = { λ m. Some m.acted };
-
-    ghost polled = { λ m. Some m.polled };
-
-    ghost started = { λ m. length m.world.started };
-
-    ghost faults = { λ m. faults_of m };
+    ghost told = { plain_view };
 
     fn open(&mut self, _work: &Text) -> Result<(), AllocError>
-        ensures world { Some self.new.world ≡ Some self.old.world }
-        ensures looked { Some self.new.looked ≡ Some self.old.looked }
-        ensures acted { Some self.new.acted ≡ Some self.old.acted }
-        ensures polled { Some self.new.polled ≡ Some self.old.polled }
-        ensures started { length self.new.world.started ≡ length self.old.world.started }
-        ensures steady { faults_of self.new ≡ faults_of self.old }
-        ensures plain { self.new ≡ self.old }
+        ensures { self.new ≡ self.old }
     {
         Ok(())
     }
 
     fn look(&mut self, key: &Key) -> Looked
-        ensures shows { Shows (Some self.old.world) key.now result }
-        ensures good { IsGood result }
-        ensures ascending { Ascends result }
-        ensures world { Some self.new.world ≡ Some self.old.world }
-        ensures looked { Grows (Some self.old.looked) (Some self.new.looked) (keys_added key.now result) }
-        ensures acted { Some self.new.acted ≡ Some self.old.acted }
-        ensures polled { Some self.new.polled ≡ Some self.old.polled }
-        ensures started { length self.new.world.started ≡ length self.old.world.started }
-        ensures later { faults_of self.old ≤ faults_of self.new }
-        ensures failed { result ≡ Looked.Failed → Rose (faults_of self.old) (faults_of self.new) }
-        ensures steady { result ≢ Looked.Failed → faults_of self.new ≡ faults_of self.old }
+        ensures looks { LooksOn key.now (plain_view self.old) result (plain_view self.new) }
         ensures plain { LooksPlain self.old self.new result }
         ensures others { (self.new.acts ≡ self.old.acts) × (self.new.polls ≡ self.old.polls) }
     {
@@ -185,17 +157,7 @@ impl Machine for PlainMachine {
     fn act(&mut self, command: &Command, moment: i64) -> Acted
         requires moment { IsMoment moment }
         requires date { HasMoment command.now }
-        ensures acts { Told (Some self.old.world) (Some self.new.world)
-            (λ old new. Acts old new command.now moment result) }
-        ensures fits { FitsCommand command.now result }
-        ensures looked { Some self.new.looked ≡ Some self.old.looked }
-        ensures acted { Grows (Some self.old.acted) (Some self.new.acted) (commands_added command.now result) }
-        ensures polled { Some self.new.polled ≡ Some self.old.polled }
-        ensures started { CountsStarted (length self.old.world.started) (length self.new.world.started) result }
-        ensures by_start { StartsByStart command.now (length self.old.world.started) (length self.new.world.started) }
-        ensures later { faults_of self.old ≤ faults_of self.new }
-        ensures failed { result ≡ Acted.Failed → Rose (faults_of self.old) (faults_of self.new) }
-        ensures steady { result ≢ Acted.Failed → faults_of self.new ≡ faults_of self.old }
+        ensures acts { ActsOn moment command.now (plain_view self.old) result (plain_view self.new) }
         ensures plain { ActsPlain self.old self.new result }
         ensures others { (self.new.looks ≡ self.old.looks) × (self.new.polls ≡ self.old.polls) }
     {
@@ -208,14 +170,7 @@ impl Machine for PlainMachine {
 
     fn poll(&mut self, process: ProcessNo) -> Polled
         requires { process.0 < length self.old.world.started }
-        ensures polls { Told (Some self.old.world) (Some self.new.world) (λ old new. Polls old new process.0 result) }
-        ensures looked { Some self.new.looked ≡ Some self.old.looked }
-        ensures acted { Some self.new.acted ≡ Some self.old.acted }
-        ensures polled { Grows (Some self.old.polled) (Some self.new.polled) (numbers_added process.0 result) }
-        ensures started { length self.new.world.started ≡ length self.old.world.started }
-        ensures later { faults_of self.old ≤ faults_of self.new }
-        ensures failed { result ≡ Polled.Failed → Rose (faults_of self.old) (faults_of self.new) }
-        ensures steady { result ≢ Polled.Failed → faults_of self.new ≡ faults_of self.old }
+        ensures polls { PollsOn process.0 (plain_view self.old) result (plain_view self.new) }
         ensures plain { PollsPlain self.old self.new result }
         ensures others { (self.new.looks ≡ self.old.looks) × (self.new.acts ≡ self.old.acts) }
     {

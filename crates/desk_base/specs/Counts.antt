@@ -10,6 +10,12 @@ one_more count = max count (min (count + 1) (2 ^ 64 - 1))
 abbrev pub Rose : ℕ → ℕ → Type 0
 Rose before now = one_more before ≤ now
 
+-- The count of faults rose where a call failed, and stayed where it did not.
+pub record CountsFaults (failed : Type 0) (old new : ℕ) : Type 0 where
+  pub rose : failed → Rose old new
+  pub steady : ¬ failed → new ≡ old
+  pub later : old ≤ new
+
 -- A known count went up by one.
 abbrev pub CountsOne : Option ℕ → Option ℕ → Type 0
 CountsOne None new = ⊤

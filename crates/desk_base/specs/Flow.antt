@@ -2,6 +2,8 @@
 use Rattle.std.specs.Prelude.{◌≡◌, ℕ, ◌<◌, ◌≤◌, List, ◌++◌, length, take, ⊤, None, Some}
 use Rattle.std.specs.declared.option.Option.{Option}
 use Rattle.std.specs.Io.KnownBytes.{Appends, Consumes, Keeps, IsAtEnd}
+use Rattle.desk_base.specs.Counts.{CountsFaults, CountsOne}
+use Rattle.desk_base.specs.Views.{SourceView, SinkView}
 use Rattle.desk_base.specs.declared.source.Got.{Got}
 use Rattle.desk_base.specs.declared.source.Got.TheVariants as got
 use Rattle.desk_base.specs.declared.sink.Put.{Put}
@@ -23,6 +25,17 @@ Gives old new got.Failed room = Keeps old new
 abbrev pub Puts : Option (List ℕ) → Option (List ℕ) → Put → List ℕ → Type 0
 Puts old new put.Done piece = Appends old new piece
 Puts old new put.Failed piece = AppendsFront old new piece
+
+-- A source was read into this room and answered so.
+pub record Reads (room : List ℕ) (old : SourceView) (answer : Got) (new : SourceView) : Type 0 where
+  pub gives : Gives old.left new.left answer room
+  pub reads : CountsOne old.reads new.reads
+  pub counts : CountsFaults (answer ≡ got.Failed) old.faults new.faults
+
+-- A piece was written to a sink, which answered so.
+pub record Writes (piece : List ℕ) (old : SinkView) (answer : Put) (new : SinkView) : Type 0 where
+  pub puts : Puts old.held new.held answer piece
+  pub counts : CountsFaults (answer ≡ put.Failed) old.faults new.faults
 
 -- Known bytes grow by some bytes of which P holds.
 abbrev pub AppendsSome : Option (List ℕ) → Option (List ℕ) → (List ℕ → Type 0) → Type 0

@@ -1,4 +1,5 @@
 pub mod Counts
+pub mod Views
 pub mod Flow
 pub mod Moments
 pub mod Whole

@@ -1,6 +1,7 @@
 -- Sources, sinks and clocks in memory, as contracts see them, and what a call does to them beyond what its trait says.
-use Rattle.std.specs.Prelude.{◌≡◌, ℕ, ℤ, min, List, [], ◌∷◌, length, ◌⊎◌}
+use Rattle.std.specs.Prelude.{◌≡◌, ℕ, ℤ, min, List, [], ◌∷◌, length, ◌⊎◌, Some}
 use Rattle.desk_base.specs.CallStates.{CallState, IsListed, one_call, one_fault}
+use Rattle.desk_base.specs.Views.{SourceView, SinkView, ClockView}
 use Rattle.desk_base.specs.declared.source.Got.{Got}
 use Rattle.desk_base.specs.declared.source.Got.TheVariants as got
 use Rattle.desk_base.specs.declared.sink.Put.{Put}
@@ -23,6 +24,18 @@ pub record ClockState : Type 0 where
   pub given : List ℤ
   pub left : List ℤ
   pub calls : CallState
+
+-- what a source in memory tells
+abbrev pub source_view : SourceState → SourceView
+source_view s = record { left = Some s.left; reads = Some s.calls.made; faults = s.calls.faults }
+
+-- what a sink in memory tells
+abbrev pub sink_view : SinkState → SinkView
+sink_view s = record { held = Some s.held; faults = s.calls.faults }
+
+-- what a clock in memory tells
+abbrev pub clock_view : ClockState → ClockView
+clock_view c = record { given = Some c.given; faults = c.calls.faults }
 
 -- The call was made, is none of those that are to fail, and did not.
 abbrev pub Succeeds : CallState → CallState → Type 0

@@ -1,6 +1,5 @@
-ghost use Rattle.std.specs.Prelude.{◌≡◌, ◌≢◌, ◌≤◌, List, ℕ, ℤ, Option};
-ghost use Rattle.desk_base.specs.Counts.{Rose};
-ghost use Rattle.desk_base.specs.Moments.{Tells};
+ghost use Rattle.desk_base.specs.Views.{ClockView};
+ghost use Rattle.desk_base.specs.Moments.{AsksMoment};
 
 /// The last moment that a clock gives and a text spells, in seconds since 1970-01-01 00:00:00 UTC (2^37).
 pub const LAST_MOMENT: i64 = 137_438_953_472;
@@ -16,16 +15,10 @@ pub enum Told {
 
 /// Where moments come from. They may go back.
 pub trait Clock {
-    /// The moments that it gave, where it tells them.
-    ghost given: { Self → Option (List ℤ) };
-
-    /// How often it has failed.
-    ghost faults: { Self → ℕ };
+    /// What it tells of itself.
+    ghost told: { Self → ClockView };
 
     /// The moment now.
     fn now(&mut self) -> Told
-        ensures tells { Tells (given self.old) (given self.new) result }
-        ensures later { faults self.old ≤ faults self.new }
-        ensures failed { result ≡ Told.Failed → Rose (faults self.old) (faults self.new) }
-        ensures steady { result ≢ Told.Failed → faults self.new ≡ faults self.old };
+        ensures { AsksMoment (told self.old) result (told self.new) };
 }

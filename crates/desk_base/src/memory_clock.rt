@@ -1,8 +1,7 @@
-ghost use Rattle.std.specs.Prelude.{◌≡◌, ◌≢◌, ◌≤◌, [], Some, All};
+ghost use Rattle.std.specs.Prelude.{◌≡◌, [], All};
 ghost use Rattle.desk_base.specs.CallStates.{no_calls};
-ghost use Rattle.desk_base.specs.Counts.{Rose};
-ghost use Rattle.desk_base.specs.Moments.{IsMoment, Tells};
-ghost use Rattle.desk_base.specs.MemoryStates.{StepsMemory};
+ghost use Rattle.desk_base.specs.Moments.{IsMoment, AsksMoment};
+ghost use Rattle.desk_base.specs.MemoryStates.{StepsMemory, clock_view};
 
 use crate::{Calls, Clock, Told};
 use std::alloc::Global;
@@ -43,15 +42,10 @@ impl StepClock {
 }
 
 impl Clock for StepClock {
-    ghost given = { λ c. Some c.given };
-
-    ghost faults = { λ c. c.calls.faults };
+    ghost told = { clock_view };
 
     fn now(&mut self) -> Told
-        ensures tells { Tells (Some self.old.given) (Some self.new.given) result }
-        ensures later { self.old.calls.faults ≤ self.new.calls.faults }
-        ensures failed { result ≡ Told.Failed → Rose self.old.calls.faults self.new.calls.faults }
-        ensures steady { result ≢ Told.Failed → self.new.calls.faults ≡ self.old.calls.faults }
+        ensures asks { AsksMoment (clock_view self.old) result (clock_view self.new) }
         ensures memory { StepsMemory self.old self.new result }
     {
         if self.asked.begin() {

@@ -1,8 +1,7 @@
-ghost use Rattle.std.specs.Prelude.{◌≡◌, ◌≢◌, ◌≤◌, [], Some};
+ghost use Rattle.std.specs.Prelude.{◌≡◌, []};
 ghost use Rattle.desk_base.specs.CallStates.{no_calls};
-ghost use Rattle.desk_base.specs.Counts.{Rose};
-ghost use Rattle.desk_base.specs.Flow.{Puts};
-ghost use Rattle.desk_base.specs.MemoryStates.{WritesMemory};
+ghost use Rattle.desk_base.specs.Flow.{Writes};
+ghost use Rattle.desk_base.specs.MemoryStates.{WritesMemory, sink_view};
 
 use crate::{Bytes, Calls, Put, Sink};
 use std::alloc::Global;
@@ -43,15 +42,10 @@ impl MemorySink {
 }
 
 impl Sink for MemorySink {
-    ghost held = { λ s. Some s.held };
-
-    ghost faults = { λ s. s.calls.faults };
+    ghost told = { sink_view };
 
     fn write(&mut self, piece: &[u8]) -> Put
-        ensures puts { Puts (Some self.old.held) (Some self.new.held) result piece.now }
-        ensures later { self.old.calls.faults ≤ self.new.calls.faults }
-        ensures failed { result ≡ Put.Failed → Rose self.old.calls.faults self.new.calls.faults }
-        ensures steady { result ≢ Put.Failed → self.new.calls.faults ≡ self.old.calls.faults }
+        ensures writes { Writes piece.now (sink_view self.old) result (sink_view self.new) }
         ensures memory { WritesMemory self.old self.new result }
     {
         if self.writes.begin() {

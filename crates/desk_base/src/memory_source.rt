@@ -1,8 +1,7 @@
-ghost use Rattle.std.specs.Prelude.{◌≡◌, ◌≢◌, ◌<◌, ◌≤◌, length, Some};
+ghost use Rattle.std.specs.Prelude.{◌≡◌, ◌<◌, length, Some};
 ghost use Rattle.desk_base.specs.CallStates.{no_calls};
-ghost use Rattle.desk_base.specs.Counts.{Rose, CountsOne};
 ghost use Rattle.desk_base.specs.Flow.{Gives};
-ghost use Rattle.desk_base.specs.MemoryStates.{ReadsMemory};
+ghost use Rattle.desk_base.specs.MemoryStates.{ReadsMemory, source_view};
 
 use crate::{Bytes, Calls, Got, Source};
 use std::alloc::Global;
@@ -41,19 +40,11 @@ impl MemorySource {
 }
 
 impl Source for MemorySource {
-    ghost left = { λ s. Some s.left };
-
-    ghost reads = { λ s. Some s.calls.made };
-
-    ghost faults = { λ s. s.calls.faults };
+    ghost told = { source_view };
 
     fn read(&mut self, room: &mut [u8]) -> Got
         requires { 0 < length room.old }
         ensures gives { Gives (Some self.old.left) (Some self.new.left) result room.new }
-        ensures reads { CountsOne (Some self.old.calls.made) (Some self.new.calls.made) }
-        ensures later { self.old.calls.faults ≤ self.new.calls.faults }
-        ensures failed { result ≡ Got.Failed → Rose self.old.calls.faults self.new.calls.faults }
-        ensures steady { result ≢ Got.Failed → self.new.calls.faults ≡ self.old.calls.faults }
         ensures memory { ReadsMemory self.old self.new result (length room.new) }
     {
         if self.reads.begin() {

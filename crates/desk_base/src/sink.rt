@@ -1,6 +1,5 @@
-ghost use Rattle.std.specs.Prelude.{◌≡◌, ◌≢◌, ◌≤◌, List, ℕ, Option};
-ghost use Rattle.desk_base.specs.Counts.{Rose};
-ghost use Rattle.desk_base.specs.Flow.{Puts};
+ghost use Rattle.desk_base.specs.Views.{SinkView};
+ghost use Rattle.desk_base.specs.Flow.{Writes};
 
 /// What a write answers.
 #[derive(Clone, Copy)]
@@ -13,16 +12,10 @@ pub enum Put {
 
 /// Where bytes go.
 pub trait Sink {
-    /// The bytes that it holds, where it tells them.
-    ghost held: { Self → Option (List ℕ) };
-
-    /// How often a write has failed.
-    ghost faults: { Self → ℕ };
+    /// What it tells of itself.
+    ghost told: { Self → SinkView };
 
     /// Appends the piece.
     fn write(&mut self, piece: &[u8]) -> Put
-        ensures puts { Puts (held self.old) (held self.new) result piece.now }
-        ensures later { faults self.old ≤ faults self.new }
-        ensures failed { result ≡ Put.Failed → Rose (faults self.old) (faults self.new) }
-        ensures steady { result ≢ Put.Failed → faults self.new ≡ faults self.old };
+        ensures { Writes piece.now (told self.old) result (told self.new) };
 }

@@ -1,6 +1,6 @@
-ghost use Rattle.std.specs.Prelude.{◌≡◌, ◌≢◌, ◌<◌, ◌≤◌, length, List, ℕ, Option};
-ghost use Rattle.desk_base.specs.Counts.{Rose, CountsOne};
-ghost use Rattle.desk_base.specs.Flow.{Gives};
+ghost use Rattle.std.specs.Prelude.{◌<◌, length};
+ghost use Rattle.desk_base.specs.Views.{SourceView};
+ghost use Rattle.desk_base.specs.Flow.{Reads};
 
 /// What a read answers.
 #[derive(Clone, Copy)]
@@ -15,21 +15,11 @@ pub enum Got {
 
 /// Where bytes come from.
 pub trait Source {
-    /// The bytes that are left, where it tells them.
-    ghost left: { Self → Option (List ℕ) };
-
-    /// How often it was read, where it tells that.
-    ghost reads: { Self → Option ℕ };
-
-    /// How often a read has failed.
-    ghost faults: { Self → ℕ };
+    /// What it tells of itself.
+    ghost told: { Self → SourceView };
 
     /// Takes the next bytes into the front of the room.
     fn read(&mut self, room: &mut [u8]) -> Got
         requires { 0 < length room.old }
-        ensures gives { Gives (left self.old) (left self.new) result room.new }
-        ensures reads { CountsOne (reads self.old) (reads self.new) }
-        ensures later { faults self.old ≤ faults self.new }
-        ensures failed { result ≡ Got.Failed → Rose (faults self.old) (faults self.new) }
-        ensures steady { result ≢ Got.Failed → faults self.new ≡ faults self.old };
+        ensures { Reads room.new (told self.old) result (told self.new) };
 }

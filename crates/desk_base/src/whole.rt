@@ -1,5 +1,5 @@
-ghost use Rattle.std.specs.Prelude.{◌≡◌, ◌≢◌, ◌≤◌, ◌+◌};
-ghost use Rattle.desk_base.specs.Counts.{Rose, CountsAtMost};
+ghost use Rattle.std.specs.Prelude.{◌≡◌, ◌+◌};
+ghost use Rattle.desk_base.specs.Counts.{CountsAtMost, CountsFaults};
 ghost use Rattle.desk_base.specs.Whole.{ReadsAll, StopsAtEnd};
 
 use crate::{Bytes, Got, Source};
@@ -20,12 +20,10 @@ pub enum Whole {
 
 /// Reads a source to its end, unless it gives more bytes than the limit. What was taken stays taken.
 pub fn read_all<S: Source>(alloc: Global, source: &mut S, limit: usize) -> Whole
-    ensures whole { ReadsAll (S.left source.old) (S.left source.new) limit result }
-    ensures reads { CountsAtMost (S.reads source.old) (S.reads source.new) (limit + 1) }
-    ensures stops { StopsAtEnd (S.reads source.old) (S.reads source.new) result }
-    ensures later { S.faults source.old ≤ S.faults source.new }
-    ensures failed { result ≡ Whole.Failed → Rose (S.faults source.old) (S.faults source.new) }
-    ensures steady { result ≢ Whole.Failed → S.faults source.new ≡ S.faults source.old }
+    ensures whole { ReadsAll (S.told source.old).left (S.told source.new).left limit result }
+    ensures reads { CountsAtMost (S.told source.old).reads (S.told source.new).reads (limit + 1) }
+    ensures stops { StopsAtEnd (S.told source.old).reads (S.told source.new).reads result }
+    ensures counts { CountsFaults (result ≡ Whole.Failed) (S.told source.old).faults (S.told source.new).faults }
 {
     let mut bytes = Bytes::new(alloc);
     let mut room = [0u8; 4096];

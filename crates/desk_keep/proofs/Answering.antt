@@ -31,14 +31,14 @@ finds_row rows key row answer are at (inr is) = subst (Finds (Some rows) key) (s
 -- ---- lists
 
 pub lists_rows : {E : Type 0} (rows : List Change) (asked : Change → Bool) (list : Result (List Change) E) (answer : Listed) → AreRows rows
-    → IfOk list (λ l. l ≡ filter asked rows) → IfOk list (λ l. answer ≡ listed.Changes l) → OnErr list (answer ≡ listed.Memory) → Lists (Some rows) asked answer
+    → IfOk list (λ l. l ≡ filter asked rows) → IfOk list (λ l. answer ≡ listed.Changes l) → OnErr list (answer ≡ listed.Memory) → Lists asked (Some rows) answer
 lists_rows rows asked (Ok list) answer are is ok err =
-    subst (Lists (Some rows) asked) (sym ok) (
+    subst (Lists asked (Some rows)) (sym ok) (
       subst AreRows (sym is) (AreRows-filter asked rows are),
       subst (All (λ row. asked row ≡ true)) (sym is) (filter_passes asked rows),
       if_told rows (λ all. list ≡ filter asked all) is,
     )
-lists_rows rows asked (Err e) answer are is ok err = subst (Lists (Some rows) asked) (sym err) tt
+lists_rows rows asked (Err e) answer are is ok err = subst (Lists asked (Some rows)) (sym err) tt
 
 -- ---- versions
 

@@ -1,6 +1,7 @@
 -- What the calls of a keeper do and answer. What is said of its rows holds where it tells them.
 use Rattle.std.specs.Prelude.{◌≡◌, Bool, true, false, List, [], ◌∷◌, ◌++◌, map, filter, All, count_by, ⊤, None, Some}
 use Rattle.std.specs.declared.option.Option.{Option}
+use Rattle.desk_base.specs.Counts.{CountsFaults}
 use Rattle.desk_keep.specs.declared.table.Table.TheVariants.{Sites}
 use Rattle.desk_keep.specs.declared.change.Change.{Change}
 use Rattle.desk_keep.specs.declared.answer.Applied.{Applied}
@@ -14,6 +15,7 @@ use Rattle.desk_keep.specs.declared.answer.Counted.TheVariants as counted
 use Rattle.desk_keep.specs.Keys.{Key, key_of}
 use Rattle.desk_keep.specs.Forms.{Fits}
 use Rattle.desk_keep.specs.Tables.{row_at, put_all, is_of, without_text, AreRows}
+use Rattle.desk_keep.specs.Views.{KeeperView}
 
 -- P holds of the rows, where they are told.
 abbrev pub IfTold : Option (List Change) → (List Change → Type 0) → Type 0
@@ -39,11 +41,11 @@ Finds told key found.Memory = ⊤
 
 -- All rows that are asked for. Those that are answered are in ascending order of keys, in their forms and among those that are asked
 -- for, told or not.
-abbrev pub Lists : Option (List Change) → (Change → Bool) → Listed → Type 0
-Lists told asked (listed.Changes rows) =
+abbrev pub Lists : (Change → Bool) → Option (List Change) → Listed → Type 0
+Lists asked told (listed.Changes rows) =
     AreRows rows × All (λ row. asked row ≡ true) rows × IfTold told (λ all. rows ≡ filter asked all)
-Lists told asked listed.Failed = ⊤
-Lists told asked listed.Memory = ⊤
+Lists asked told listed.Failed = ⊤
+Lists asked told listed.Memory = ⊤
 
 -- All rows of sites without their texts, likewise.
 abbrev pub ListsVersions : Option (List Change) → Listed → Type 0
@@ -58,3 +60,37 @@ abbrev pub Counts : Option (List Change) → (Change → Bool) → Counted → T
 Counts told asked (counted.Rows count) = IfTold told (λ rows. count ≡ count_by asked rows)
 Counts told asked counted.Failed = ⊤
 Counts told asked counted.Memory = ⊤
+
+-- Nothing changed but the count of faults, which rose where the call failed.
+pub record OnlyReads (failed : Type 0) (old new : KeeperView) : Type 0 where
+  pub rows : new.rows ≡ old.rows
+  pub counts : CountsFaults failed old.faults new.faults
+
+-- What is kept at a place was opened, and answered so.
+pub record Opens (old : KeeperView) (answer : Applied) (new : KeeperView) : Type 0 where
+  pub good : IfTold new.rows AreRows
+  pub only : OnlyReads (answer ≡ applied.Failed) old new
+
+-- A batch was to be put, and was answered so.
+pub record Puts (batch : List Change) (old : KeeperView) (answer : Applied) (new : KeeperView) : Type 0 where
+  pub applies : Applies old.rows new.rows batch answer
+  pub good : IfTold new.rows AreRows
+  pub counts : CountsFaults (answer ≡ applied.Failed) old.faults new.faults
+
+-- The row of a key was asked for, and answered so.
+pub record Gets (key : Key) (old : KeeperView) (answer : Found) (new : KeeperView) : Type 0 where
+  pub finds : Finds old.rows key answer
+  pub good : IfTold new.rows AreRows
+  pub only : OnlyReads (answer ≡ found.Failed) old new
+
+-- Rows were asked for, and answered as `asked` says of those that are told.
+pub record ListsBy (asked : Option (List Change) → Listed → Type 0) (old : KeeperView) (answer : Listed) (new : KeeperView) : Type 0 where
+  pub lists : asked old.rows answer
+  pub good : IfTold new.rows AreRows
+  pub only : OnlyReads (answer ≡ listed.Failed) old new
+
+-- The number of rows was asked for, and answered so.
+pub record CountsRows (asked : Change → Bool) (old : KeeperView) (answer : Counted) (new : KeeperView) : Type 0 where
+  pub rows : Counts old.rows asked answer
+  pub good : IfTold new.rows AreRows
+  pub only : OnlyReads (answer ≡ counted.Failed) old new

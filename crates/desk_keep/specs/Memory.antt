@@ -1,8 +1,9 @@
 -- The keeper in memory, as contracts see it, and what a call does to it beyond what its trait says.
-use Rattle.std.specs.Prelude.{ℕ, ◌+◌, List, []}
+use Rattle.std.specs.Prelude.{◌≡◌, ℕ, ◌+◌, List, [], Some}
 use Rattle.desk_base.specs.CallStates.{CallState, IsListed, no_calls}
-use Rattle.desk_base.specs.MemoryStates.{Fails}
+use Rattle.desk_base.specs.MemoryStates.{Succeeds, Fails}
 use Rattle.desk_keep.specs.declared.change.Change.{Change}
+use Rattle.desk_keep.specs.Views.{KeeperView}
 
 -- the rows of all tables, the applies and the reading calls
 pub record KeeperState : Type 0 where
@@ -14,10 +15,16 @@ pub record KeeperState : Type 0 where
 abbrev pub empty_keeper : List ℕ → List ℕ → KeeperState
 empty_keeper applies reads = record { rows = []; applies = no_calls applies; reads = no_calls reads }
 
--- how many calls have failed
-abbrev pub faults_of : KeeperState → ℕ
-faults_of keeper = keeper.applies.faults + keeper.reads.faults
+-- what it tells
+abbrev pub keeper_view : KeeperState → KeeperView
+keeper_view keeper = record { rows = Some keeper.rows; faults = keeper.applies.faults + keeper.reads.faults }
 
--- The call was made, is one of those that are to fail, and failed.
-abbrev pub FailsAsListed : CallState → CallState → Type 0
-FailsAsListed old new = Fails old new × IsListed new
+-- A call was made, and failed exactly where it is one of those that are to fail.
+pub record CallsAsListed (failed : Type 0) (old new : CallState) : Type 0 where
+  pub fails : failed → Fails old new × IsListed new
+  pub succeeds : ¬ failed → Succeeds old new
+
+-- A reading call was made, and changed nothing else.
+pub record ReadsAsListed (failed : Type 0) (old new : KeeperState) : Type 0 where
+  pub calls : CallsAsListed failed old.reads new.reads
+  pub rest : new ≡ record old { reads = new.reads }

@@ -1,11 +1,9 @@
-ghost use Rattle.std.specs.Prelude.{◌≡◌, ◌≢◌, ◌≤◌, ◌⊎◌, false, Some, All, IfOk, OnErr, IsTrue};
-ghost use Rattle.desk_base.specs.Counts.{Rose};
-ghost use Rattle.desk_base.specs.MemoryStates.{Succeeds};
+ghost use Rattle.std.specs.Prelude.{◌≡◌, ◌⊎◌, All, IfOk, OnErr, IsTrue};
 ghost use Rattle.desk_keep.specs.Keys.{asked_key};
 ghost use Rattle.desk_keep.specs.Forms.{Fits};
 ghost use Rattle.desk_keep.specs.Tables.{is_of, is_result_of, AreRows};
-ghost use Rattle.desk_keep.specs.Calls.{IfTold, Applies, Finds, Lists, ListsVersions, Counts};
-ghost use Rattle.desk_keep.specs.Memory.{empty_keeper, faults_of, FailsAsListed};
+ghost use Rattle.desk_keep.specs.Calls.{Lists, ListsVersions, Opens, Puts, Gets, ListsBy, CountsRows};
+ghost use Rattle.desk_keep.specs.Memory.{empty_keeper, keeper_view, CallsAsListed, ReadsAsListed};
 
 use crate::batch::put_all;
 use crate::listing::{results_of, rows_of, versions};
@@ -51,9 +49,7 @@ impl MemoryKeeper {
 
     /// Counts a reading call, and answers whether it fails.
     fn read_fails(&mut self) -> bool
-        ensures listed { IsTrue result → FailsAsListed self.old.reads self.new.reads }
-        ensures others { result ≡ false → Succeeds self.old.reads self.new.reads }
-        ensures rest { self.new ≡ record self.old { reads = self.new.reads } }
+        ensures reads { ReadsAsListed (IsTrue result) self.old self.new }
         ensures good { AreRows self.old.rows }
     {
         let fails = self.reads.begin();
@@ -76,19 +72,11 @@ fn listed(rows: Result<Changes, AllocError>) -> Listed
 }
 
 impl Keeper for MemoryKeeper {
-    ghost rows = { λ k. Some k.rows };
-
-    ghost faults = { λ k. faults_of k };
+    ghost told = { keeper_view };
 
     fn open(&mut self, _place: &Text) -> Applied
-        ensures rows { Some self.new.rows ≡ Some self.old.rows }
-        ensures good { IfTold (Some self.new.rows) AreRows }
-        ensures later { faults_of self.old ≤ faults_of self.new }
-        ensures failed { result ≡ Applied.Failed → Rose (faults_of self.old) (faults_of self.new) }
-        ensures steady { result ≢ Applied.Failed → faults_of self.new ≡ faults_of self.old }
-        ensures listed { result ≡ Applied.Failed → FailsAsListed self.old.reads self.new.reads }
-        ensures others { result ≢ Applied.Failed → Succeeds self.old.reads self.new.reads }
-        ensures rest { self.new ≡ record self.old { reads = self.new.reads } }
+        ensures opens { Opens (keeper_view self.old) result (keeper_view self.new) }
+        ensures reads { ReadsAsListed (result ≡ Applied.Failed) self.old self.new }
     {
         if self.read_fails() {
             return Applied::Failed;
@@ -98,13 +86,8 @@ impl Keeper for MemoryKeeper {
 
     fn apply(&mut self, batch: &[Change]) -> Applied
         requires { All Fits batch.now }
-        ensures applies { Applies (Some self.old.rows) (Some self.new.rows) batch.now result }
-        ensures good { IfTold (Some self.new.rows) AreRows }
-        ensures later { faults_of self.old ≤ faults_of self.new }
-        ensures failed { result ≡ Applied.Failed → Rose (faults_of self.old) (faults_of self.new) }
-        ensures steady { result ≢ Applied.Failed → faults_of self.new ≡ faults_of self.old }
-        ensures listed { result ≡ Applied.Failed → FailsAsListed self.old.applies self.new.applies }
-        ensures others { result ≢ Applied.Failed → Succeeds self.old.applies self.new.applies }
+        ensures puts { Puts batch.now (keeper_view self.old) result (keeper_view self.new) }
+        ensures calls { CallsAsListed (result ≡ Applied.Failed) self.old.applies self.new.applies }
         ensures rest { self.new ≡ record self.old { rows = self.new.rows; applies = self.new.applies } }
     {
         if self.applies.begin() {
@@ -118,14 +101,8 @@ impl Keeper for MemoryKeeper {
     }
 
     fn get(&mut self, find: &Find) -> Found
-        ensures finds { Finds (Some self.old.rows) (asked_key find.now) result }
-        ensures rows { Some self.new.rows ≡ Some self.old.rows }
-        ensures later { faults_of self.old ≤ faults_of self.new }
-        ensures failed { result ≡ Found.Failed → Rose (faults_of self.old) (faults_of self.new) }
-        ensures steady { result ≢ Found.Failed → faults_of self.new ≡ faults_of self.old }
-        ensures listed { result ≡ Found.Failed → FailsAsListed self.old.reads self.new.reads }
-        ensures others { result ≢ Found.Failed → Succeeds self.old.reads self.new.reads }
-        ensures rest { self.new ≡ record self.old { reads = self.new.reads } }
+        ensures gets { Gets (asked_key find.now) (keeper_view self.old) result (keeper_view self.new) }
+        ensures reads { ReadsAsListed (result ≡ Found.Failed) self.old self.new }
     {
         if self.read_fails() {
             return Found::Failed;
@@ -137,14 +114,8 @@ impl Keeper for MemoryKeeper {
     }
 
     fn list(&mut self, table: Table) -> Listed
-        ensures lists { Lists (Some self.old.rows) (is_of table) result }
-        ensures rows { Some self.new.rows ≡ Some self.old.rows }
-        ensures later { faults_of self.old ≤ faults_of self.new }
-        ensures failed { result ≡ Listed.Failed → Rose (faults_of self.old) (faults_of self.new) }
-        ensures steady { result ≢ Listed.Failed → faults_of self.new ≡ faults_of self.old }
-        ensures listed { result ≡ Listed.Failed → FailsAsListed self.old.reads self.new.reads }
-        ensures others { result ≢ Listed.Failed → Succeeds self.old.reads self.new.reads }
-        ensures rest { self.new ≡ record self.old { reads = self.new.reads } }
+        ensures lists { ListsBy (Lists (is_of table)) (keeper_view self.old) result (keeper_view self.new) }
+        ensures reads { ReadsAsListed (result ≡ Listed.Failed) self.old self.new }
     {
         if self.read_fails() {
             return Listed::Failed;
@@ -153,14 +124,8 @@ impl Keeper for MemoryKeeper {
     }
 
     fn versions(&mut self) -> Listed
-        ensures lists { ListsVersions (Some self.old.rows) result }
-        ensures rows { Some self.new.rows ≡ Some self.old.rows }
-        ensures later { faults_of self.old ≤ faults_of self.new }
-        ensures failed { result ≡ Listed.Failed → Rose (faults_of self.old) (faults_of self.new) }
-        ensures steady { result ≢ Listed.Failed → faults_of self.new ≡ faults_of self.old }
-        ensures listed { result ≡ Listed.Failed → FailsAsListed self.old.reads self.new.reads }
-        ensures others { result ≢ Listed.Failed → Succeeds self.old.reads self.new.reads }
-        ensures rest { self.new ≡ record self.old { reads = self.new.reads } }
+        ensures lists { ListsBy ListsVersions (keeper_view self.old) result (keeper_view self.new) }
+        ensures reads { ReadsAsListed (result ≡ Listed.Failed) self.old self.new }
     {
         if self.read_fails() {
             return Listed::Failed;
@@ -169,14 +134,8 @@ impl Keeper for MemoryKeeper {
     }
 
     fn results(&mut self, computer: &Text) -> Listed
-        ensures lists { Lists (Some self.old.rows) (is_result_of computer.now) result }
-        ensures rows { Some self.new.rows ≡ Some self.old.rows }
-        ensures later { faults_of self.old ≤ faults_of self.new }
-        ensures failed { result ≡ Listed.Failed → Rose (faults_of self.old) (faults_of self.new) }
-        ensures steady { result ≢ Listed.Failed → faults_of self.new ≡ faults_of self.old }
-        ensures listed { result ≡ Listed.Failed → FailsAsListed self.old.reads self.new.reads }
-        ensures others { result ≢ Listed.Failed → Succeeds self.old.reads self.new.reads }
-        ensures rest { self.new ≡ record self.old { reads = self.new.reads } }
+        ensures lists { ListsBy (Lists (is_result_of computer.now)) (keeper_view self.old) result (keeper_view self.new) }
+        ensures reads { ReadsAsListed (result ≡ Listed.Failed) self.old self.new }
     {
         if self.read_fails() {
             return Listed::Failed;
@@ -185,14 +144,8 @@ impl Keeper for MemoryKeeper {
     }
 
     fn count(&mut self, table: Table) -> Counted
-        ensures counts { Counts (Some self.old.rows) (is_of table) result }
-        ensures rows { Some self.new.rows ≡ Some self.old.rows }
-        ensures later { faults_of self.old ≤ faults_of self.new }
-        ensures failed { result ≡ Counted.Failed → Rose (faults_of self.old) (faults_of self.new) }
-        ensures steady { result ≢ Counted.Failed → faults_of self.new ≡ faults_of self.old }
-        ensures listed { result ≡ Counted.Failed → FailsAsListed self.old.reads self.new.reads }
-        ensures others { result ≢ Counted.Failed → Succeeds self.old.reads self.new.reads }
-        ensures rest { self.new ≡ record self.old { reads = self.new.reads } }
+        ensures counts { CountsRows (is_of table) (keeper_view self.old) result (keeper_view self.new) }
+        ensures reads { ReadsAsListed (result ≡ Counted.Failed) self.old self.new }
     {
         if self.read_fails() {
             return Counted::Failed;

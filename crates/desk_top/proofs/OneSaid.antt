@@ -2,6 +2,10 @@
 use Rattle.std.proofs.Common.{◌≡◌, ℕ, zero, suc, ◌+◌, ◌-◌, ◌^◌, min, ◌<◌, ℤ, pos, Bool, true, false, cond, List, [], ◌∷◌, ◌++◌, length, All, None, Some, refl, sym, ap, ap₂, ◌∙◌, subst, arith, length-append}
 use Rattle.std.proofs.lemmas.List.{append_cancel_left}
 use Rattle.std.specs.declared.option.Option.{Option}
+use Rattle.std.specs.Io.KnownBytes.{Appends}
+use Rattle.desk_base.specs.Moments.{AppendsMoments}
+use Rattle.desk_base.specs.Views.{SinkView}
+use Rattle.office_text.specs.Made.{office_of}
 use Rattle.std.proofs.lemmas.List.Elements.{All-head, All-tail}
 use Rattle.line_forms.specs.LineStates as states
 use Rattle.bf_world.specs.declared.key.Key.{Key}
@@ -11,8 +15,9 @@ use Rattle.line_forms.specs.BadLines.{AnswersBadLine}
 use Rattle.line_forms.proofs.BadLines.{first_bad_line-one}
 use Rattle.rel_session.specs.declared.line.Line.{Line}
 use Rattle.rel_session.specs.declared.line.Line.TheVariants.{Question, Page, More, NoCommand}
+use Rattle.bf_machine.specs.Looks.{LooksUp}
 use Rattle.bf_machine.specs.Rises.{RoseBy}
-use Rattle.rel_session.specs.Devices.{DidAll}
+use Rattle.rel_session.specs.Devices.{Devices, DidAll}
 use Rattle.rel_session.specs.Lines.{lines_of}
 use Rattle.rel_session.specs.Sessions.{Answers, Asks, Run, Runs, Session, begins_with_colon, fresh}
 use Rattle.desk_top.specs.declared.command.DeskCommand.{DeskCommand}
@@ -20,8 +25,9 @@ use Rattle.desk_top.specs.declared.command.DeskCommand.TheVariants.{Qna, QnaWorl
 use Rattle.site_check.specs.declared.finding.Finding.TheVariants.{Good}
 use Rattle.site_check.specs.Lines.{finding_line}
 use Rattle.desk_top.proofs.Ends.{OneFinding, OneFront, refusal_known}
+use Rattle.desk_top.specs.Commands.{help_text}
 use Rattle.desk_top.specs.Said.{Did, DidDescribed, Refuses}
-use Rattle.desk_top.specs.Tellings.{telling}
+use Rattle.desk_top.specs.Tellings.{RanAlike, TellsAll}
 use Rattle.desk_top.specs.WorldInputs.{IsBadInput, IsWorldInput, bad_line}
 
 -- what rel_session says of every run, in its law on them
@@ -65,25 +71,58 @@ no_faults : (n faults : ℕ) → faults < 2 ^ 64 - 1 → RoseBy n faults faults 
 no_faults zero faults below rose = refl
 no_faults (suc n) faults below rose = absurd (omega arith)
 
+-- no look failed where a count that could rise stayed
+none_failed : (n old new : ℕ) → old < 2 ^ 64 - 1 → new ≡ old → RoseBy n old new → n ≡ 0
+none_failed n old new below same rose = let Rises : ℕ → Type 0 = λ x. RoseBy n old x in no_faults n old below (subst Rises same rose)
+
+-- what known bytes, keys or moments grow to is fixed by what they grow by
+bytes_fixed : (old one other : Option (List ℕ)) (held bs cs : List ℕ) → old ≡ Some held → bs ≡ cs → Appends old one bs → Appends old other cs → one ≡ other
+bytes_fixed None one other held bs cs holds same p q = absurd (cc)
+bytes_fixed (Some xs) None other held bs cs holds same p q = absurd p
+bytes_fixed (Some xs) (Some ys) None held bs cs holds same p q = absurd q
+bytes_fixed (Some xs) (Some ys) (Some zs) held bs cs holds same p q = ap (λ (l : List ℕ). Some l) (p ∙ ap (λ l. xs ++ l) same ∙ sym q)
+
+keys_fixed : (world : Option WorldState) (old one other : Option (List Key)) (w : WorldState) (looked bs cs : List Key) → world ≡ Some w → old ≡ Some looked → bs ≡ cs
+    → LooksUp world old one bs → LooksUp world old other cs → one ≡ other
+keys_fixed None old one other w looked bs cs shows keeps same p q = absurd (cc)
+keys_fixed (Some v) None one other w looked bs cs shows keeps same p q = absurd (cc)
+keys_fixed (Some v) (Some xs) None other w looked bs cs shows keeps same p q = absurd p
+keys_fixed (Some v) (Some xs) (Some ys) None w looked bs cs shows keeps same p q = absurd q
+keys_fixed (Some v) (Some xs) (Some ys) (Some zs) w looked bs cs shows keeps same p q = ap (λ (l : List Key). Some l) (p ∙ ap (λ l. xs ++ l) same ∙ sym q)
+
+-- and the moments that they grew by by what they grew to
+moments_fixed : (old one other : Option (List ℤ)) (given xs ys : List ℤ) → old ≡ Some given → one ≡ other → AppendsMoments old one xs → AppendsMoments old other ys → xs ≡ ys
+moments_fixed None one other given xs ys gives same p q = absurd (cc)
+moments_fixed (Some m) None other given xs ys gives same p q = absurd p
+moments_fixed (Some m) (Some a) None given xs ys gives same p q = absurd q
+moments_fixed (Some m) (Some a) (Some b) given xs ys gives same p q = let one : a ≡ b = cc in append_cancel_left m xs ys (sym p ∙ one ∙ q)
+
 -- what questions to a machine whose world is told write and look up
-qna_once : OneRun → (w : WorldState) (input held a b : List ℕ) (looked keys others : List Key) (faults : ℕ) (given after : List ℤ) → faults < 2 ^ 64 - 1
-    → DidAll (Some w) (pos 0) fresh (lines_of input) None (telling held looked faults given) (telling a keys faults after)
-    → DidAll (Some w) (pos 0) fresh (lines_of input) None (telling held looked faults given) (telling b others faults after) → (a ≡ b) × (keys ≡ others)
-qna_once one_run w input held a b looked keys others faults given after below (moments, run, runs, did) (moments', run', runs', did') =
-    let Ran : List ℤ → Type 0 = λ m. Runs (Some w) (pos 0) fresh (lines_of input) m run in
-    let same : moments ≡ moments' = append_cancel_left given moments moments' (sym did.dated ∙ did'.dated) in
-    let one : run ≡ run' = one_run w (pos 0) fresh (lines_of input) moments' run run' (subst Ran same runs) runs' (no_faults run.faults faults below did.faults) (no_faults run'.faults faults below did'.faults) in
-    (did.written ∙ ap (λ r. held ++ r.bytes) one ∙ sym did'.written, did.looked ∙ ap (λ r. looked ++ r.looks) one ∙ sym did'.looked)
+abbrev SameRuns : Devices → Devices → Type 0
+SameRuns one other = (one.sink.held ≡ other.sink.held) × (one.machine.looked ≡ other.machine.looked)
+
+qna_once : OneRun → (input : List ℕ) (old one other : Devices) → TellsAll old → RanAlike old one other
+    → DidAll (pos 0) fresh (lines_of input) None old one → DidAll (pos 0) fresh (lines_of input) None old other → SameRuns one other
+qna_once one_run input old one other tells alike (moments, run, runs, did) (moments', run', runs', did') =
+    let In : List ℤ → Run → Option WorldState → Type 0 = λ m r v. Runs v (pos 0) fresh (lines_of input) m r in
+    let Ran : List ℤ → Type 0 = λ m. In m run (Some tells.world) in
+    let same : moments ≡ moments' = moments_fixed old.clock.given one.clock.given other.clock.given tells.given moments moments' tells.gives alike.moments did.dated did'.dated in
+    let here : In moments run (Some tells.world) = subst (In moments run) tells.shows runs in
+    let there : In moments' run' (Some tells.world) = subst (In moments' run') tells.shows runs' in
+    let alone : run ≡ run' = one_run tells.world (pos 0) fresh (lines_of input) moments' run run' (subst Ran same here) there
+    (none_failed run.faults old.machine.faults one.machine.faults tells.rises alike.one_steady did.faults.rose)
+    (none_failed run'.faults old.machine.faults other.machine.faults tells.rises alike.other_steady did'.faults.rose) in (
+      bytes_fixed old.sink.held one.sink.held other.sink.held tells.held run.bytes run'.bytes tells.holds (ap (λ r. r.bytes) alone) did.written did'.written,
+      keys_fixed old.machine.world old.machine.looked one.machine.looked other.machine.looked tells.world tells.looked run.looks run'.looks tells.shows tells.keeps (ap (λ r. r.looks) alone) did.looked did'.looked,
+    )
 
 -- what questions to a described world write
-described_once : OneRun → (w : WorldState) (rest held a b : List ℕ) (looked keys others : List Key) (faults : ℕ) (given after : List ℤ)
-    → DidDescribed w rest (telling held looked faults given) (telling a keys faults after)
-    → DidDescribed w rest (telling held looked faults given) (telling b others faults after) → a ≡ b
-described_once one_run w rest held a b looked keys others faults given after (moments, run, runs, all, none, is) (moments', run', runs', all', none', is') =
+described_once : OneRun → (w : WorldState) (rest held : List ℕ) (old one other : SinkView) → old.held ≡ Some held → DidDescribed w rest old one → DidDescribed w rest old other → one.held ≡ other.held
+described_once one_run w rest held old one other holds (moments, run, runs, all, none, is) (moments', run', runs', all', none', is') =
     let Ran : List ℤ → Type 0 = λ m. Runs (Some w) w.offset fresh (lines_of rest) m run in
     let same : moments ≡ moments' = all_same w.moment moments moments' all all' (count_runs (Some w) w.offset fresh (lines_of rest) moments run runs ∙ sym (count_runs (Some w) w.offset fresh (lines_of rest) moments' run' runs')) in
-    let one : run ≡ run' = one_run w w.offset fresh (lines_of rest) moments' run run' (subst Ran same runs) runs' none none' in
-    is ∙ ap (λ r. held ++ r.bytes) one ∙ sym is'
+    let alone : run ≡ run' = one_run w w.offset fresh (lines_of rest) moments' run run' (subst Ran same runs) runs' none none' in
+    bytes_fixed old.held one.held other.held held run.bytes run'.bytes holds (ap (λ r. r.bytes) alone) is is'
 
 -- an input has one world's text and one rest
 one_rest : OneFront → (input : List ℕ) (w w' : WorldState) (rest rest' : List ℕ) → IsWorldInput input w rest → IsWorldInput input w' rest' → (w' ≡ w) × (rest' ≡ rest)
@@ -94,33 +133,31 @@ one_rest front input w w' rest rest' (text, splits, reads) (text', splits', read
       append_cancel_left text rest' rest (ap (λ t. t ++ rest') (sym same) ∙ sym splits'.0 ∙ splits.0),
     )
 
-world_once : OneRun → OneFront → (input held a b : List ℕ) (looked keys others : List Key) (faults : ℕ) (given after : List ℤ)
-    → (w : WorldState) (rest : List ℕ) → IsWorldInput input w rest → DidDescribed w rest (telling held looked faults given) (telling a keys faults after)
-    → (w' : WorldState) (rest' : List ℕ) → IsWorldInput input w' rest' → DidDescribed w' rest' (telling held looked faults given) (telling b others faults after) → a ≡ b
-world_once one_run front input held a b looked keys others faults given after w rest is did w' rest' is' did' =
+world_once : OneRun → OneFront → (input held : List ℕ) (old one other : SinkView) → old.held ≡ Some held
+    → (w : WorldState) (rest : List ℕ) → IsWorldInput input w rest → DidDescribed w rest old one
+    → (w' : WorldState) (rest' : List ℕ) → IsWorldInput input w' rest' → DidDescribed w' rest' old other → one.held ≡ other.held
+world_once one_run front input held old one other holds w rest is did w' rest' is' did' =
     let same = one_rest front input w w' rest rest' is is' in
-    let InWorld : WorldState → Type 0 = λ v. DidDescribed v rest' (telling held looked faults given) (telling b others faults after) in
-    let OfRest : List ℕ → Type 0 = λ l. DidDescribed w l (telling held looked faults given) (telling b others faults after) in
-    described_once one_run w rest held a b looked keys others faults given after did (subst OfRest same.1 (subst InWorld same.0 did'))
+    let InWorld : WorldState → Type 0 = λ v. DidDescribed v rest' old other in
+    let OfRest : List ℕ → Type 0 = λ l. DidDescribed w l old other in
+    described_once one_run w rest held old one other holds did (subst OfRest same.1 (subst InWorld same.0 did'))
 
-pub bytes_once : OneRun → OneFinding → OneFront → (command : DeskCommand) (w : WorldState) (input held a b : List ℕ) (looked keys others : List Key) (faults : ℕ) (given after : List ℤ) → faults < 2 ^ 64 - 1
-    → Did command (Some w) input (telling held looked faults given) (telling a keys faults after)
-    → Did command (Some w) input (telling held looked faults given) (telling b others faults after) → a ≡ b
-bytes_once one_run one front Qna w input held a b looked keys others faults given after below did did' =
-    (qna_once one_run w input held a b looked keys others faults given after below did did').0
-bytes_once one_run one front QnaWorld w input held a b looked keys others faults given after below (v, rest, is, did) (v', rest', is', did') =
-    world_once one_run front input held a b looked keys others faults given after v rest is did v' rest' is' did'
-bytes_once one_run one front Check w input held a b looked keys others faults given after below (fixlets, baselines, found, is) (fixlets', baselines', found', is') =
-    let same = one input (Good fixlets baselines) (Good fixlets' baselines') found found' (λ e. cc) (λ e. cc) in
-    is ∙ ap (λ f. held ++ finding_line f) same ∙ sym is'
-bytes_once one_run one front (Make number) w input held a b looked keys others faults given after below did did' = did ∙ sym did'
-bytes_once one_run one front Help w input held a b looked keys others faults given after below did did' = did ∙ sym did'
+pub bytes_once : OneRun → OneFinding → OneFront → (command : DeskCommand) (input : List ℕ) (old one other : Devices) → TellsAll old → RanAlike old one other
+    → Did command input old one → Did command input old other → one.sink.held ≡ other.sink.held
+bytes_once one_run finding front Qna input old one other tells alike did did' = (qna_once one_run input old one other tells alike did did').0
+bytes_once one_run finding front QnaWorld input old one other tells alike (v, rest, is, did) (v', rest', is', did') =
+    world_once one_run front input tells.held old.sink one.sink other.sink tells.holds v rest is did v' rest' is' did'
+bytes_once one_run finding front Check input old one other tells alike (fixlets, baselines, found, is) (fixlets', baselines', found', is') =
+    let same = finding input (Good fixlets baselines) (Good fixlets' baselines') found found' (λ e. cc) (λ e. cc) in
+    bytes_fixed old.sink.held one.sink.held other.sink.held tells.held (finding_line (Good fixlets baselines)) (finding_line (Good fixlets' baselines')) tells.holds (ap finding_line same) is is'
+bytes_once one_run finding front (Make number) input old one other tells alike did did' =
+    bytes_fixed old.sink.held one.sink.held other.sink.held tells.held (office_of number) (office_of number) tells.holds refl did did'
+bytes_once one_run finding front Help input old one other tells alike did did' =
+    bytes_fixed old.sink.held one.sink.held other.sink.held tells.held help_text help_text tells.holds refl did did'
 
-pub looks_once : OneRun → (w : WorldState) (input held a b : List ℕ) (looked keys others : List Key) (faults : ℕ) (given after : List ℤ) → faults < 2 ^ 64 - 1
-    → Did Qna (Some w) input (telling held looked faults given) (telling a keys faults after)
-    → Did Qna (Some w) input (telling held looked faults given) (telling b others faults after) → keys ≡ others
-looks_once one_run w input held a b looked keys others faults given after below did did' =
-    (qna_once one_run w input held a b looked keys others faults given after below did did').1
+pub looks_once : OneRun → (input : List ℕ) (old one other : Devices) → TellsAll old → RanAlike old one other
+    → Did Qna input old one → Did Qna input old other → one.machine.looked ≡ other.machine.looked
+looks_once one_run input old one other tells alike did did' = (qna_once one_run input old one other tells alike did did').1
 
 -- an input has one first bad line
 one_bad_line : OneFront → (input : List ℕ) (m n : ℕ) → IsBadInput input m → IsBadInput input n → m ≡ n

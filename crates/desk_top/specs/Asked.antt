@@ -1,46 +1,66 @@
 -- How questions to a machine or a described world end, and a check of a site. Only private functions cite these definitions.
-use Rattle.std.specs.Prelude.{⊤, ℕ, List, None, Some}
+use Rattle.std.specs.Prelude.{◌⊎◌, ℕ, List, length, None, Some}
 use Rattle.std.specs.declared.option.Option.{Option}
-use Rattle.rel_session.specs.Devices.{Devices, devices_of}
+use Rattle.std.specs.Io.KnownBytes.{Appends}
+use Rattle.desk_base.specs.Flow.{AppendsFront}
+use Rattle.desk_base.specs.Views.{SinkView, ClockView}
+use Rattle.bf_world.specs.Worlds.{WorldState}
+use Rattle.bf_machine.specs.Views.{MachineView}
+use Rattle.rel_session.specs.Devices.{Devices, devices}
 use Rattle.site_check.specs.declared.finding.Finding.{Finding}
 use Rattle.site_check.specs.declared.finding.Finding.TheVariants as finding
+use Rattle.desk_top.specs.declared.command.DeskCommand.{DeskCommand}
+use Rattle.desk_top.specs.declared.command.DeskCommand.TheVariants.{Qna}
 use Rattle.desk_top.specs.declared.status.Status.{Status}
 use Rattle.desk_top.specs.declared.status.Status.TheVariants.{Done, Refused, Sink, Clock, Memory}
+use Rattle.desk_top.specs.Said.{Began, Did, DidDescribed, DidDescribedFront, IsGoodInput, IsRefused}
+use Rattle.desk_top.specs.WorldInputs.{bad_line}
 
--- devices of which only the bytes that the sink holds count
-abbrev pub holding : Option (List ℕ) → Devices
-holding held = devices_of held None 0 None
+-- what a machine over a described world tells: the world, and no fault
+abbrev pub described : WorldState → MachineView
+described w = record { world = Some w; looked = None; acted = None; polled = None; started = length w.started; faults = 0 }
 
--- a status with which questions to this machine end
-abbrev pub IsMachineStatus : Status → Type 0
-IsMachineStatus Done = ⊤
-IsMachineStatus Sink = ⊤
-IsMachineStatus Clock = ⊤
-IsMachineStatus Memory = ⊤
-IsMachineStatus _ = ⊥
+-- a machine and a clock that tell nothing
+abbrev pub no_machine : MachineView
+no_machine = record { world = None; looked = None; acted = None; polled = None; started = 0; faults = 0 }
 
--- a status with which a command ends that reads its input and asks no device: questions to the described world of an input, and a
--- check of a site
-abbrev pub IsTextStatus : Status → Type 0
-IsTextStatus Done = ⊤
-IsTextStatus Refused = ⊤
-IsTextStatus Sink = ⊤
-IsTextStatus Memory = ⊤
-IsTextStatus _ = ⊥
+abbrev pub no_clock : ClockView
+no_clock = record { given = None; faults = 0 }
 
--- a status with which questions to a described world that was read end
-abbrev pub IsDescribedStatus : Status → Type 0
-IsDescribedStatus Done = ⊤
-IsDescribedStatus Sink = ⊤
-IsDescribedStatus Memory = ⊤
-IsDescribedStatus _ = ⊥
+-- devices of which only the sink counts
+abbrev pub holding : SinkView → Devices
+holding sink = devices sink no_machine no_clock
 
--- a status with which a refusal ends
-abbrev pub IsRefusalStatus : Status → Type 0
-IsRefusalStatus Refused = ⊤
-IsRefusalStatus Sink = ⊤
-IsRefusalStatus Memory = ⊤
-IsRefusalStatus _ = ⊥
+-- How questions to this machine end.
+abbrev pub MachineEnds : Status → List ℕ → Devices → Devices → Type 0
+MachineEnds Done input old new = Did Qna input old new
+MachineEnds Sink input old new = Began Qna input old new
+MachineEnds Clock input old new = Began Qna input old new
+MachineEnds Memory input old new = Began Qna input old new
+MachineEnds _ input old new = ⊥
+
+-- How a command ends that reads its input and asks no device: questions to the described world of an input, or a check of a site.
+-- Unwritten says that nothing was written.
+abbrev pub TextEnds : DeskCommand → Status → List ℕ → SinkView → SinkView → Type 0 → Type 0
+TextEnds command Done input old new Unwritten = Did command input (holding old) (holding new)
+TextEnds command Refused input old new Unwritten = IsRefused command input (Appends old.held new.held) × ¬ IsGoodInput command input
+TextEnds command Sink input old new Unwritten = Began command input (holding old) (holding new)
+TextEnds command Memory input old new Unwritten = Unwritten ⊎ Began command input (holding old) (holding new)
+TextEnds command _ input old new Unwritten = ⊥
+
+-- How questions to a described world end that was read.
+abbrev pub DescribedEnds : Status → WorldState → List ℕ → SinkView → SinkView → Type 0
+DescribedEnds Done world lines old new = DidDescribed world lines old new
+DescribedEnds Sink world lines old new = DidDescribedFront world lines old new
+DescribedEnds Memory world lines old new = DidDescribedFront world lines old new
+DescribedEnds _ world lines old new = ⊥
+
+-- How the refusal of a world text ends.
+abbrev pub RefusalEnds : Status → ℕ → SinkView → SinkView → Type 0
+RefusalEnds Refused number old new = Appends old.held new.held (bad_line number)
+RefusalEnds Sink number old new = AppendsFront old.held new.held (bad_line number)
+RefusalEnds Memory number old new = AppendsFront old.held new.held (bad_line number)
+RefusalEnds _ number old new = ⊥
 
 -- the status with which a check ends once this finding was written
 abbrev pub status_of_finding : Finding → Option Status

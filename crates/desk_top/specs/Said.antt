@@ -1,8 +1,9 @@
 -- What a command does, where that input was read from the source.
-use Rattle.std.specs.Prelude.{◌≡◌, ◌⊎◌, ⊤, ℕ, ℤ, pos, List, All, Option, None, Some}
+use Rattle.std.specs.Prelude.{◌≡◌, ◌⊎◌, ⊤, ℕ, pos, ℤ, List, All, None, Some}
 use Rattle.std.specs.Io.KnownBytes.{Appends}
 use Rattle.bf_world.specs.Worlds.{WorldState}
 use Rattle.desk_base.specs.Flow.{AppendsFront, AppendsSome, IsFront}
+use Rattle.desk_base.specs.Views.{SinkView}
 use Rattle.rel_session.specs.Lines.{lines_of}
 use Rattle.rel_session.specs.Sessions.{Run, Runs, IsFrontOfRun, fresh}
 use Rattle.rel_session.specs.Devices.{Devices, DidAll, DidFront}
@@ -17,22 +18,24 @@ use Rattle.desk_top.specs.Commands.{help_text}
 use Rattle.desk_top.specs.WorldInputs.{IsBadInput, IsWorldInput, bad_line}
 
 -- The lines are answered by a described world, at its moment and in its offset. No look fails.
-abbrev pub DidDescribed : WorldState → List ℕ → Devices → Devices → Type 0
+abbrev pub DidDescribed : WorldState → List ℕ → SinkView → SinkView → Type 0
 DidDescribed w rest old new = (moments : List ℤ) × (run : Run) × Runs (Some w) w.offset fresh (lines_of rest) moments run
     × All (λ moment. moment ≡ w.moment) moments × (run.faults ≡ 0) × Appends old.held new.held run.bytes
 
 -- A front of that was done.
-abbrev pub DidDescribedFront : WorldState → List ℕ → Devices → Devices → Type 0
+abbrev pub DidDescribedFront : WorldState → List ℕ → SinkView → SinkView → Type 0
 DidDescribedFront w rest old new = (moments : List ℤ) × (front : Run) × IsFrontOfRun (Some w) w.offset fresh (lines_of rest) moments front
     × All (λ moment. moment ≡ w.moment) moments × (front.faults ≡ 0) × Appends old.held new.held front.bytes
 
 -- A command did all that it is to do. The questions of `qna` are answered in the offset 0, by the machine's world where that is told.
-abbrev pub Did : DeskCommand → Option WorldState → List ℕ → Devices → Devices → Type 0
-Did Qna world input old new = DidAll world (pos 0) fresh (lines_of input) None old new
-Did QnaWorld world input old new = (w : WorldState) × (rest : List ℕ) × IsWorldInput input w rest × DidDescribed w rest old new
-Did Check world input old new = (fixlets baselines : ℕ) × Finds input (Good fixlets baselines) × Appends old.held new.held (finding_line (Good fixlets baselines))
-Did (Make number) world input old new = Appends old.held new.held (office_of number)
-Did Help world input old new = Appends old.held new.held help_text
+abbrev pub Did : DeskCommand → List ℕ → Devices → Devices → Type 0
+Did Qna input old new = DidAll (pos 0) fresh (lines_of input) None old new
+Did QnaWorld input old new = (w : WorldState) × (rest : List ℕ) × IsWorldInput input w rest × DidDescribed w rest old.sink new.sink
+Did Check input old new =
+    (fixlets baselines : ℕ) × Finds input (Good fixlets baselines)
+    × Appends old.sink.held new.sink.held (finding_line (Good fixlets baselines))
+Did (Make number) input old new = Appends old.sink.held new.sink.held (office_of number)
+Did Help input old new = Appends old.sink.held new.sink.held help_text
 
 -- What is found in a site's text is a refusal.
 abbrev pub IsRefusal : Finding → Type 0
@@ -53,16 +56,17 @@ abbrev pub IsRefused : DeskCommand → List ℕ → (List ℕ → Type 0) → Ty
 IsRefused command input P = (line : List ℕ) × Refuses command input line × P line
 
 -- A front of it was done.
-abbrev pub Began : DeskCommand → Option WorldState → List ℕ → Devices → Devices → Type 0
-Began Qna world input old new = DidFront world (pos 0) fresh (lines_of input) None old new
-Began QnaWorld world input old new =
-    ((w : WorldState) × (rest : List ℕ) × IsWorldInput input w rest × DidDescribedFront w rest old new)
-    ⊎ IsRefused QnaWorld input (AppendsFront old.held new.held)
-Began Check world input old new =
-    ((fixlets baselines : ℕ) × Finds input (Good fixlets baselines) × AppendsFront old.held new.held (finding_line (Good fixlets baselines)))
-    ⊎ IsRefused Check input (AppendsFront old.held new.held)
-Began (Make number) world input old new = AppendsSome old.held new.held (IsFront (office_of number))
-Began Help world input old new = AppendsSome old.held new.held (IsFront help_text)
+abbrev pub Began : DeskCommand → List ℕ → Devices → Devices → Type 0
+Began Qna input old new = DidFront (pos 0) fresh (lines_of input) None old new
+Began QnaWorld input old new =
+    ((w : WorldState) × (rest : List ℕ) × IsWorldInput input w rest × DidDescribedFront w rest old.sink new.sink)
+    ⊎ IsRefused QnaWorld input (AppendsFront old.sink.held new.sink.held)
+Began Check input old new =
+    ((fixlets baselines : ℕ) × Finds input (Good fixlets baselines)
+    × AppendsFront old.sink.held new.sink.held (finding_line (Good fixlets baselines)))
+    ⊎ IsRefused Check input (AppendsFront old.sink.held new.sink.held)
+Began (Make number) input old new = AppendsSome old.sink.held new.sink.held (IsFront (office_of number))
+Began Help input old new = AppendsSome old.sink.held new.sink.held (IsFront help_text)
 
 -- The command asks the machine and the clock.
 abbrev pub AsksDevices : DeskCommand → Type 0

@@ -1,5 +1,5 @@
 -- Statuses.
-use Rattle.std.specs.Prelude.{ℕ, ⊤}
+use Rattle.std.specs.Prelude.{ℕ}
 use Rattle.desk_top.specs.declared.status.Status.{Status}
 use Rattle.desk_top.specs.declared.status.Status.TheVariants.{Done, Usage, Refused, Source, Sink, Clock, Pocket, Keeper, Door, Memory, InputTooLong}
 use Rattle.rel_session.specs.declared.halt.Halt.{Halt}
@@ -24,10 +24,3 @@ abbrev pub status_of : Halt → Status
 status_of halt.Sink = Sink
 status_of halt.Clock = Clock
 status_of halt.Memory = Memory
-
--- a status with which the commands that there are so far can end
-abbrev pub IsStatusSoFar : Status → Type 0
-IsStatusSoFar Pocket = ⊥
-IsStatusSoFar Keeper = ⊥
-IsStatusSoFar Door = ⊥
-IsStatusSoFar _ = ⊤

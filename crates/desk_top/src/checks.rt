@@ -1,11 +1,10 @@
 // What is wrong first with a site.
-ghost use Rattle.std.specs.Prelude.{◌≡◌, ◌≢◌, ◌≤◌, ◌⊎◌, None, IsErrOf, MatchResult};
+ghost use Rattle.std.specs.Prelude.{◌≡◌, None, IsErrOf, MatchResult};
 ghost use Rattle.std.specs.Io.KnownBytes.{Appends};
-ghost use Rattle.desk_base.specs.Counts.{Rose};
+ghost use Rattle.desk_base.specs.Counts.{CountsFaults};
 ghost use Rattle.desk_base.specs.Flow.{AppendsFront};
 ghost use Rattle.site_check.specs.Lines.{finding_line};
-ghost use Rattle.desk_top.specs.Asked.{holding, status_of_finding, IsTextStatus};
-ghost use Rattle.desk_top.specs.Said.{Began, Did, IsGoodInput, IsRefused};
+ghost use Rattle.desk_top.specs.Asked.{TextEnds, status_of_finding};
 
 use crate::{DeskCommand, Status};
 use desk_base::{Bytes, Sink};
@@ -15,18 +14,8 @@ use std::alloc::Global;
 
 /// Writes what is found first in the text of a site.
 pub(crate) fn check_input<W: Sink>(alloc: Global, input: &[u8], sink: &mut W) -> Status
-    ensures done { result ≡ Status.Done → Did DeskCommand.Check None input.now
-        (holding (W.held sink.old)) (holding (W.held sink.new)) }
-    ensures refused { result ≡ Status.Refused → IsRefused DeskCommand.Check input.now (Appends (W.held sink.old) (W.held sink.new)) }
-    ensures apart { result ≡ Status.Refused → ¬ IsGoodInput DeskCommand.Check input.now }
-    ensures sink_front { result ≡ Status.Sink → Began DeskCommand.Check None input.now
-        (holding (W.held sink.old)) (holding (W.held sink.new)) }
-    ensures memory { result ≡ Status.Memory → (sink.new ≡ sink.old) ⊎ Began DeskCommand.Check None input.now
-        (holding (W.held sink.old)) (holding (W.held sink.new)) }
-    ensures status { IsTextStatus result }
-    ensures later { W.faults sink.old ≤ W.faults sink.new }
-    ensures failed { result ≡ Status.Sink → Rose (W.faults sink.old) (W.faults sink.new) }
-    ensures steady { result ≢ Status.Sink → W.faults sink.new ≡ W.faults sink.old }
+    ensures ends { TextEnds DeskCommand.Check result input.now (W.told sink.old) (W.told sink.new) (sink.new ≡ sink.old) }
+    ensures counts { CountsFaults (result ≡ Status.Sink) (W.told sink.old).faults (W.told sink.new).faults }
 {
     // Proof: a text with another finding is no good one.
     one_finding();
@@ -54,11 +43,9 @@ fn status_of_finding(finding: &Finding) -> Option<Status>
 /// Writes the line that tells a finding.
 fn write_finding<W: Sink>(alloc: Global, finding: &Finding, sink: &mut W) -> Result<(), Halt>
     ensures written { MatchResult result
-        (λ _. Appends (W.held sink.old) (W.held sink.new) (finding_line finding.now))
-        (λ _. AppendsFront (W.held sink.old) (W.held sink.new) (finding_line finding.now)) }
-    ensures later { W.faults sink.old ≤ W.faults sink.new }
-    ensures failed { IsErrOf result Halt.Sink → Rose (W.faults sink.old) (W.faults sink.new) }
-    ensures steady { ¬ IsErrOf result Halt.Sink → W.faults sink.new ≡ W.faults sink.old }
+        (λ _. Appends (W.told sink.old).held (W.told sink.new).held (finding_line finding.now))
+        (λ _. AppendsFront (W.told sink.old).held (W.told sink.new).held (finding_line finding.now)) }
+    ensures counts { CountsFaults (IsErrOf result Halt.Sink) (W.told sink.old).faults (W.told sink.new).faults }
     ensures never { ¬ IsErrOf result Halt.Clock }
 {
     let mut line = Bytes::new(alloc);

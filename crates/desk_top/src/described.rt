@@ -1,6 +1,7 @@
 // What a described world is asked through. Nothing fails there.
-ghost use Rattle.std.specs.Prelude.{[], None, Some, length};
+ghost use Rattle.std.specs.Prelude.{[]};
 ghost use Rattle.bf_machine.specs.Plain.{counted, unasked};
+ghost use Rattle.desk_top.specs.Asked.{described, no_clock};
 
 use bf_machine::{Looked, Machine};
 use bf_world::{Acted, Command, Key, Polled, ProcessNo, World};
@@ -15,17 +16,7 @@ pub(crate) struct DescribedMachine {
 }
 
 impl Machine for DescribedMachine {
-    ghost world = { λ m. Some m.world };
-
-    ghost looked = { λ _. None };
-
-    ghost acted = { λ _. None };
-
-    ghost polled = { λ _. None };
-
-    ghost started = { λ m. length m.world.started };
-
-    ghost faults = { λ _. 0 };
+    ghost told = { λ m. described m.world };
 
     fn open(&mut self, _work: &Text) -> Result<(), AllocError> {
         Ok(())
@@ -54,9 +45,7 @@ impl Machine for DescribedMachine {
 pub(crate) struct NoClock;
 
 impl Clock for NoClock {
-    ghost given = { λ _. None };
-
-    ghost faults = { λ _. 0 };
+    ghost told = { λ _. no_clock };
 
     fn now(&mut self) -> Told {
         Told::Moment(0)

@@ -1,12 +1,11 @@
 // Questions to this machine, and to a described world.
-ghost use Rattle.std.specs.Prelude.{◌≡◌, ◌≢◌, ◌≤◌, ◌⊎◌, ◌++◌, None, IsErrOf, MatchResult, OnOk};
+ghost use Rattle.std.specs.Prelude.{◌≡◌, ◌++◌, None, IsErrOf, MatchResult, OnOk};
 ghost use Rattle.std.specs.Io.KnownBytes.{Appends};
-ghost use Rattle.desk_base.specs.Counts.{Rose};
+ghost use Rattle.desk_base.specs.Counts.{CountsFaults};
 ghost use Rattle.desk_base.specs.Flow.{AppendsFront};
-ghost use Rattle.desk_top.specs.Asked.{holding, IsMachineStatus, IsTextStatus, IsDescribedStatus, IsRefusalStatus};
-ghost use Rattle.desk_top.specs.Said.{Began, Did, DidDescribed, DidDescribedFront, IsGoodInput, IsRefused};
+ghost use Rattle.desk_top.specs.Asked.{DescribedEnds, MachineEnds, RefusalEnds, TextEnds};
 ghost use Rattle.desk_top.specs.WorldInputs.{bad_line};
-ghost use Rattle.rel_session.specs.Devices.{devices_of};
+ghost use Rattle.rel_session.specs.Devices.{OnlyAsks, devices};
 
 use crate::described::{DescribedMachine, NoClock};
 use crate::{DeskCommand, Status};
@@ -25,24 +24,12 @@ pub(crate) fn ask_machine<W: Sink, M: Machine, C: Clock>(
     machine: &mut M,
     clock: &mut C,
 ) -> Status
-    ensures done { result ≡ Status.Done → Did DeskCommand.Qna (M.world machine.old) input.now
-        (devices_of (W.held sink.old) (M.looked machine.old) (M.faults machine.old) (C.given clock.old))
-        (devices_of (W.held sink.new) (M.looked machine.new) (M.faults machine.new) (C.given clock.new)) }
-    ensures began { result ≢ Status.Done → Began DeskCommand.Qna (M.world machine.old) input.now
-        (devices_of (W.held sink.old) (M.looked machine.old) (M.faults machine.old) (C.given clock.old))
-        (devices_of (W.held sink.new) (M.looked machine.new) (M.faults machine.new) (C.given clock.new)) }
-    ensures status { IsMachineStatus result }
-    ensures world { M.world machine.new ≡ M.world machine.old }
-    ensures acted { M.acted machine.new ≡ M.acted machine.old }
-    ensures polled { M.polled machine.new ≡ M.polled machine.old }
-    ensures started { M.started machine.new ≡ M.started machine.old }
-    ensures machine_later { M.faults machine.old ≤ M.faults machine.new }
-    ensures later { W.faults sink.old ≤ W.faults sink.new }
-    ensures failed { result ≡ Status.Sink → Rose (W.faults sink.old) (W.faults sink.new) }
-    ensures steady { result ≢ Status.Sink → W.faults sink.new ≡ W.faults sink.old }
-    ensures clock_later { C.faults clock.old ≤ C.faults clock.new }
-    ensures clock_failed { result ≡ Status.Clock → Rose (C.faults clock.old) (C.faults clock.new) }
-    ensures clock_steady { result ≢ Status.Clock → C.faults clock.new ≡ C.faults clock.old }
+    ensures ends { MachineEnds result input.now
+        (devices (W.told sink.old) (M.told machine.old) (C.told clock.old))
+        (devices (W.told sink.new) (M.told machine.new) (C.told clock.new)) }
+    ensures only { OnlyAsks (result ≡ Status.Sink) (result ≡ Status.Clock)
+        (devices (W.told sink.old) (M.told machine.old) (C.told clock.old))
+        (devices (W.told sink.new) (M.told machine.new) (C.told clock.new)) }
 {
     let asking = Asking {
         offset: 0,
@@ -56,18 +43,8 @@ pub(crate) fn ask_machine<W: Sink, M: Machine, C: Clock>(
 
 /// Reads the world text that an input begins with, and answers the lines behind it by that world.
 pub(crate) fn ask_world<W: Sink>(alloc: Global, input: &[u8], sink: &mut W) -> Status
-    ensures done { result ≡ Status.Done → Did DeskCommand.QnaWorld None input.now
-        (holding (W.held sink.old)) (holding (W.held sink.new)) }
-    ensures refused { result ≡ Status.Refused → IsRefused DeskCommand.QnaWorld input.now (Appends (W.held sink.old) (W.held sink.new)) }
-    ensures apart { result ≡ Status.Refused → ¬ IsGoodInput DeskCommand.QnaWorld input.now }
-    ensures sink_front { result ≡ Status.Sink → Began DeskCommand.QnaWorld None input.now
-        (holding (W.held sink.old)) (holding (W.held sink.new)) }
-    ensures memory { result ≡ Status.Memory → (sink.new ≡ sink.old) ⊎ Began DeskCommand.QnaWorld None input.now
-        (holding (W.held sink.old)) (holding (W.held sink.new)) }
-    ensures status { IsTextStatus result }
-    ensures later { W.faults sink.old ≤ W.faults sink.new }
-    ensures failed { result ≡ Status.Sink → Rose (W.faults sink.old) (W.faults sink.new) }
-    ensures steady { result ≢ Status.Sink → W.faults sink.new ≡ W.faults sink.old }
+    ensures ends { TextEnds DeskCommand.QnaWorld result input.now (W.told sink.old) (W.told sink.new) (sink.new ≡ sink.old) }
+    ensures counts { CountsFaults (result ≡ Status.Sink) (W.told sink.old).faults (W.told sink.new).faults }
 {
     // so that an input that is refused is none with the text of a world
     one_front();
@@ -82,14 +59,8 @@ pub(crate) fn ask_world<W: Sink>(alloc: Global, input: &[u8], sink: &mut W) -> S
 
 /// Answers lines by a described world, at its moment and in its offset.
 fn ask_described<W: Sink>(alloc: Global, world: World, lines: &[u8], sink: &mut W) -> Status
-    ensures done { result ≡ Status.Done → DidDescribed world lines.now
-        (holding (W.held sink.old)) (holding (W.held sink.new)) }
-    ensures began { result ≢ Status.Done → DidDescribedFront world lines.now
-        (holding (W.held sink.old)) (holding (W.held sink.new)) }
-    ensures status { IsDescribedStatus result }
-    ensures later { W.faults sink.old ≤ W.faults sink.new }
-    ensures failed { result ≡ Status.Sink → Rose (W.faults sink.old) (W.faults sink.new) }
-    ensures steady { result ≢ Status.Sink → W.faults sink.new ≡ W.faults sink.old }
+    ensures ends { DescribedEnds result world lines.now (W.told sink.old) (W.told sink.new) }
+    ensures counts { CountsFaults (result ≡ Status.Sink) (W.told sink.old).faults (W.told sink.new).faults }
 {
     let asking = Asking {
         offset: world.offset(),
@@ -104,12 +75,8 @@ fn ask_described<W: Sink>(alloc: Global, world: World, lines: &[u8], sink: &mut 
 
 /// Writes the refusal of a world text, alone.
 fn refuse<W: Sink>(alloc: Global, number: u32, sink: &mut W) -> Status
-    ensures refused { result ≡ Status.Refused → Appends (W.held sink.old) (W.held sink.new) (bad_line number) }
-    ensures began { result ≢ Status.Refused → AppendsFront (W.held sink.old) (W.held sink.new) (bad_line number) }
-    ensures status { IsRefusalStatus result }
-    ensures later { W.faults sink.old ≤ W.faults sink.new }
-    ensures failed { result ≡ Status.Sink → Rose (W.faults sink.old) (W.faults sink.new) }
-    ensures steady { result ≢ Status.Sink → W.faults sink.new ≡ W.faults sink.old }
+    ensures ends { RefusalEnds result number (W.told sink.old) (W.told sink.new) }
+    ensures counts { CountsFaults (result ≡ Status.Sink) (W.told sink.old).faults (W.told sink.new).faults }
 {
     match write_bad_line(alloc, number, sink) {
         Ok(()) => Status::Refused,
@@ -119,11 +86,9 @@ fn refuse<W: Sink>(alloc: Global, number: u32, sink: &mut W) -> Status
 
 fn write_bad_line<W: Sink>(alloc: Global, number: u32, sink: &mut W) -> Result<(), Halt>
     ensures written { MatchResult result
-        (λ _. Appends (W.held sink.old) (W.held sink.new) (bad_line number))
-        (λ _. AppendsFront (W.held sink.old) (W.held sink.new) (bad_line number)) }
-    ensures later { W.faults sink.old ≤ W.faults sink.new }
-    ensures failed { IsErrOf result Halt.Sink → Rose (W.faults sink.old) (W.faults sink.new) }
-    ensures steady { ¬ IsErrOf result Halt.Sink → W.faults sink.new ≡ W.faults sink.old }
+        (λ _. Appends (W.told sink.old).held (W.told sink.new).held (bad_line number))
+        (λ _. AppendsFront (W.told sink.old).held (W.told sink.new).held (bad_line number)) }
+    ensures counts { CountsFaults (IsErrOf result Halt.Sink) (W.told sink.old).faults (W.told sink.new).faults }
     ensures never { ¬ IsErrOf result Halt.Clock }
 {
     let mut line = Bytes::new(alloc);

@@ -7,7 +7,8 @@ ghost use Rattle.office_text.specs.Offices.{IsOffice, ReadsOffice};
 
 /// Lines are those of one list of orders at most.
 pub fn one_office()
-    ensures { (lines : List (List ℕ)) (orders other : List Order) → IsOffice orders lines → IsOffice other lines → other ≡ orders }
+    ensures { (lines : List (List ℕ)) (orders other : List Order) → IsOffice orders lines → IsOffice other lines
+        → other ≡ orders }
 {}
 
 /// A text that is that of an office is read as its orders, or want of memory stands in their place.

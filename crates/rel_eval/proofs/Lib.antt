@@ -3,7 +3,6 @@ pub mod Untyped
 pub mod Skips
 pub mod Stops
 pub mod Drawn
-pub mod Causes
 pub mod Nearer
 pub mod Uses
 pub mod Singles

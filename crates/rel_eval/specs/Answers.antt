@@ -72,7 +72,7 @@ Handed takes old ended.Enough new = (vs : List Plain) × (last : Plain) × TookL
 Handed takes old ended.Memory new = ((vs : List Plain) × Took takes old vs new) ⊎ ((vs : List Plain) × (last : Plain) × TookLast takes old vs last take.Memory new)
 Handed takes old _ new = (vs : List Plain) × Took takes old vs new
 
--- a look fails only where the machine's count of faults rose
+-- A look fails only where the count of faults went up, and else the count stays.
 abbrev pub EndHasCause : ℕ → ℕ → Ended → Type 0
 EndHasCause old new (ended.Failed place) = Rose old new
-EndHasCause old new _ = Unit {0}
+EndHasCause old new _ = new ≡ old

@@ -39,10 +39,10 @@ abbrev pub Nearer : Pulled → ℕ → ℕ → Type 0
 Nearer (pulled.Value v) old new = new < old
 Nearer _ old new = Unit {0}
 
--- a look fails only where the machine's count of faults rose
+-- A look fails only where the count of faults went up, and else the count stays.
 abbrev pub HasCause : ℕ → ℕ → Pulled → Type 0
 HasCause old new (pulled.Failed place) = Rose old new
-HasCause old new _ = Unit {0}
+HasCause old new _ = new ≡ old
 
 -- a value that is given is sound
 abbrev pub GivesSound : Pulled → Type 0

@@ -1,5 +1,5 @@
 -- Drawing a question for its one value. No public contract speaks of it.
-use Rattle.std.specs.Prelude.{ℕ, List}
+use Rattle.std.specs.Prelude.{◌≡◌, ℕ, List}
 use Rattle.std.specs.declared.option.Option.{Option}
 use Rattle.desk_base.specs.Counts.{Rose}
 use Rattle.bf_machine.specs.Told.{Grows}
@@ -29,4 +29,4 @@ OneIsSound _ = Unit {0}
 
 abbrev pub OneHasCause : ℕ → ℕ → OneValue → Type 0
 OneHasCause old new (drawn.Failed place) = Rose old new
-OneHasCause old new _ = Unit {0}
+OneHasCause old new _ = new ≡ old

@@ -1,5 +1,6 @@
-ghost use Rattle.std.specs.Prelude.{◌≡◌, ◌≤◌, Some};
+ghost use Rattle.std.specs.Prelude.{◌≡◌, Some};
 ghost use Rattle.desk_base.specs.Moments.{IsMoment};
+ghost use Rattle.bf_machine.specs.Views.{OnlyLooks};
 ghost use Rattle.line_forms.specs.Numbers.{IsOffset};
 ghost use Rattle.bf_world.specs.Worlds.{WorldState};
 ghost use Rattle.rel_eval.specs.Answers.{Answers, EndHasCause, Handed};
@@ -24,16 +25,12 @@ impl Question {
     ) -> Ended
         requires moment { IsMoment scene.now.moment }
         requires offset { IsOffset scene.now.offset }
-        ensures answers { (w : WorldState) → M.world machine.old ≡ Some w
-            → Answers T.takes (M.looked machine.old) (meaning w scene.now (plan_of self.now)) taker.old result
-            (M.looked machine.new) taker.new }
+        ensures answers { (w : WorldState) → (M.told machine.old).world ≡ Some w
+            → Answers T.takes (M.told machine.old).looked (meaning w scene.now (plan_of self.now)) taker.old result
+            (M.told machine.new).looked taker.new }
         ensures handed { Handed T.takes taker.old result taker.new }
-        ensures cause { EndHasCause (M.faults machine.old) (M.faults machine.new) result }
-        ensures later { M.faults machine.old ≤ M.faults machine.new }
-        ensures world { M.world machine.new ≡ M.world machine.old }
-        ensures acted { M.acted machine.new ≡ M.acted machine.old }
-        ensures polled { M.polled machine.new ≡ M.polled machine.old }
-        ensures started { M.started machine.new ≡ M.started machine.old }
+        ensures cause { EndHasCause (M.told machine.old).faults (M.told machine.new).faults result }
+        ensures looks { OnlyLooks (M.told machine.old) (M.told machine.new) }
     {
         let mut cursor = match self.open(alloc, scene) {
             Ok(cursor) => cursor,

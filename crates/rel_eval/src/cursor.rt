@@ -1,4 +1,5 @@
-ghost use Rattle.std.specs.Prelude.{◌≡◌, ◌≢◌, ◌≤◌, ℕ, List, [], Some};
+ghost use Rattle.std.specs.Prelude.{◌≡◌, ◌≢◌, ℕ, List, [], Some};
+ghost use Rattle.bf_machine.specs.Views.{OnlyLooks};
 ghost use Rattle.bf_world.specs.declared.key.Key.{Key};
 ghost use Rattle.bf_world.specs.Worlds.{WorldState};
 ghost use Rattle.rel_trace.specs.Steps as steps;
@@ -86,19 +87,16 @@ impl Cursor {
 
     /// Draws the next value.
     pub fn pull<M: Machine>(&mut self, machine: &mut M) -> Pulled
-        ensures goes { (w : WorldState) → M.world machine.old ≡ Some w
-            → Draws (M.looked machine.old) (cursor_rest w self.old) result (M.looked machine.new) (cursor_rest w self.new) }
+        ensures goes { (w : WorldState) → (M.told machine.old).world ≡ Some w
+            → Draws (M.told machine.old).looked (cursor_rest w self.old) result
+            (M.told machine.new).looked (cursor_rest w self.new) }
         ensures state { self.new.state ≡ after_pull result }
         ensures again { AsState self.old.state result }
         ensures still { self.old.state ≢ State.Open → machine.new ≡ machine.old }
         ensures sound { GivesSound result }
         ensures nearer { Nearer result (weight self.old) (weight self.new) }
-        ensures cause { HasCause (M.faults machine.old) (M.faults machine.new) result }
-        ensures later { M.faults machine.old ≤ M.faults machine.new }
-        ensures world { M.world machine.new ≡ M.world machine.old }
-        ensures acted { M.acted machine.new ≡ M.acted machine.old }
-        ensures polled { M.polled machine.new ≡ M.polled machine.old }
-        ensures started { M.started machine.new ≡ M.started machine.old }
+        ensures cause { HasCause (M.told machine.old).faults (M.told machine.new).faults result }
+        ensures looks { OnlyLooks (M.told machine.old) (M.told machine.new) }
     {
         match self.state {
             State::Open => {}

@@ -1,5 +1,6 @@
-ghost use Rattle.std.specs.Prelude.{◌≡◌, ◌≤◌, ℕ, true, false, List, [], Some};
+ghost use Rattle.std.specs.Prelude.{◌≡◌, ℕ, true, false, List, [], Some};
 ghost use Rattle.desk_base.specs.Moments.{IsMoment};
+ghost use Rattle.bf_machine.specs.Views.{OnlyLooks};
 ghost use Rattle.line_forms.specs.Numbers.{IsOffset};
 ghost use Rattle.bf_world.specs.declared.key.Key.{Key};
 ghost use Rattle.bf_world.specs.Worlds.{WorldState};
@@ -35,16 +36,12 @@ pub fn one_text<M: Machine>(
     requires offset { IsOffset scene.now.offset }
     ensures plural { is_plural (plan_of question.now) ≡ true
         → (result ≡ OneText.Error RelKind.NotSingular (span_of_node (plan_of question.now))) × (machine.new ≡ machine.old) }
-    ensures words { is_plural (plan_of question.now) ≡ false → (w : WorldState) → M.world machine.old ≡ Some w
-        → Words (M.looked machine.old)
+    ensures words { is_plural (plan_of question.now) ≡ false → (w : WorldState) → (M.told machine.old).world ≡ Some w
+        → Words (M.told machine.old).looked
         (one_text_of (span_of_node (plan_of question.now)) scene.now.offset (meaning w scene.now (plan_of question.now))) result
-        (M.looked machine.new) }
-    ensures cause { TextHasCause (M.faults machine.old) (M.faults machine.new) result }
-    ensures later { M.faults machine.old ≤ M.faults machine.new }
-    ensures world { M.world machine.new ≡ M.world machine.old }
-    ensures acted { M.acted machine.new ≡ M.acted machine.old }
-    ensures polled { M.polled machine.new ≡ M.polled machine.old }
-    ensures started { M.started machine.new ≡ M.started machine.old }
+        (M.told machine.new).looked }
+    ensures cause { TextHasCause (M.told machine.old).faults (M.told machine.new).faults result }
+    ensures looks { OnlyLooks (M.told machine.old) (M.told machine.new) }
 {
     let span = question.span();
     if question.plan().is_plural() {
@@ -62,7 +59,8 @@ pub fn one_text<M: Machine>(
 fn told(alloc: Global, drawn: OneValue, offset: i64, span: Place) -> OneText
     requires offset { IsOffset offset }
     requires sound { OneIsSound drawn }
-    ensures tells { (t : Trace) (looks : List Key) → TellsOne t drawn looks → TellsText (each t (worded span offset)) result looks }
+    ensures tells { (t : Trace) (looks : List Key) → TellsOne t drawn looks
+        → TellsText (each t (worded span offset)) result looks }
     ensures cause { (before now : ℕ) → OneHasCause before now drawn → TextHasCause before now result }
 {
     match drawn {
@@ -78,7 +76,7 @@ fn worded(alloc: Global, value: &Value, offset: i64, span: Place) -> OneText
     requires offset { IsOffset offset }
     requires sound { IsSound (shown value.now) }
     ensures tells { TellsText (worded span offset (shown value.now)) result [] }
-    ensures cause { (before now : ℕ) → TextHasCause before now result }
+    ensures cause { (count : ℕ) → TextHasCause count count result }
 {
     match text(alloc, value, offset) {
         Ok(text) => OneText::Text(text),

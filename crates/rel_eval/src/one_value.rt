@@ -1,6 +1,7 @@
 // Drawing a question to its end for the one value that it gives.
-ghost use Rattle.std.specs.Prelude.{◌≡◌, ◌≤◌, Some};
+ghost use Rattle.std.specs.Prelude.{◌≡◌, Some};
 ghost use Rattle.desk_base.specs.Moments.{IsMoment};
+ghost use Rattle.bf_machine.specs.Views.{OnlyLooks};
 ghost use Rattle.line_forms.specs.Numbers.{IsOffset};
 ghost use Rattle.bf_world.specs.Worlds.{WorldState};
 ghost use Rattle.rel_value.specs.Operands.{IsSound};
@@ -39,15 +40,13 @@ pub(crate) fn one_value<M: Machine>(
 ) -> OneValue
     requires moment { IsMoment scene.now.moment }
     requires offset { IsOffset scene.now.offset }
-    ensures goes { (w : WorldState) → M.world machine.old ≡ Some w
-        → Ones (M.looked machine.old) (single (span_of_node (plan_of question.now)) (meaning w scene.now (plan_of question.now))) result (M.looked machine.new) }
+    ensures goes { (w : WorldState) → (M.told machine.old).world ≡ Some w
+        → Ones (M.told machine.old).looked
+        (single (span_of_node (plan_of question.now)) (meaning w scene.now (plan_of question.now))) result
+        (M.told machine.new).looked }
     ensures sound { OneIsSound result }
-    ensures cause { OneHasCause (M.faults machine.old) (M.faults machine.new) result }
-    ensures later { M.faults machine.old ≤ M.faults machine.new }
-    ensures world { M.world machine.new ≡ M.world machine.old }
-    ensures acted { M.acted machine.new ≡ M.acted machine.old }
-    ensures polled { M.polled machine.new ≡ M.polled machine.old }
-    ensures started { M.started machine.new ≡ M.started machine.old }
+    ensures cause { OneHasCause (M.told machine.old).faults (M.told machine.new).faults result }
+    ensures looks { OnlyLooks (M.told machine.old) (M.told machine.new) }
 {
     let span = question.span();
     let mut cursor = match question.open(alloc, scene) {
@@ -67,15 +66,12 @@ pub(crate) fn one_value<M: Machine>(
 /// A value that was given, where no other one follows.
 fn only<M: Machine>(value: Value, cursor: &mut Cursor, span: Place, machine: &mut M) -> OneValue
     requires sound { IsSound (shown value) }
-    ensures goes { (w : WorldState) → M.world machine.old ≡ Some w
-        → Ones (M.looked machine.old) (single_from span (Some (shown value)) (cursor_rest w cursor.old)) result (M.looked machine.new) }
+    ensures goes { (w : WorldState) → (M.told machine.old).world ≡ Some w
+        → Ones (M.told machine.old).looked (single_from span (Some (shown value)) (cursor_rest w cursor.old)) result
+        (M.told machine.new).looked }
     ensures sound { OneIsSound result }
-    ensures cause { OneHasCause (M.faults machine.old) (M.faults machine.new) result }
-    ensures later { M.faults machine.old ≤ M.faults machine.new }
-    ensures world { M.world machine.new ≡ M.world machine.old }
-    ensures acted { M.acted machine.new ≡ M.acted machine.old }
-    ensures polled { M.polled machine.new ≡ M.polled machine.old }
-    ensures started { M.started machine.new ≡ M.started machine.old }
+    ensures cause { OneHasCause (M.told machine.old).faults (M.told machine.new).faults result }
+    ensures looks { OnlyLooks (M.told machine.old) (M.told machine.new) }
 {
     match cursor.pull(machine) {
         Pulled::Value(_) => OneValue::Error(RelKind::NonUnique, span),

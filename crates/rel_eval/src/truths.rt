@@ -1,5 +1,6 @@
-ghost use Rattle.std.specs.Prelude.{◌≡◌, ◌≤◌, ℕ, true, false, List, [], Some};
+ghost use Rattle.std.specs.Prelude.{◌≡◌, ℕ, true, false, List, [], Some};
 ghost use Rattle.desk_base.specs.Moments.{IsMoment};
+ghost use Rattle.bf_machine.specs.Views.{OnlyLooks};
 ghost use Rattle.line_forms.specs.Numbers.{IsOffset};
 ghost use Rattle.bf_world.specs.declared.key.Key.{Key};
 ghost use Rattle.bf_world.specs.Worlds.{WorldState};
@@ -38,15 +39,12 @@ pub fn truth<M: Machine>(
     ensures other { is_plural (plan_of question.now) ≡ false → same_kind (kind_of (plan_of question.now)) booleans ≡ false
         → (result ≡ Truth.Error RelKind.Incompatible (span_of_node (plan_of question.now))) × (machine.new ≡ machine.old) }
     ensures judges { is_plural (plan_of question.now) ≡ false → same_kind (kind_of (plan_of question.now)) booleans ≡ true
-        → (w : WorldState) → M.world machine.old ≡ Some w
-        → Judges (M.looked machine.old) (truth_of (span_of_node (plan_of question.now)) (meaning w scene.now (plan_of question.now))) result
-        (M.looked machine.new) }
-    ensures cause { TruthHasCause (M.faults machine.old) (M.faults machine.new) result }
-    ensures later { M.faults machine.old ≤ M.faults machine.new }
-    ensures world { M.world machine.new ≡ M.world machine.old }
-    ensures acted { M.acted machine.new ≡ M.acted machine.old }
-    ensures polled { M.polled machine.new ≡ M.polled machine.old }
-    ensures started { M.started machine.new ≡ M.started machine.old }
+        → (w : WorldState) → (M.told machine.old).world ≡ Some w
+        → Judges (M.told machine.old).looked
+        (truth_of (span_of_node (plan_of question.now)) (meaning w scene.now (plan_of question.now))) result
+        (M.told machine.new).looked }
+    ensures cause { TruthHasCause (M.told machine.old).faults (M.told machine.new).faults result }
+    ensures looks { OnlyLooks (M.told machine.old) (M.told machine.new) }
 {
     let span = question.span();
     if question.plan().is_plural() {
@@ -74,7 +72,7 @@ fn told(drawn: OneValue, span: Place) -> Truth
 /// The truth of a value. One that is none is Incompatible at the question's span.
 fn judged(value: &Value, span: Place) -> Truth
     ensures tells { TellsTruth (judged span (shown value.now)) result [] }
-    ensures cause { (before now : ℕ) → TruthHasCause before now result }
+    ensures cause { (count : ℕ) → TruthHasCause count count result }
 {
     match value {
         Value::Boolean(true) => Truth::True,

@@ -95,8 +95,10 @@ fn phrase<'a>(
 ) -> Result<Read<'a>, ParseError>
     requires { depth ≤ 64 }
     ensures { MatchResult result
-        (λ r. (w : AnyWord) → first.now ≡ word_spelling w → PrimaryReads depth (shaped_at (word_shape w) place ∷ all_shaped rest.now) (shown r.0) (all_shaped r.1.now))
-        (λ e. (w : AnyWord) → first.now ≡ word_spelling w → ReferenceFails depth end (shaped_at (word_shape w) place ∷ all_shaped rest.now) e) }
+        (λ r. (w : AnyWord) → first.now ≡ word_spelling w
+        → PrimaryReads depth (shaped_at (word_shape w) place ∷ all_shaped rest.now) (shown r.0) (all_shaped r.1.now))
+        (λ e. (w : AnyWord) → first.now ≡ word_spelling w
+        → ReferenceFails depth end (shaped_at (word_shape w) place ∷ all_shaped rest.now) e) }
 {
     let (text, place, left) = read_words(first, place, rest)?;
     if let Some((open, next)) = after(left, Fixed::Sign(Sign::OpenBracket)) {

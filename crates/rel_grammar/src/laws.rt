@@ -43,7 +43,8 @@ pub fn one_tree()
 /// A name in memory shows its place, its words and its parts, and a list in memory what its items show, in their order.
 pub fn what_trees_show()
     ensures name { (place : Place) (words : List ℕ) (argument filter object : Option (Box Tree Global))
-        → shown (Phrase place words argument filter object) ≡ phrase place words (shown_held argument) (shown_held filter) (shown_held object) }
+        → shown (Phrase place words argument filter object)
+        ≡ phrase place words (shown_held argument) (shown_held filter) (shown_held object) }
     ensures links { (list : LinkList) → shown_links list ≡ linked no_links (map shown_link (link_items list)) }
     ensures parts { (list : TreeList) → shown_parts list ≡ parted no_parts (map shown (tree_items list)) }
 {}

@@ -126,7 +126,8 @@ impl LinkList {
     }
 
     pub(crate) fn push(&mut self, link: Link2) -> Result<(), AllocError>
-        ensures { IfOk result (λ _. shown_links self.new ≡ more_links (shown_links self.old) (shown_link link).0 (shown_link link).1 (shown_link link).2) }
+        ensures { IfOk result (λ _. shown_links self.new
+            ≡ more_links (shown_links self.old) (shown_link link).0 (shown_link link).1 (shown_link link).2) }
     {
         self.items.push(link)?;
         Ok(())

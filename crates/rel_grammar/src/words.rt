@@ -49,7 +49,8 @@ pub(crate) fn casts<'a>(
     end: u32,
 ) -> Result<Read<'a>, ParseError>
     ensures { MatchResult result
-        (λ r. (x : Reference) → shown first ≡ reference_tree x → CastsRead x (all_shaped rest.now) (shown r.0) (all_shaped r.1.now))
+        (λ r. (x : Reference) → shown first ≡ reference_tree x
+        → CastsRead x (all_shaped rest.now) (shown r.0) (all_shaped r.1.now))
         (λ e. (x : Reference) → CastsFail x end (all_shaped rest.now) e) }
 {
     match read_casts(alloc, rest, end)? {

@@ -115,7 +115,7 @@ impl Descent {
     pub(crate) fn step(&mut self, alloc: Global) -> WalkEvent
         requires { asked_below self.old ≡ None }
         ensures moves { (w : WorldState) → Moves (descent_left w self.old) result (descent_left w self.new) }
-        ensures falls { Falls (files_ahead self.old) result (files_ahead self.new) }
+        ensures falls { Falls result (files_ahead self.old) (files_ahead self.new) }
         ensures sound { GivesSound result }
     {
         match mem::replace(&mut self.ahead, Ahead::Turn) {
@@ -129,7 +129,7 @@ impl Descent {
     fn turn(&mut self, alloc: Global) -> WalkEvent
         requires { self.old.ahead ≡ Ahead.Turn }
         ensures moves { (w : WorldState) → Moves (descent_left w self.old) result (descent_left w self.new) }
-        ensures falls { Falls 0 result (files_ahead self.new) }
+        ensures falls { Falls result 0 (files_ahead self.new) }
         ensures sound { GivesSound result }
     {
         while self.top.next >= self.top.entries.as_slice().len() {

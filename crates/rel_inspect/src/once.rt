@@ -40,7 +40,7 @@ impl Once {
     pub(crate) fn step(&mut self, alloc: Global, scene: &Scene) -> WalkEvent
         requires { IsSoundItem (once_item self.old scene.now) }
         ensures moves { Moves (once (once_item self.old scene.now)) result (once (once_item self.new scene.now)) }
-        ensures falls { Falls (once_values self.old) result (once_values self.new) }
+        ensures falls { Falls result (once_values self.old) (once_values self.new) }
         ensures sound { IsSoundItem (once_item self.new scene.now) }
         ensures gives_sound { GivesSound result }
     {
@@ -62,7 +62,7 @@ impl Once {
 fn given_or_over(held: &mut HeldItem) -> WalkEvent
     requires { IsSoundItem (item_in held.old) }
     ensures moves { Moves (once (item_in held.old)) result (once (item_in held.new)) }
-    ensures falls { Falls (values_in (item_in held.old)) result (values_in (item_in held.new)) }
+    ensures falls { Falls result (values_in (item_in held.old)) (values_in (item_in held.new)) }
     ensures most { values_in (item_in held.new) ≡ 0 }
     ensures sound { IsSoundItem (item_in held.new) }
     ensures gives_sound { GivesSound result }

@@ -30,7 +30,7 @@ impl Turns {
         requires items { All IsSoundItem (items_in self.old.source) }
         ensures moves { Moves (before (item_in self.old.held) (turns (items_in self.old.source))) result
             (before (item_in self.new.held) (turns (items_in self.new.source))) }
-        ensures falls { Falls (values_in (item_in self.old.held)) result (values_in (item_in self.new.held)) }
+        ensures falls { Falls result (values_in (item_in self.old.held)) (values_in (item_in self.new.held)) }
         ensures held { IsSoundItem (item_in self.new.held) }
         ensures items { All IsSoundItem (items_in self.new.source) }
         ensures gives_sound { GivesSound result }

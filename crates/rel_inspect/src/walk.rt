@@ -1,8 +1,9 @@
-ghost use Rattle.std.specs.Prelude.{◌≡◌, ◌≤◌, Some, None};
+ghost use Rattle.std.specs.Prelude.{◌≡◌, Some, None};
 ghost use Rattle.std.specs.Option.{option_copied};
 ghost use Rattle.bf_world.specs.declared.key.Key.{Key};
 ghost use Rattle.rel_sources.specs.declared.scene.Scene.{Scene};
 ghost use Rattle.desk_base.specs.Moments.{IsMoment};
+ghost use Rattle.bf_machine.specs.Views.{OnlyLooks};
 ghost use Rattle.bf_world.specs.Answers.{IsGoodAnswer};
 ghost use Rattle.bf_world.specs.Shown.{shown};
 ghost use Rattle.bf_world.specs.Worlds.{WorldState};
@@ -59,16 +60,12 @@ impl Walk {
     ) -> WalkEvent
         requires walk { IsSoundWalk self.old }
         requires moment { IsMoment scene.now.moment }
-        ensures goes { (w : WorldState) → M.world machine.old ≡ Some w
-            → Goes (M.looked machine.old) (left self.old w scene.now) result (M.looked machine.new) (left self.new w scene.now) }
-        ensures cause { HasCause (M.faults machine.old) (M.faults machine.new) result }
-        ensures later { M.faults machine.old ≤ M.faults machine.new }
+        ensures goes { (w : WorldState) → (M.told machine.old).world ≡ Some w
+            → Goes (M.told machine.old).looked (left self.old w scene.now) result (M.told machine.new).looked (left self.new w scene.now) }
+        ensures cause { HasCause (M.told machine.old).faults (M.told machine.new).faults result }
         ensures room { AsRoom room result }
-        ensures falls { Falls (values_ahead self.old) result (values_ahead self.new) }
-        ensures world { M.world machine.new ≡ M.world machine.old }
-        ensures acted { M.acted machine.new ≡ M.acted machine.old }
-        ensures polled { M.polled machine.new ≡ M.polled machine.old }
-        ensures started { M.started machine.new ≡ M.started machine.old }
+        ensures falls { Falls result (values_ahead self.old) (values_ahead self.new) }
+        ensures looks { OnlyLooks (M.told machine.old) (M.told machine.new) }
         ensures walk { IsSoundWalk self.new }
         ensures sound { GivesSound result }
         ensures asked { result ≡ event.Looked → asked self.new.state ≡ None }
@@ -93,14 +90,10 @@ impl Walk {
     pub fn step<M: Machine>(&mut self, machine: &mut M, scene: &Scene) -> WalkStep
         requires walk { IsSoundWalk self.old }
         requires moment { IsMoment scene.now.moment }
-        ensures goes { (w : WorldState) → M.world machine.old ≡ Some w
-            → Steps (M.looked machine.old) (left self.old w scene.now) result (M.looked machine.new) (left self.new w scene.now) }
-        ensures cause { StepHasCause (M.faults machine.old) (M.faults machine.new) result }
-        ensures later { M.faults machine.old ≤ M.faults machine.new }
-        ensures world { M.world machine.new ≡ M.world machine.old }
-        ensures acted { M.acted machine.new ≡ M.acted machine.old }
-        ensures polled { M.polled machine.new ≡ M.polled machine.old }
-        ensures started { M.started machine.new ≡ M.started machine.old }
+        ensures goes { (w : WorldState) → (M.told machine.old).world ≡ Some w
+            → Steps (M.told machine.old).looked (left self.old w scene.now) result (M.told machine.new).looked (left self.new w scene.now) }
+        ensures cause { StepHasCause (M.told machine.old).faults (M.told machine.new).faults result }
+        ensures looks { OnlyLooks (M.told machine.old) (M.told machine.new) }
         ensures walk { IsSoundWalk self.new }
         ensures sound { StepGivesSound result }
     {
@@ -163,7 +156,7 @@ impl State {
         requires sound { IsSoundState self.old }
         requires moment { IsMoment scene.now.moment }
         ensures moves { (w : WorldState) → Moves (state_left self.old w scene.now) result (state_left self.new w scene.now) }
-        ensures falls { Falls (state_values self.old) result (state_values self.new) }
+        ensures falls { Falls result (state_values self.old) (state_values self.new) }
         ensures sound { IsSoundState self.new }
         ensures gives_sound { GivesSound result }
     {

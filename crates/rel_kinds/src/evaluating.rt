@@ -17,7 +17,8 @@ use rel_types::plans_agree;
 pub fn evaluations_keep_kinds()
     ensures parts { (around : Option PlainKind) (plan : PlainNode) → Agrees around plan → (it : Option Plain) → IsThere around it
         → (w : WorldState) (s : Scene) → GivesKind (kind_of plan) (mean w s plan it) }
-    ensures plans { (around : Option PlainKind) (t : tree.Plain) (plan : PlainNode) → typed around t ≡ Ok plan → (it : Option Plain) → IsThere around it
+    ensures plans { (around : Option PlainKind) (t : tree.Plain) (plan : PlainNode) → typed around t ≡ Ok plan
+        → (it : Option Plain) → IsThere around it
         → (w : WorldState) (s : Scene) → GivesKind (kind_of plan) (mean w s plan it) }
 {
     // Proof: a plan that checking makes is well typed.
@@ -27,9 +28,11 @@ pub fn evaluations_keep_kinds()
 /// A plan that is not plural gives exactly one value, which is the last event, or an error. So every sign, cast and `it` in it comes
 /// to a value or a fault.
 pub fn singular_plans_give_one()
-    ensures parts { (around : Option PlainKind) (plan : PlainNode) → Agrees around plan → is_plural plan ≡ false → (it : Option Plain) → IsThere around it
+    ensures parts { (around : Option PlainKind) (plan : PlainNode) → Agrees around plan → is_plural plan ≡ false
+        → (it : Option Plain) → IsThere around it
         → (w : WorldState) (s : Scene) → GivesOne (mean w s plan it) }
-    ensures plans { (around : Option PlainKind) (t : tree.Plain) (plan : PlainNode) → typed around t ≡ Ok plan → is_plural plan ≡ false → (it : Option Plain)
+    ensures plans { (around : Option PlainKind) (t : tree.Plain) (plan : PlainNode) → typed around t ≡ Ok plan
+        → is_plural plan ≡ false → (it : Option Plain)
         → IsThere around it → (w : WorldState) (s : Scene) → GivesOne (mean w s plan it) }
 {
     // Proof: a plan that checking makes is well typed.

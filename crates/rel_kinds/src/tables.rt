@@ -20,8 +20,10 @@ ghost use Rattle.rel_kinds.specs.Taking.{RowTakes};
 pub fn tables_keep_kinds()
     ensures properties { All RowKeeps property_rows }
     ensures aggregates { All RowKeeps aggregate_rows }
-    ensures item { (n : ℤ) (v : Plain) (k : PlainKind) → item_kind (Some n) (Some (kind_of v)) ≡ Some k → (p : Place) (w : WorldState) (s : Scene)
-        → GivesKind k (placed p (prop Item (Some (integer n)) (Some v) w s)) × GivesOne (placed p (prop Item (Some (integer n)) (Some v) w s)) }
+    ensures item { (n : ℤ) (v : Plain) (k : PlainKind) → item_kind (Some n) (Some (kind_of v)) ≡ Some k
+        → (p : Place) (w : WorldState) (s : Scene)
+        → GivesKind k (placed p (prop Item (Some (integer n)) (Some v) w s))
+        × GivesOne (placed p (prop Item (Some (integer n)) (Some v) w s)) }
 {}
 
 /// With each further value of a kind that it asks for an aggregate comes to a value or a fault; it never stops without saying so.

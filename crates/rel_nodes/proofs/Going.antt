@@ -3,7 +3,6 @@ use Rattle.std.proofs.Common.{inl, inr, ◌≡◌, ◌≤◌, ◌<◌, ◌+◌, 
 use Rattle.std.specs.Prelude.{length}
 use Rattle.std.proofs.lemmas.List.{append-nil, append_assoc, length-append}
 use Rattle.std.proofs.Math.Nat.{eq-or-lt_of_le}
-use Rattle.desk_base.proofs.Rising.{Rose-from}
 use Rattle.std.specs.declared.option.Option.{Option}
 use Rattle.bf_machine.specs.Told.{Grows}
 use Rattle.bf_world.specs.declared.key.Key.{Key}
@@ -11,7 +10,7 @@ use Rattle.rel_lexer.specs.declared.place.Place.{Place}
 use Rattle.rel_trace.specs.declared.step.Step.{Step}
 use Rattle.rel_trace.specs.declared.step.Step.TheVariants as step
 use Rattle.rel_trace.specs.Trace.{Event, Look, Turn, Trace, After}
-use Rattle.rel_trace.specs.Steps.{Falls, Goes, HasCause}
+use Rattle.rel_trace.specs.Steps.{Falls, Goes}
 use Rattle.rel_nodes.proofs.Stretches.{prepend_append, keys_append, gives_append, grows_none, grows_grows}
 use Rattle.rel_nodes.specs.Steps.{Advances, PassedOver, Went, gives, keys, prepend}
 
@@ -122,7 +121,3 @@ pub falls_to : (r : Step) (a b c : ℕ) → c ≤ b → Falls r a b → Falls r 
 falls_to step.Quiet a b c h k = omega (arith, h, k)
 falls_to (step.Given v) a b c h k = omega (arith, h, k)
 falls_to _ a b c h k = tt
-
-pub cause_then : (r : Step) (a b c : ℕ) → a ≤ b → HasCause b c r → HasCause a c r
-cause_then (step.Failed p) a b c h k = Rose-from a b c h k
-cause_then _ a b c h k = tt

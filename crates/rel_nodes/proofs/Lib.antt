@@ -12,6 +12,7 @@ pub mod Means
 pub mod Stretches
 pub mod Going
 pub mod Passing
+pub mod Passed
 pub mod Pures
 pub mod Levels
 pub mod Parts

@@ -7,3 +7,4 @@ pub mod Nodes
 pub mod HeldParts
 pub mod Runs
 pub mod Measure
+pub mod Remainders

@@ -32,7 +32,8 @@ pub(crate) fn headed(
     argument: &Option<Box<rel_types::Node>>,
     object: Option<Box<Node>>,
 ) -> Result<Box<Node>, AllocError>
-    ensures { IfOk result (λ n. boxed_shape n ≡ head_part (shown_kind kind.now) place head.now (shown_held argument.now) (part_shape object)) }
+    ensures { IfOk result (λ n.
+        boxed_shape n ≡ head_part (shown_kind kind.now) place head.now (shown_held argument.now) (part_shape object)) }
 {
     match head {
         Head::Property(id) => {

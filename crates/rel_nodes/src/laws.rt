@@ -19,5 +19,6 @@ pub fn few_forms_mean_the_same()
 
 /// A plan stands where its tree stands in the question.
 pub fn plans_keep_spans()
-    ensures { (around : Option PlainKind) (tree : Plain) (plan : PlainNode) → typed around tree ≡ Ok plan → span_of_node plan ≡ span_of_tree tree }
+    ensures { (around : Option PlainKind) (tree : Plain) (plan : PlainNode) → typed around tree ≡ Ok plan
+        → span_of_node plan ≡ span_of_tree tree }
 {}

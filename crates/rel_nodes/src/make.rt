@@ -137,7 +137,8 @@ fn pure_joined(
     first: &mut Node,
     second: &mut Node,
 ) -> Result<Option<Box<Node>>, AllocError>
-    ensures { IfOk result (λ o. MatchOption o ((first.new ≡ first.old) × (second.new ≡ second.old)) (λ n. boxed_shape n ≡ two_core left_kind (shape first.old) (shape second.old))) }
+    ensures { IfOk result (λ o. MatchOption o ((first.new ≡ first.old) × (second.new ≡ second.old))
+        (λ n. boxed_shape n ≡ two_core left_kind (shape first.old) (shape second.old))) }
 {
     let Node::Pure { pure: left, .. } = first else {
         return Ok(None);

@@ -1,18 +1,16 @@
-ghost use Rattle.std.specs.Prelude.{◌≡◌, ◌≤◌, ℕ, Some, false, true};
+ghost use Rattle.std.specs.Prelude.{◌≡◌, ◌≤◌, ℕ, false, true};
 ghost use Rattle.bf_world.specs.Worlds.{WorldState};
 ghost use Rattle.desk_base.specs.Moments.{IsMoment};
 ghost use Rattle.line_forms.specs.Numbers.{IsOffset};
 ghost use Rattle.rel_sources.specs.declared.scene.Scene.{Scene};
-ghost use Rattle.rel_trace.specs.Choices.{choice_left, choice_quiet};
-ghost use Rattle.rel_trace.specs.Ones.{one_kind, one_left, one_quiet};
+ghost use Rattle.rel_trace.specs.Ones.{one_kind};
 ghost use Rattle.rel_trace.specs.Scopes.{Around, seen};
-ghost use Rattle.rel_trace.specs.Steps.{AsRoom, Falls, HasCause};
 ghost use Rattle.rel_trace.specs.Trace.{Trace, none};
 ghost use Rattle.rel_trace.specs.Twos.{two_kind, two_left, two_quiet};
 ghost use Rattle.rel_nodes.specs.Core.{core};
-ghost use Rattle.rel_nodes.specs.Measure.{cap, quiet};
 ghost use Rattle.rel_nodes.specs.Nodes.{rest, shape};
-ghost use Rattle.rel_nodes.specs.Steps.{Advances, IsStop, has_room};
+ghost use Rattle.rel_nodes.specs.Remainders.{of_choice, of_node, of_one, of_two};
+ghost use Rattle.rel_nodes.specs.Steps.{IsStop, StepsOn};
 
 use crate::counting::pass_over;
 use crate::{Property, Pure};
@@ -106,18 +104,8 @@ impl Node {
         requires offset { IsOffset scene.now.offset }
         ensures stop { IsStop budget.new result }
         ensures shape { shape self.new ≡ shape self.old }
-        ensures goes { (w : WorldState) → M.world machine.old ≡ Some w
-            → Advances (M.looked machine.old) budget.old (rest w scene.now self.old (seen scope.now)) result
-            (M.looked machine.new) budget.new (rest w scene.now self.new (seen scope.now)) }
-        ensures cause { HasCause (M.faults machine.old) (M.faults machine.new) result }
-        ensures later { M.faults machine.old ≤ M.faults machine.new }
-        ensures room { AsRoom (has_room budget.new) result }
-        ensures within { budget.new ≤ budget.old }
-        ensures falls { budget.new ≡ budget.old → Falls result (quiet self.old) (quiet self.new) }
-        ensures world { M.world machine.new ≡ M.world machine.old }
-        ensures acted { M.acted machine.new ≡ M.acted machine.old }
-        ensures polled { M.polled machine.new ≡ M.polled machine.old }
-        ensures started { M.started machine.new ≡ M.started machine.old }
+        ensures steps { StepsOn (M.told machine.old) budget.old (of_node scene.now self.old (seen scope.now))
+            result (M.told machine.new) budget.new (of_node scene.now self.new (seen scope.now)) }
     {
         match self {
             Node::Nothing => Step::Over,
@@ -158,18 +146,8 @@ fn step_one<M: Machine>(
     ensures stop { IsStop budget.new result }
     ensures part { shape part.new ≡ shape part.old }
     ensures kind { one_kind state.new ≡ one_kind state.old }
-    ensures goes { (w : WorldState) → M.world machine.old ≡ Some w
-        → Advances (M.looked machine.old) budget.old (one_left state.old (seen scope.now) scene.now.offset (rest w scene.now part.old (seen scope.now))) result
-        (M.looked machine.new) budget.new (one_left state.new (seen scope.now) scene.now.offset (rest w scene.now part.new (seen scope.now))) }
-    ensures cause { HasCause (M.faults machine.old) (M.faults machine.new) result }
-    ensures later { M.faults machine.old ≤ M.faults machine.new }
-    ensures room { AsRoom (has_room budget.new) result }
-    ensures within { budget.new ≤ budget.old }
-    ensures falls { budget.new ≡ budget.old → Falls result (one_quiet state.old (quiet part.old)) (one_quiet state.new (quiet part.new)) }
-    ensures world { M.world machine.new ≡ M.world machine.old }
-    ensures acted { M.acted machine.new ≡ M.acted machine.old }
-    ensures polled { M.polled machine.new ≡ M.polled machine.old }
-    ensures started { M.started machine.new ≡ M.started machine.old }
+    ensures steps { StepsOn (M.told machine.old) budget.old (of_one scene.now part.old state.old (seen scope.now))
+        result (M.told machine.new) budget.new (of_one scene.now part.new state.new (seen scope.now)) }
 {
     loop {
         let step = go_on_one(part, state, alloc, scope, scene, machine, budget);
@@ -194,18 +172,8 @@ fn go_on_one<M: Machine>(
     requires offset { IsOffset scene.now.offset }
     ensures part { shape part.new ≡ shape part.old }
     ensures kind { one_kind state.new ≡ one_kind state.old }
-    ensures goes { (w : WorldState) → M.world machine.old ≡ Some w
-        → Advances (M.looked machine.old) budget.old (one_left state.old (seen scope.now) scene.now.offset (rest w scene.now part.old (seen scope.now))) result
-        (M.looked machine.new) budget.new (one_left state.new (seen scope.now) scene.now.offset (rest w scene.now part.new (seen scope.now))) }
-    ensures cause { HasCause (M.faults machine.old) (M.faults machine.new) result }
-    ensures later { M.faults machine.old ≤ M.faults machine.new }
-    ensures room { AsRoom (has_room budget.new) result }
-    ensures within { budget.new ≤ budget.old }
-    ensures falls { budget.new ≡ budget.old → Falls result (one_quiet state.old (quiet part.old)) (one_quiet state.new (quiet part.new)) }
-    ensures world { M.world machine.new ≡ M.world machine.old }
-    ensures acted { M.acted machine.new ≡ M.acted machine.old }
-    ensures polled { M.polled machine.new ≡ M.polled machine.old }
-    ensures started { M.started machine.new ≡ M.started machine.old }
+    ensures steps { StepsOn (M.told machine.old) budget.old (of_one scene.now part.old state.old (seen scope.now))
+        result (M.told machine.new) budget.new (of_one scene.now part.new state.new (seen scope.now)) }
 {
     if state.is_done() {
         return Step::Over;
@@ -233,18 +201,8 @@ fn step_two<M: Machine>(
     ensures first { shape first.new ≡ shape first.old }
     ensures second { shape second.new ≡ shape second.old }
     ensures kind { two_kind state.new ≡ two_kind state.old }
-    ensures goes { (w : WorldState) → M.world machine.old ≡ Some w
-        → Advances (M.looked machine.old) budget.old (two_left state.old (rest w scene.now first.old (seen scope.now)) (rest w scene.now second.old) (core w scene.now (shape second.old)) (seen scope.now)) result
-        (M.looked machine.new) budget.new (two_left state.new (rest w scene.now first.new (seen scope.now)) (rest w scene.now second.new) (core w scene.now (shape second.new)) (seen scope.now)) }
-    ensures cause { HasCause (M.faults machine.old) (M.faults machine.new) result }
-    ensures later { M.faults machine.old ≤ M.faults machine.new }
-    ensures room { AsRoom (has_room budget.new) result }
-    ensures within { budget.new ≤ budget.old }
-    ensures falls { budget.new ≡ budget.old → Falls result (two_quiet state.old (quiet first.old) (quiet second.old) (cap (shape second.old))) (two_quiet state.new (quiet first.new) (quiet second.new) (cap (shape second.new))) }
-    ensures world { M.world machine.new ≡ M.world machine.old }
-    ensures acted { M.acted machine.new ≡ M.acted machine.old }
-    ensures polled { M.polled machine.new ≡ M.polled machine.old }
-    ensures started { M.started machine.new ≡ M.started machine.old }
+    ensures steps { StepsOn (M.told machine.old) budget.old (of_two scene.now first.old second.old state.old (seen scope.now))
+        result (M.told machine.new) budget.new (of_two scene.now first.new second.new state.new (seen scope.now)) }
 {
     loop {
         let step = go_on_two(first, second, state, alloc, scope, scene, machine, budget);
@@ -271,18 +229,8 @@ fn go_on_two<M: Machine>(
     ensures first { shape first.new ≡ shape first.old }
     ensures second { shape second.new ≡ shape second.old }
     ensures kind { two_kind state.new ≡ two_kind state.old }
-    ensures goes { (w : WorldState) → M.world machine.old ≡ Some w
-        → Advances (M.looked machine.old) budget.old (two_left state.old (rest w scene.now first.old (seen scope.now)) (rest w scene.now second.old) (core w scene.now (shape second.old)) (seen scope.now)) result
-        (M.looked machine.new) budget.new (two_left state.new (rest w scene.now first.new (seen scope.now)) (rest w scene.now second.new) (core w scene.now (shape second.new)) (seen scope.now)) }
-    ensures cause { HasCause (M.faults machine.old) (M.faults machine.new) result }
-    ensures later { M.faults machine.old ≤ M.faults machine.new }
-    ensures room { AsRoom (has_room budget.new) result }
-    ensures within { budget.new ≤ budget.old }
-    ensures falls { budget.new ≡ budget.old → Falls result (two_quiet state.old (quiet first.old) (quiet second.old) (cap (shape second.old))) (two_quiet state.new (quiet first.new) (quiet second.new) (cap (shape second.new))) }
-    ensures world { M.world machine.new ≡ M.world machine.old }
-    ensures acted { M.acted machine.new ≡ M.acted machine.old }
-    ensures polled { M.polled machine.new ≡ M.polled machine.old }
-    ensures started { M.started machine.new ≡ M.started machine.old }
+    ensures steps { StepsOn (M.told machine.old) budget.old (of_two scene.now first.old second.old state.old (seen scope.now))
+        result (M.told machine.new) budget.new (of_two scene.now first.new second.new state.new (seen scope.now)) }
 {
     if state.on_second() {
         if second.is_told() {
@@ -305,7 +253,8 @@ fn go_on_two<M: Machine>(
 /// Gives up what was handed to a second part that has nothing left: a long tuple would keep all its beginnings otherwise.
 fn release(second: &Node, state: &mut Two)
     ensures kind { two_kind state.new ≡ two_kind state.old }
-    ensures rest { (w : WorldState) (s : Scene) (t : Trace) (f : Around → Trace) (a : Around) → two_left state.new t (rest w s second.now) f a ≡ two_left state.old t (rest w s second.now) f a }
+    ensures rest { (w : WorldState) (s : Scene) (t : Trace) (f : Around → Trace) (a : Around)
+        → two_left state.new t (rest w s second.now) f a ≡ two_left state.old t (rest w s second.now) f a }
     ensures falls { (q r c : ℕ) → two_quiet state.new q r c ≤ two_quiet state.old q r c }
 {
     if second.is_told() {
@@ -333,18 +282,9 @@ fn step_choice<M: Machine>(
     ensures test { shape test.new ≡ shape test.old }
     ensures yes { shape yes.new ≡ shape yes.old }
     ensures no { shape no.new ≡ shape no.old }
-    ensures goes { (w : WorldState) → M.world machine.old ≡ Some w
-        → Advances (M.looked machine.old) budget.old (choice_left state.old (rest w scene.now test.old (seen scope.now)) (rest w scene.now yes.old) (rest w scene.now no.old) (core w scene.now (shape yes.old)) (core w scene.now (shape no.old)) (seen scope.now)) result
-        (M.looked machine.new) budget.new (choice_left state.new (rest w scene.now test.new (seen scope.now)) (rest w scene.now yes.new) (rest w scene.now no.new) (core w scene.now (shape yes.new)) (core w scene.now (shape no.new)) (seen scope.now)) }
-    ensures cause { HasCause (M.faults machine.old) (M.faults machine.new) result }
-    ensures later { M.faults machine.old ≤ M.faults machine.new }
-    ensures room { AsRoom (has_room budget.new) result }
-    ensures within { budget.new ≤ budget.old }
-    ensures falls { budget.new ≡ budget.old → Falls result (choice_quiet state.old (quiet test.old) (quiet yes.old) (quiet no.old) (cap (shape yes.old)) (cap (shape no.old))) (choice_quiet state.new (quiet test.new) (quiet yes.new) (quiet no.new) (cap (shape yes.new)) (cap (shape no.new))) }
-    ensures world { M.world machine.new ≡ M.world machine.old }
-    ensures acted { M.acted machine.new ≡ M.acted machine.old }
-    ensures polled { M.polled machine.new ≡ M.polled machine.old }
-    ensures started { M.started machine.new ≡ M.started machine.old }
+    ensures steps { StepsOn
+        (M.told machine.old) budget.old (of_choice scene.now test.old yes.old no.old state.old (seen scope.now))
+        result (M.told machine.new) budget.new (of_choice scene.now test.new yes.new no.new state.new (seen scope.now)) }
 {
     loop {
         let step = go_on_choice(test, yes, no, state, alloc, scope, scene, machine, budget);
@@ -372,18 +312,9 @@ fn go_on_choice<M: Machine>(
     ensures test { shape test.new ≡ shape test.old }
     ensures yes { shape yes.new ≡ shape yes.old }
     ensures no { shape no.new ≡ shape no.old }
-    ensures goes { (w : WorldState) → M.world machine.old ≡ Some w
-        → Advances (M.looked machine.old) budget.old (choice_left state.old (rest w scene.now test.old (seen scope.now)) (rest w scene.now yes.old) (rest w scene.now no.old) (core w scene.now (shape yes.old)) (core w scene.now (shape no.old)) (seen scope.now)) result
-        (M.looked machine.new) budget.new (choice_left state.new (rest w scene.now test.new (seen scope.now)) (rest w scene.now yes.new) (rest w scene.now no.new) (core w scene.now (shape yes.new)) (core w scene.now (shape no.new)) (seen scope.now)) }
-    ensures cause { HasCause (M.faults machine.old) (M.faults machine.new) result }
-    ensures later { M.faults machine.old ≤ M.faults machine.new }
-    ensures room { AsRoom (has_room budget.new) result }
-    ensures within { budget.new ≤ budget.old }
-    ensures falls { budget.new ≡ budget.old → Falls result (choice_quiet state.old (quiet test.old) (quiet yes.old) (quiet no.old) (cap (shape yes.old)) (cap (shape no.old))) (choice_quiet state.new (quiet test.new) (quiet yes.new) (quiet no.new) (cap (shape yes.new)) (cap (shape no.new))) }
-    ensures world { M.world machine.new ≡ M.world machine.old }
-    ensures acted { M.acted machine.new ≡ M.acted machine.old }
-    ensures polled { M.polled machine.new ≡ M.polled machine.old }
-    ensures started { M.started machine.new ≡ M.started machine.old }
+    ensures steps { StepsOn
+        (M.told machine.old) budget.old (of_choice scene.now test.old yes.old no.old state.old (seen scope.now))
+        result (M.told machine.new) budget.new (of_choice scene.now test.new yes.new no.new state.new (seen scope.now)) }
 {
     match state {
         Choice::Test => {

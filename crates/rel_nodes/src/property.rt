@@ -1,15 +1,13 @@
-ghost use Rattle.std.specs.Prelude.{◌≡◌, ◌≤◌, ℕ, Bool, List, Option, None, Some};
-ghost use Rattle.bf_world.specs.declared.key.Key.{Key};
-ghost use Rattle.bf_world.specs.Worlds.{WorldState};
+ghost use Rattle.std.specs.Prelude.{◌≡◌, Bool, Option, None, Some};
 ghost use Rattle.desk_base.specs.Moments.{IsMoment};
+ghost use Rattle.bf_machine.specs.Views.{MachineView};
 ghost use Rattle.rel_sources.specs.declared.scene.Scene.{Scene};
 ghost use Rattle.rel_inspect.specs.Facets.{IsSoundOffer, offered};
 ghost use Rattle.rel_trace.specs.Scopes.{lent, seen};
-ghost use Rattle.rel_trace.specs.Steps.{AsRoom, Falls, HasCause};
-ghost use Rattle.rel_nodes.specs.Core.{asked_for, core};
-ghost use Rattle.rel_nodes.specs.Measure.{property_quiet};
-ghost use Rattle.rel_nodes.specs.Nodes.{property_left, row_core};
-ghost use Rattle.rel_nodes.specs.Steps.{Advances, IsStop, Went, has_room};
+ghost use Rattle.rel_nodes.specs.Core.{asked_for};
+ghost use Rattle.rel_nodes.specs.Nodes.{row_core};
+ghost use Rattle.rel_nodes.specs.Remainders.{of_property};
+ghost use Rattle.rel_nodes.specs.Steps.{IsStop, StepsOn, WentOn};
 
 use crate::Walking;
 use crate::counting::pass_over;
@@ -57,18 +55,8 @@ impl Property {
         requires { IsMoment scene.now.moment }
         ensures stop { IsStop budget.new result }
         ensures row { row_core self.new ≡ row_core self.old }
-        ensures goes { (w : WorldState) → M.world machine.old ≡ Some w
-            → Advances (M.looked machine.old) budget.old (property_left w scene.now self.old self.old.walk (seen scope.now)) result
-            (M.looked machine.new) budget.new (property_left w scene.now self.new self.new.walk (seen scope.now)) }
-        ensures cause { HasCause (M.faults machine.old) (M.faults machine.new) result }
-        ensures later { M.faults machine.old ≤ M.faults machine.new }
-        ensures room { AsRoom (has_room budget.new) result }
-        ensures within { budget.new ≤ budget.old }
-        ensures falls { budget.new ≡ budget.old → Falls result (property_quiet self.old.walk) (property_quiet self.new.walk) }
-        ensures world { M.world machine.new ≡ M.world machine.old }
-        ensures acted { M.acted machine.new ≡ M.acted machine.old }
-        ensures polled { M.polled machine.new ≡ M.polled machine.old }
-        ensures started { M.started machine.new ≡ M.started machine.old }
+        ensures steps { StepsOn (M.told machine.old) budget.old (of_property scene.now self.old (seen scope.now))
+            result (M.told machine.new) budget.new (of_property scene.now self.new (seen scope.now)) }
     {
         loop {
             let step = self.go_on(alloc, scope, scene, machine, *budget > 0);
@@ -89,17 +77,8 @@ impl Property {
     ) -> Step
         requires moment { IsMoment scene.now.moment }
         ensures row { row_core self.new ≡ row_core self.old }
-        ensures goes { (w : WorldState) → M.world machine.old ≡ Some w
-            → Went (M.looked machine.old) (property_left w scene.now self.old self.old.walk (seen scope.now)) result
-            (M.looked machine.new) (property_left w scene.now self.new self.new.walk (seen scope.now)) }
-        ensures cause { HasCause (M.faults machine.old) (M.faults machine.new) result }
-        ensures later { M.faults machine.old ≤ M.faults machine.new }
-        ensures room { AsRoom room result }
-        ensures falls { Falls result (property_quiet self.old.walk) (property_quiet self.new.walk) }
-        ensures world { M.world machine.new ≡ M.world machine.old }
-        ensures acted { M.acted machine.new ≡ M.acted machine.old }
-        ensures polled { M.polled machine.new ≡ M.polled machine.old }
-        ensures started { M.started machine.new ≡ M.started machine.old }
+        ensures steps { WentOn room (M.told machine.old) (of_property scene.now self.old (seen scope.now))
+            result (M.told machine.new) (of_property scene.now self.new (seen scope.now)) }
     {
         match &mut self.walk {
             Some(walking) => walking.step(self.head, scene, machine, room),
@@ -111,12 +90,8 @@ impl Property {
     fn begin(&mut self, alloc: Global, scope: &Scope<'_>) -> Step
         requires { self.old.walk ≡ None }
         ensures row { row_core self.new ≡ row_core self.old }
-        ensures goes { (w : WorldState) (s : Scene) (l : Option (List Key))
-            → Went l (core w s (row_core self.old) (seen scope.now)) result
-            l (property_left w s self.new self.new.walk (seen scope.now)) }
-        ensures cause { (a b : ℕ) → HasCause a b result }
-        ensures room { (r : Bool) → AsRoom r result }
-        ensures falls { Falls result 2 (property_quiet self.new.walk) }
+        ensures steps { (s : Scene) (room : Bool) (view : MachineView)
+            → WentOn room view (of_property s self.old (seen scope.now)) result view (of_property s self.new (seen scope.now)) }
     {
         let argument = asked_for(self.argument, scope.argument);
         let object = asked_for(self.object, scope.it);

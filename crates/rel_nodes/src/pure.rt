@@ -45,7 +45,9 @@ impl Pure {
         scene: &Scene,
     ) -> Step
         requires { IsOffset scene.now.offset }
-        ensures goes { (w : WorldState) (l : List Key) → Goes l (unless is_given.old (core w scene.now (pure_shape self.now) (seen scope.now))) result l (unless is_given.new (core w scene.now (pure_shape self.now) (seen scope.now))) }
+        ensures goes { (w : WorldState) (l : List Key)
+            → Goes l (unless is_given.old (core w scene.now (pure_shape self.now) (seen scope.now)))
+            result l (unless is_given.new (core w scene.now (pure_shape self.now) (seen scope.now))) }
         ensures told { IsTold result }
         ensures falls { Falls result (zero_if is_given.old 1) (zero_if is_given.new 1) }
     {
@@ -62,7 +64,8 @@ impl Pure {
     /// Its one value, where that and all that it is made of are scalars. What `it` stands for and the value to the left are handed
     /// down where they are scalars.
     fn scalar(&self, it: Option<Scalar>, left: Option<Scalar>) -> Option<Scalar>
-        ensures { (w : WorldState) (s : Scene) (a : Around) → IfSome it (λ x. a.it ≡ Some (plain x)) → IfSome left (λ x. a.left ≡ Some (plain x)) → IfSome result (λ x. core w s (pure_shape self.now) a ≡ one (plain x)) }
+        ensures { (w : WorldState) (s : Scene) (a : Around) → IfSome it (λ x. a.it ≡ Some (plain x))
+            → IfSome left (λ x. a.left ≡ Some (plain x)) → IfSome result (λ x. core w s (pure_shape self.now) a ≡ one (plain x)) }
     {
         match self {
             Pure::Constant(value) => Scalar::of(value),
@@ -84,7 +87,8 @@ impl Pure {
     #[cycle(tell)]
     fn tell(&self, alloc: Global, scope: &Scope<'_>, scene: &Scene) -> Step
         requires { IsOffset scene.now.offset }
-        ensures goes { (w : WorldState) (l : List Key) → Goes l (core w scene.now (pure_shape self.now) (seen scope.now)) result l none }
+        ensures goes { (w : WorldState) (l : List Key)
+            → Goes l (core w scene.now (pure_shape self.now) (seen scope.now)) result l none }
         ensures told { IsTold result }
     {
         match self {
@@ -99,7 +103,8 @@ impl Pure {
 
     /// The value that it gives, where it stands somewhere already and need not be made.
     fn standing<'a>(&'a self, scope: &Scope<'a>) -> Option<&'a Held>
-        ensures { (w : WorldState) (s : Scene) → IfSome result (λ value. core w s (pure_shape self.now) (seen scope.now) ≡ one value.now) }
+        ensures { (w : WorldState) (s : Scene)
+            → IfSome result (λ value. core w s (pure_shape self.now) (seen scope.now) ≡ one value.now) }
     {
         match self {
             Pure::Constant(value) => Some(value),
@@ -115,7 +120,8 @@ impl Pure {
 #[inline(never)]
 fn applied(part: &Pure, apply: Apply, alloc: Global, scope: &Scope<'_>, scene: &Scene) -> Step
     requires { IsOffset scene.now.offset }
-    ensures goes { (w : WorldState) (l : List Key) → Goes l (core w scene.now (one_core (apply_kind apply) (pure_shape part.now)) (seen scope.now)) result l none }
+    ensures goes { (w : WorldState) (l : List Key)
+        → Goes l (core w scene.now (one_core (apply_kind apply) (pure_shape part.now)) (seen scope.now)) result l none }
     ensures told { IsTold result }
 {
     // Both are lent anew, for as long as the value is looked at.
@@ -133,7 +139,8 @@ fn applied(part: &Pure, apply: Apply, alloc: Global, scope: &Scope<'_>, scene: &
 #[inline(never)]
 fn single(part: &Pure, place: Place, alloc: Global, scope: &Scope<'_>, scene: &Scene) -> Step
     requires { IsOffset scene.now.offset }
-    ensures goes { (w : WorldState) (l : List Key) → Goes l (core w scene.now (one_core (single_kind place) (pure_shape part.now)) (seen scope.now)) result l none }
+    ensures goes { (w : WorldState) (l : List Key)
+        → Goes l (core w scene.now (one_core (single_kind place) (pure_shape part.now)) (seen scope.now)) result l none }
     ensures told { IsTold result }
 {
     match part.tell(alloc, scope, scene) {
@@ -147,7 +154,9 @@ fn single(part: &Pure, place: Place, alloc: Global, scope: &Scope<'_>, scene: &S
 #[inline(never)]
 fn joined(first: &Pure, second: &Pure, alloc: Global, scope: &Scope<'_>, scene: &Scene) -> Step
     requires { IsOffset scene.now.offset }
-    ensures goes { (w : WorldState) (l : List Key) → Goes l (core w scene.now (two_core left_kind (pure_shape first.now) (pure_shape second.now)) (seen scope.now)) result l none }
+    ensures goes { (w : WorldState) (l : List Key)
+        → Goes l (core w scene.now (two_core left_kind (pure_shape first.now) (pure_shape second.now)) (seen scope.now))
+        result l none }
     ensures told { IsTold result }
 {
     // Both are lent anew, for as long as the value is looked at.

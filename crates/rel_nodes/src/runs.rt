@@ -111,7 +111,8 @@ fn halves(
 ) -> Result<Box<Node>, AllocError>
     requires some { 0 < count }
     requires enough { count ≤ length (into_iter_items nodes.old) }
-    ensures node { IfOk result (λ node. Alike (boxed_shape node) (joined (joint_kind joint) (map boxed_shape (take count (into_iter_items nodes.old))))) }
+    ensures node { IfOk result (λ node.
+        Alike (boxed_shape node) (joined (joint_kind joint) (map boxed_shape (take count (into_iter_items nodes.old))))) }
     ensures rest { OnOk result (into_iter_items nodes.new ≡ drop count (into_iter_items nodes.old)) }
 {
     if count == 1 {

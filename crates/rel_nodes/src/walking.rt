@@ -1,14 +1,13 @@
-ghost use Rattle.std.specs.Prelude.{◌≡◌, ◌≤◌, ℕ, Bool, List, Option, Some};
+ghost use Rattle.std.specs.Prelude.{◌≡◌, ℕ, Bool, List, Option};
 ghost use Rattle.bf_world.specs.declared.key.Key.{Key};
-ghost use Rattle.bf_world.specs.Worlds.{WorldState};
 ghost use Rattle.desk_base.specs.Moments.{IsMoment};
-ghost use Rattle.rel_inspect.specs.Left.{IsSoundWalk, left, values_ahead};
+ghost use Rattle.rel_inspect.specs.Left.{IsSoundWalk};
 ghost use Rattle.rel_sources.specs.Steps as walks;
 ghost use Rattle.rel_sources.specs.Traces as walk_traces;
 ghost use Rattle.rel_trace.specs.Steps.{AsRoom, Falls, HasCause};
 ghost use Rattle.rel_nodes.specs.Meaning.{placed};
 ghost use Rattle.rel_nodes.specs.SoundWalks.{walk-prop};
-ghost use Rattle.rel_nodes.specs.Steps.{Went};
+ghost use Rattle.rel_nodes.specs.Steps.{Went, WentOn, of_walk};
 
 use bf_machine::Machine;
 use rel_inspect::{Scene, Walk, WalkEvent};
@@ -39,17 +38,8 @@ impl Walking {
         room: bool,
     ) -> Step
         requires moment { IsMoment scene.now.moment }
-        ensures goes { (w : WorldState) → M.world machine.old ≡ Some w
-            → Went (M.looked machine.old) (placed head (left self.old.walk w scene.now)) result
-            (M.looked machine.new) (placed head (left self.new.walk w scene.now)) }
-        ensures cause { HasCause (M.faults machine.old) (M.faults machine.new) result }
-        ensures later { M.faults machine.old ≤ M.faults machine.new }
-        ensures room { AsRoom room result }
-        ensures falls { Falls result (values_ahead self.old.walk) (values_ahead self.new.walk) }
-        ensures world { M.world machine.new ≡ M.world machine.old }
-        ensures acted { M.acted machine.new ≡ M.acted machine.old }
-        ensures polled { M.polled machine.new ≡ M.polled machine.old }
-        ensures started { M.started machine.new ≡ M.started machine.old }
+        ensures { WentOn room (M.told machine.old) (of_walk scene.now head self.old.walk)
+            result (M.told machine.new) (of_walk scene.now head self.new.walk) }
     {
         let event = self.walk.next_event(machine, scene, room);
         placed(event, head)
@@ -63,7 +53,7 @@ fn placed(event: WalkEvent, head: Place) -> Step
         → Went l (placed head t) result l' (placed head t') }
     ensures cause { (a b : ℕ) → walks.HasCause a b event → HasCause a b result }
     ensures room { (r : Bool) → walks.AsRoom r event → AsRoom r result }
-    ensures falls { (q q' : ℕ) → walks.Falls q event q' → Falls result q q' }
+    ensures falls { (q q' : ℕ) → walks.Falls event q q' → Falls result q q' }
 {
     match event {
         WalkEvent::Looked => Step::Looked(head),

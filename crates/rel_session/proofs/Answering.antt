@@ -5,7 +5,8 @@ use Rattle.std.specs.declared.option.Option.{Option}
 use Rattle.std.specs.Io.KnownBytes.{Appends, Keeps}
 use Rattle.std.proofs.KnownBytes.{Appends-nil, Appends-trans, Keeps-refl}
 use Rattle.desk_base.specs.Flow.{AppendsSome, IsFront}
-use Rattle.bf_world.specs.declared.key.Key.{Key}
+use Rattle.desk_base.specs.Views.{SinkView, ClockView}
+use Rattle.bf_machine.specs.Views.{MachineView}
 use Rattle.bf_world.specs.Worlds.{WorldState}
 use Rattle.rel_lexer.specs.declared.place.Place.{Place}
 use Rattle.rel_trace.specs.Trace.{Trace}
@@ -17,53 +18,52 @@ use Rattle.rel_session.specs.declared.line.Line.{Line}
 use Rattle.rel_session.specs.declared.paused.Left.{Left}
 use Rattle.rel_session.specs.declared.paused.Left.TheVariants as left
 use Rattle.rel_session.specs.declared.paused.Paused as code_paused
-use Rattle.bf_machine.specs.Rises.{RoseBy}
-use Rattle.rel_session.specs.Devices.{Dates, Did, devices_of}
+use Rattle.rel_session.specs.Devices.{CountsFailed, Dates, Did, devices}
 use Rattle.rel_session.specs.Printed.{said_question, said_error, said_nothing_paused, said_undefined}
 use Rattle.rel_session.specs.Sessions.{Asks, Paused, Session, Run, nothing, saying, after, told_run, pausing, last_sixteen, IsGiven, TellsOf, AnswersText, GoesOnWith, Answers, RunsLine, IsFrontOfLine}
 use Rattle.rel_session.specs.Tellings.{Telling, TellsSome, room_of}
-use Rattle.rel_session.specs.Waiting.{IsLeft, State, state_of, paused_of, left_of, some_given, meaning_of, span_of, IsRead, IsStarted, IsOpened, last_fifteen, Says, Stops, SaysRefusal, Unwritten, Obeys, SaysAll, SaysFront, SaysOf, StopsEarly, StopsIn}
-use Rattle.bf_machine.proofs.Telling.{LooksUp-nil, RoseBy-none}
+use Rattle.rel_session.specs.Waiting.{IsLeft, State, state_of, paused_of, left_of, some_given, meaning_of, span_of, IsRead, IsStarted, IsOpened, last_fifteen, Says, Stops, SaysRefusal, Unwritten, Obeys, DoesLine, SaysAll, SaysDated, SaysFront, SaysOf, SaysOrStops, SaysOrStopsEarly, StopsEarly}
+use Rattle.bf_machine.proofs.Telling.{LooksUp-nil}
+use Rattle.rel_session.proofs.Failing.{CountsFailed-none}
 use Rattle.rel_session.proofs.Lasting.{LooksFront-none, LooksFront-all}
 use Rattle.rel_session.proofs.Running.{Dates-nil}
 
 -- some bytes are said at once, and no look is made
-pub Says-bytes : (world : Option WorldState) (held : Option (List ℕ)) (old new : List ℕ) (looked : Option (List Key)) (faults : ℕ) (bytes : List ℕ) → new ≡ old ++ bytes → Says world (state_of held old looked faults) (state_of held new looked faults) (saying bytes)
-Says-bytes world held old new looked faults bytes is = record {
+pub Says-bytes : (sink : SinkView) (old new : List ℕ) (machine : MachineView) (bytes : List ℕ) → new ≡ old ++ bytes → Says (state_of sink old machine) (state_of sink new machine) (saying bytes)
+Says-bytes sink old new machine bytes is = record {
   written = [];
-  appended = Appends-nil held;
+  appended = Appends-nil sink.held;
   whole = sym is;
-  looked = LooksUp-nil world looked;
-  faults = RoseBy-none faults faults (omega arith);
+  looked = LooksUp-nil machine.world machine.looked;
+  faults = CountsFailed-none machine.faults machine.faults refl;
 }
 
 -- nothing is written
-pub Unwritten-refl : (world : Option WorldState) (held : Option (List ℕ)) (looked : Option (List Key)) (faults : ℕ) → Unwritten world (state_of held [] looked faults) (state_of held [] looked faults)
-Unwritten-refl world held looked faults = (Keeps-refl held, LooksUp-nil world looked, refl)
+pub Unwritten-refl : (sink : SinkView) (old new : List ℕ) (machine : MachineView) → Unwritten (state_of sink old machine) (state_of sink new machine)
+Unwritten-refl sink old new machine = record { keeps = Keeps-refl sink.held; looked = LooksUp-nil machine.world machine.looked; steady = refl }
 
 -- what was said waits in full or in part, and memory runs out
-pub Stops-Says : (world : Option WorldState) (old new : State) (run : Run) → Says world old new run → Stops world old new run
-Stops-Says world old new run says = record {
+pub Stops-Says : (old new : State) (run : Run) → Says old new run → Stops old new run
+Stops-Says old new run says = record {
   written = says.written;
   appended = says.appended;
   unsaid = new.waiting;
   whole = says.whole;
-  looks = LooksFront-all world old.looked new.looked run.looks says.looked;
+  looks = LooksFront-all old.machine.world old.machine.looked new.machine.looked run.looks says.looked;
   faults = says.faults;
 }
 
 -- ---- a question's text
 
 -- a refusal is said
-pub answers_refusal : (world : Option WorldState) (moment offset : ℤ) (s : Session) (text : List ℕ) (refusal : Refusal) (held : Option (List ℕ)) (old new : List ℕ) (looked : Option (List Key)) (faults : ℕ)
-    → IsRead text (Err refusal) → SaysRefusal refusal old new
-    → SaysOf world (AnswersText world moment offset s text) s (state_of held old looked faults) (state_of held new looked faults)
+pub answers_refusal : (world : Option WorldState) (moment offset : ℤ) (s : Session) (text : List ℕ) (refusal : Refusal) (sink : SinkView) (old new : List ℕ) (machine : MachineView)
+    → IsRead text (Err refusal) → SaysRefusal refusal old new → SaysOf (AnswersText world moment offset s text) s (state_of sink old machine) (state_of sink new machine)
 unfolding AnswersText IsRead
-answers_refusal world moment offset s text (At kind place) held old new looked faults prepares says =
-    (saying (said_error kind place), (refused kind place, prepares, (refl, refl)), Says-bytes world held old new looked faults (said_error kind place) says)
-answers_refusal world moment offset s text (NotDefined place words) held old new looked faults prepares says =
-    (saying (said_undefined place words), (undefined place words, prepares, (refl, refl)), Says-bytes world held old new looked faults (said_undefined place words) says)
-answers_refusal world moment offset s text Memory held old new looked faults prepares says = absurd says
+answers_refusal world moment offset s text (At kind place) sink old new machine prepares says =
+    (saying (said_error kind place), (refused kind place, prepares, (refl, refl)), Says-bytes sink old new machine (said_error kind place) says)
+answers_refusal world moment offset s text (NotDefined place words) sink old new machine prepares says =
+    (saying (said_undefined place words), (undefined place words, prepares, (refl, refl)), Says-bytes sink old new machine (said_undefined place words) says)
+answers_refusal world moment offset s text Memory sink old new machine prepares says = absurd says
 
 -- what a started question has to give is what it means
 given_at_start : (world : Option WorldState) (moment offset : ℤ) (q : Question) (started : code_paused.Paused) (t : Trace) → IsStarted moment offset q started → IsGiven world (left_of started.cursor) t
@@ -117,13 +117,13 @@ echoed : (old echo mid more written rest : List ℕ) → mid ≡ old ++ echo →
 echoed old echo mid more written rest is whole = sym (append_assoc old echo more) ∙ ap (λ l. l ++ more) (sym is) ∙ whole
 
 -- its echo is no failed look
-behind_echo : (n x y : ℕ) → RoseBy n x y → RoseBy (0 + n) x y
-behind_echo n x y rose = let Rises : ℕ → Type 0 = λ m. RoseBy m x y in let same : n ≡ 0 + n = omega arith in subst Rises same rose
+behind_echo : (n x y : ℕ) → CountsFailed n x y → CountsFailed (0 + n) x y
+behind_echo n x y failed = let Fails : ℕ → Type 0 = λ m. CountsFailed m x y in let same : n ≡ 0 + n = omega arith in subst Fails same failed
 
-pub line_says_all : (world : Option WorldState) (offset : ℤ) (s : Session) (line : List ℕ) (fixed : Option ℤ) (given given' : Option (List ℤ)) (s' : Session) (held : Option (List ℕ)) (old mid : List ℕ) (looked : Option (List Key)) (faults : ℕ) (new : State)
-    → mid ≡ old ++ said_question line → SaysAll world fixed given given' (Obeys world offset s line) s' (state_of held mid looked faults) new
-    → SaysAll world fixed given given' (RunsLine world offset s line) s' (state_of held old looked faults) new
-line_says_all world offset s line fixed given given' s' held old mid looked faults new is all = record {
+line_says_all : (world : Option WorldState) (offset : ℤ) (s : Session) (line : List ℕ) (fixed : Option ℤ) (clock clock' : ClockView) (s' : Session) (sink : SinkView) (old mid : List ℕ) (machine : MachineView) (new : State)
+    → mid ≡ old ++ said_question line → SaysAll fixed clock clock' (Obeys world offset s line) s' (state_of sink mid machine) new
+    → SaysAll fixed clock clock' (RunsLine world offset s line) s' (state_of sink old machine) new
+line_says_all world offset s line fixed clock clock' s' sink old mid machine new is all = record {
   moments = all.moments;
   run = after (saying (said_question line)) all.run;
   runs = (all.runs.0, all.runs.1, (all.run, all.runs.2, refl));
@@ -132,15 +132,15 @@ line_says_all world offset s line fixed given given' s' held old mid looked faul
     appended = all.says.appended;
     whole = echoed old (said_question line) mid all.run.bytes all.says.written new.waiting is all.says.whole;
     looked = all.says.looked;
-    faults = behind_echo all.run.faults faults new.faults all.says.faults;
+    faults = behind_echo all.run.faults machine.faults new.machine.faults all.says.faults;
   };
   dated = all.dated;
 }
 
-line_stops : (world : Option WorldState) (offset : ℤ) (s : Session) (line : List ℕ) (moments : List ℤ) (held : Option (List ℕ)) (old mid : List ℕ) (looked : Option (List Key)) (faults : ℕ) (new : State) → mid ≡ old ++ said_question line
-    → StopsEarly world (Obeys world offset s line moments) (state_of held mid looked faults) new → StopsEarly world (RunsLine world offset s line moments) (state_of held old looked faults) new
-line_stops world offset s line moments held old mid looked faults new is (inl none) = inl none
-line_stops world offset s line moments held old mid looked faults new is (inr (run, s', obeys, stops)) =
+line_stops : (world : Option WorldState) (offset : ℤ) (s : Session) (line : List ℕ) (moments : List ℤ) (sink : SinkView) (old mid : List ℕ) (machine : MachineView) (new : State) → mid ≡ old ++ said_question line
+    → StopsEarly (Obeys world offset s line moments) (state_of sink mid machine) new → StopsEarly (RunsLine world offset s line moments) (state_of sink old machine) new
+line_stops world offset s line moments sink old mid machine new is (inl none) = inl (record { keeps = none.keeps; looked = none.looked; steady = none.steady })
+line_stops world offset s line moments sink old mid machine new is (inr (run, s', obeys, stops)) =
     inr (
       after (saying (said_question line)) run,
       s',
@@ -151,44 +151,44 @@ line_stops world offset s line moments held old mid looked faults new is (inr (r
         unsaid = stops.unsaid;
         whole = echoed old (said_question line) mid run.bytes stops.written stops.unsaid is stops.whole;
         looks = stops.looks;
-        faults = behind_echo run.faults faults new.faults stops.faults;
+        faults = behind_echo run.faults machine.faults new.machine.faults stops.faults;
       },
     )
 
-pub line_says_front : (world : Option WorldState) (offset : ℤ) (s : Session) (line : List ℕ) (fixed : Option ℤ) (given given' : Option (List ℤ)) (held : Option (List ℕ)) (old mid : List ℕ) (looked : Option (List Key)) (faults : ℕ) (new : State)
-    → mid ≡ old ++ said_question line → SaysFront world fixed given given' (Obeys world offset s line) (state_of held mid looked faults) new
-    → SaysFront world fixed given given' (RunsLine world offset s line) (state_of held old looked faults) new
-line_says_front world offset s line fixed given given' held old mid looked faults new is some = record {
+line_says_front : (world : Option WorldState) (offset : ℤ) (s : Session) (line : List ℕ) (fixed : Option ℤ) (clock clock' : ClockView) (sink : SinkView) (old mid : List ℕ) (machine : MachineView) (new : State)
+    → mid ≡ old ++ said_question line → SaysFront fixed clock clock' (Obeys world offset s line) (state_of sink mid machine) new
+    → SaysFront fixed clock clock' (RunsLine world offset s line) (state_of sink old machine) new
+line_says_front world offset s line fixed clock clock' sink old mid machine new is some = record {
   moments = some.moments;
   few = some.few;
   dated = some.dated;
-  front = line_stops world offset s line some.moments held old mid looked faults new is some.front;
+  front = line_stops world offset s line some.moments sink old mid machine new is some.front;
 }
 
 -- nothing is said so far
-pub says_nothing : (world : Option WorldState) (fixed : Option ℤ) (given : Option (List ℤ)) (Runs : List ℤ → Run → Session → Type 0) (held : Option (List ℕ)) (old new : List ℕ) (looked : Option (List Key)) (faults : ℕ)
-    → SaysFront world fixed given given Runs (state_of held old looked faults) (state_of held new looked faults)
-says_nothing world fixed given Runs held old new looked faults = record {
+pub says_nothing : (fixed : Option ℤ) (clock : ClockView) (Runs : List ℤ → Run → Session → Type 0) (sink : SinkView) (old new : List ℕ) (machine : MachineView)
+    → SaysFront fixed clock clock Runs (state_of sink old machine) (state_of sink new machine)
+says_nothing fixed clock Runs sink old new machine = record {
   moments = [];
   few = omega arith;
-  dated = Dates-nil fixed given;
-  front = inl (Unwritten-refl world held looked faults);
+  dated = Dates-nil fixed clock.given;
+  front = inl (Unwritten-refl sink old new machine);
 }
 
 -- ---- what a line does to the devices
 
 -- all of it is written
-pub line_ran : (world : Option WorldState) (offset : ℤ) (s : Session) (line : List ℕ) (fixed : Option ℤ) (given given' : Option (List ℤ)) (s' : Session) (held mid held' : Option (List ℕ)) (old waits : List ℕ) (looked looked' : Option (List Key)) (faults faults' : ℕ)
-    → old ≡ [] → SaysAll world fixed given given' (RunsLine world offset s line) s' (state_of held old looked faults) (state_of mid waits looked' faults') → Appends mid held' waits
-    → (moments : List ℤ) × (run : Run) × RunsLine world offset s line moments run s' × Did world fixed (devices_of held looked faults given) (devices_of held' looked' faults' given') moments run
-line_ran world offset s line fixed given given' s' held mid held' old waits looked looked' faults faults' none all flushed =
-    let Written : List ℕ → Type 0 = λ l. Appends held held' l in
+line_ran : (offset : ℤ) (s : Session) (line : List ℕ) (fixed : Option ℤ) (clock clock' : ClockView) (s' : Session) (sink mid sink' : SinkView) (old waits : List ℕ) (machine machine' : MachineView)
+    → old ≡ [] → SaysAll fixed clock clock' (RunsLine machine.world offset s line) s' (state_of sink old machine) (state_of mid waits machine') → Appends mid.held sink'.held waits
+    → (moments : List ℤ) × (run : Run) × RunsLine machine.world offset s line moments run s' × Did machine.world fixed (devices sink machine clock) (devices sink' machine' clock') moments run
+line_ran offset s line fixed clock clock' s' sink mid sink' old waits machine machine' none all flushed =
+    let Written : List ℕ → Type 0 = λ l. Appends sink.held sink'.held l in
     let whole : all.run.bytes ≡ all.says.written ++ waits = ap (λ l. l ++ all.run.bytes) (sym none) ∙ all.says.whole in (
       all.moments,
       all.run,
       all.runs,
       record {
-        written = subst Written (sym whole) (Appends-trans held mid held' all.says.written waits all.says.appended flushed);
+        written = subst Written (sym whole) (Appends-trans sink.held mid.held sink'.held all.says.written waits all.says.appended flushed);
         looked = all.says.looked;
         faults = all.says.faults;
         dated = all.dated;
@@ -196,17 +196,17 @@ line_ran world offset s line fixed given given' s' held mid held' old waits look
     )
 
 -- a write at the end failed
-pub line_unwritten : (world : Option WorldState) (offset : ℤ) (s : Session) (line : List ℕ) (fixed : Option ℤ) (given given' : Option (List ℤ)) (s' : Session) (held mid held' : Option (List ℕ)) (old waits : List ℕ) (looked looked' : Option (List Key)) (faults faults' : ℕ)
-    → old ≡ [] → SaysAll world fixed given given' (RunsLine world offset s line) s' (state_of held old looked faults) (state_of mid waits looked' faults') → AppendsSome mid held' (IsFront waits)
-    → (moments : List ℤ) × (front : Run) × IsFrontOfLine world offset s line moments front × Did world fixed (devices_of held looked faults given) (devices_of held' looked' faults' given') moments front
-line_unwritten world offset s line fixed given given' s' held mid held' old waits looked looked' faults faults' none all front =
+line_unwritten : (offset : ℤ) (s : Session) (line : List ℕ) (fixed : Option ℤ) (clock clock' : ClockView) (s' : Session) (sink mid sink' : SinkView) (old waits : List ℕ) (machine machine' : MachineView)
+    → old ≡ [] → SaysAll fixed clock clock' (RunsLine machine.world offset s line) s' (state_of sink old machine) (state_of mid waits machine') → AppendsSome mid.held sink'.held (IsFront waits)
+    → (moments : List ℤ) × (front : Run) × IsFrontOfLine machine.world offset s line moments front × Did machine.world fixed (devices sink machine clock) (devices sink' machine' clock') moments front
+line_unwritten offset s line fixed clock clock' s' sink mid sink' old waits machine machine' none all front =
     let whole : all.run.bytes ≡ all.says.written ++ waits = ap (λ l. l ++ all.run.bytes) (sym none) ∙ all.says.whole in
     let said : all.run.bytes ≡ (all.says.written ++ front.0) ++ front.1.0 = whole ∙ ap (λ l. all.says.written ++ l) front.1.1 ∙ sym (append_assoc all.says.written front.0 front.1.0) in (
       all.moments,
       record { bytes = all.says.written ++ front.0; looks = all.run.looks; faults = all.run.faults },
       inr (all.run, s', all.runs, record { written = (front.1.0, said); unlooked = []; looked = sym (append-nil all.run.looks); faults = refl }),
       record {
-        written = Appends-trans held mid held' all.says.written front.0 all.says.appended front.2;
+        written = Appends-trans sink.held mid.held sink'.held all.says.written front.0 all.says.appended front.2;
         looked = all.says.looked;
         faults = all.says.faults;
         dated = all.dated;
@@ -219,23 +219,22 @@ kept None b p = tt
 kept (Some x) None p = absurd p
 kept (Some x) (Some y) p = p ∙ sym (append-nil x)
 
-began : (world : Option WorldState) (offset : ℤ) (s : Session) (line : List ℕ) (fixed : Option ℤ) (given given' : Option (List ℤ)) (held held' : Option (List ℕ)) (old waits : List ℕ) (looked looked' : Option (List Key)) (faults faults' : ℕ) (moments : List ℤ)
-    → old ≡ [] → length moments ≤ 1 → Dates fixed given given' moments
-    → StopsEarly world (RunsLine world offset s line moments) (state_of held old looked faults) (state_of held' waits looked' faults')
-    → (moments : List ℤ) × (front : Run) × IsFrontOfLine world offset s line moments front × Did world fixed (devices_of held looked faults given) (devices_of held' looked' faults' given') moments front
-began world offset s line fixed given given' held held' old waits looked looked' faults faults' moments none few dated (inl unwritten) =
-    let Later : ℕ → Type 0 = λ n. RoseBy 0 faults n in (
-      moments,
-      nothing,
-      inl (few, refl),
-      record {
-        written = kept held held' unwritten.0;
-        looked = unwritten.1;
-        faults = subst Later (sym unwritten.2) (RoseBy-none faults faults (omega arith));
-        dated = dated;
-      },
-    )
-began world offset s line fixed given given' held held' old waits looked looked' faults faults' moments none few dated (inr (run, s', runs, stops)) =
+began : (offset : ℤ) (s : Session) (line : List ℕ) (fixed : Option ℤ) (clock clock' : ClockView) (sink sink' : SinkView) (old waits : List ℕ) (machine machine' : MachineView) (moments : List ℤ)
+    → old ≡ [] → length moments ≤ 1 → Dates fixed clock.given clock'.given moments
+    → StopsEarly (RunsLine machine.world offset s line moments) (state_of sink old machine) (state_of sink' waits machine')
+    → (moments : List ℤ) × (front : Run) × IsFrontOfLine machine.world offset s line moments front × Did machine.world fixed (devices sink machine clock) (devices sink' machine' clock') moments front
+began offset s line fixed clock clock' sink sink' old waits machine machine' moments none few dated (inl unwritten) = (
+  moments,
+  nothing,
+  inl (few, refl),
+  record {
+    written = kept sink.held sink'.held unwritten.keeps;
+    looked = unwritten.looked;
+    faults = CountsFailed-none machine.faults machine'.faults unwritten.steady;
+    dated = dated;
+  },
+)
+began offset s line fixed clock clock' sink sink' old waits machine machine' moments none few dated (inr (run, s', runs, stops)) =
     let whole : run.bytes ≡ stops.written ++ stops.unsaid = ap (λ l. l ++ run.bytes) (sym none) ∙ stops.whole in (
       moments,
       record { bytes = stops.written; looks = stops.looks.keys; faults = run.faults },
@@ -248,11 +247,11 @@ began world offset s line fixed given given' held held' old waits looked looked'
       },
     )
 
-pub line_began : (world : Option WorldState) (offset : ℤ) (s : Session) (line : List ℕ) (fixed : Option ℤ) (given given' : Option (List ℤ)) (held held' : Option (List ℕ)) (old waits : List ℕ) (looked looked' : Option (List Key)) (faults faults' : ℕ)
-    → old ≡ [] → SaysFront world fixed given given' (RunsLine world offset s line) (state_of held old looked faults) (state_of held' waits looked' faults')
-    → (moments : List ℤ) × (front : Run) × IsFrontOfLine world offset s line moments front × Did world fixed (devices_of held looked faults given) (devices_of held' looked' faults' given') moments front
-line_began world offset s line fixed given given' held held' old waits looked looked' faults faults' none some =
-    began world offset s line fixed given given' held held' old waits looked looked' faults faults' some.moments none some.few some.dated some.front
+pub line_began : (offset : ℤ) (s : Session) (line : List ℕ) (fixed : Option ℤ) (clock clock' : ClockView) (sink sink' : SinkView) (old waits : List ℕ) (machine machine' : MachineView)
+    → old ≡ [] → SaysFront fixed clock clock' (RunsLine machine.world offset s line) (state_of sink old machine) (state_of sink' waits machine')
+    → (moments : List ℤ) × (front : Run) × IsFrontOfLine machine.world offset s line moments front × Did machine.world fixed (devices sink machine clock) (devices sink' machine' clock') moments front
+line_began offset s line fixed clock clock' sink sink' old waits machine machine' none some =
+    began offset s line fixed clock clock' sink sink' old waits machine machine' some.moments none some.few some.dated some.front
 
 -- ---- the code's sessions
 
@@ -303,67 +302,64 @@ pub tells_page : (offset : ℤ) (s : Session) (P : Trace → Type 0) (span : Pla
 tells_page offset s P span told room s' is tells next = let In : Option ℕ → Type 0 = λ r. TellsSome offset span r P told in (told, subst In is tells, refl, next)
 
 -- nothing of it is written
-pub Stops-nothing : (world : Option WorldState) (held : Option (List ℕ)) (old new : List ℕ) (looked : Option (List Key)) (faults : ℕ) (bytes : List ℕ) → Stops world (state_of held old looked faults) (state_of held new looked faults) (saying bytes)
-Stops-nothing world held old new looked faults bytes = record {
+pub Stops-nothing : (sink : SinkView) (old new : List ℕ) (machine : MachineView) (bytes : List ℕ) → Stops (state_of sink old machine) (state_of sink new machine) (saying bytes)
+Stops-nothing sink old new machine bytes = record {
   written = [];
-  appended = Appends-nil held;
+  appended = Appends-nil sink.held;
   unsaid = old ++ bytes;
   whole = refl;
-  looks = LooksFront-none world looked [];
-  faults = RoseBy-none faults faults (omega arith);
+  looks = LooksFront-none machine.world machine.looked [];
+  faults = CountsFailed-none machine.faults machine.faults refl;
 }
 
 -- a run of one kind is one of another
-stops_as : (world : Option WorldState) (old new : State) (Was Is : Run → Session → Type 0) → ((run : Run) (s : Session) → Was run s → Is run s) → StopsEarly world Was old new → StopsEarly world Is old new
-stops_as world old new Was Is turn (inl none) = inl none
-stops_as world old new Was Is turn (inr (run, s, was, stops)) = inr (run, s, turn run s was, stops)
+abbrev Turns : (Run → Session → Type 0) → (Run → Session → Type 0) → Type 0
+Turns Was Is = (run : Run) (s : Session) → Was run s → Is run s
 
-pub said_as : {T E : Type 0} (r : Result T E) (world : Option WorldState) (Was Is : Run → Session → Type 0) (now : Session) (old new : State) → ((run : Run) (s : Session) → Was run s → Is run s)
-    → MatchResult r (λ _. SaysOf world Was now old new) (λ _. StopsIn world Was old new) → MatchResult r (λ _. SaysOf world Is now old new) (λ _. StopsIn world Is old new)
-said_as (Ok x) world Was Is now old new turn said = (said.0, turn said.0 now said.1, said.2)
-said_as (Err e) world Was Is now old new turn said = (said.0, said.1, turn said.0 said.1 said.2, said.3)
+stops_as : (old new : State) (Was Is : Run → Session → Type 0) → Turns Was Is → StopsEarly Was old new → StopsEarly Is old new
+stops_as old new Was Is turn (inl none) = inl none
+stops_as old new Was Is turn (inr (run, s, was, stops)) = inr (run, s, turn run s was, stops)
 
-pub said_early : {T E : Type 0} (r : Result T E) (world : Option WorldState) (Was Is : Run → Session → Type 0) (now : Session) (old new : State) → ((run : Run) (s : Session) → Was run s → Is run s)
-    → MatchResult r (λ _. SaysOf world Was now old new) (λ _. StopsIn world Was old new) → MatchResult r (λ _. SaysOf world Is now old new) (λ _. StopsEarly world Is old new)
-said_early (Ok x) world Was Is now old new turn said = (said.0, turn said.0 now said.1, said.2)
-said_early (Err e) world Was Is now old new turn said = inr (said.0, said.1, turn said.0 said.1 said.2, said.3)
+pub said_as : {T E : Type 0} (r : Result T E) (Was Is : Run → Session → Type 0) (now : Session) (old new : State) → Turns Was Is → SaysOrStops Was now old new r → SaysOrStops Is now old new r
+said_as (Ok x) Was Is now old new turn said = (said.0, turn said.0 now said.1, said.2)
+said_as (Err e) Was Is now old new turn said = (said.0, said.1, turn said.0 said.1 said.2, said.3)
+
+pub said_early : {T E : Type 0} (r : Result T E) (Was Is : Run → Session → Type 0) (now : Session) (old new : State) → Turns Was Is → SaysOrStops Was now old new r → SaysOrStopsEarly Is now old new r
+said_early (Ok x) Was Is now old new turn said = (said.0, turn said.0 now said.1, said.2)
+said_early (Err e) Was Is now old new turn said = inr (said.0, said.1, turn said.0 said.1 said.2, said.3)
 
 -- with the moments had
-pub said_dated : {T E : Type 0} (r : Result T E) (world : Option WorldState) (Was : Run → Session → Type 0) (Runs : List ℤ → Run → Session → Type 0) (fixed : Option ℤ) (given given' : Option (List ℤ)) (moments : List ℤ) (now : Session) (old new : State)
-    → length moments ≤ 1 → Dates fixed given given' moments → ((run : Run) (s : Session) → Was run s → Runs moments run s)
-    → MatchResult r (λ _. SaysOf world Was now old new) (λ _. StopsEarly world Was old new) → MatchResult r (λ _. SaysAll world fixed given given' Runs now old new) (λ _. SaysFront world fixed given given' Runs old new)
-said_dated (Ok x) world Was Runs fixed given given' moments now old new few dated turn said = record { moments = moments; run = said.0; runs = turn said.0 now said.1; says = said.2; dated = dated }
-said_dated (Err e) world Was Runs fixed given given' moments now old new few dated turn said = record { moments = moments; few = few; dated = dated; front = stops_as world old new Was (Runs moments) turn said }
+pub said_dated : {T E : Type 0} (r : Result T E) (Was : Run → Session → Type 0) (Runs : List ℤ → Run → Session → Type 0) (fixed : Option ℤ) (clock clock' : ClockView) (moments : List ℤ) (now : Session) (old new : State)
+    → length moments ≤ 1 → Dates fixed clock.given clock'.given moments → Turns Was (Runs moments) → SaysOrStopsEarly Was now old new r → SaysDated fixed clock clock' Runs now old new r
+said_dated (Ok x) Was Runs fixed clock clock' moments now old new few dated turn said = record { moments = moments; run = said.0; runs = turn said.0 now said.1; says = said.2; dated = dated }
+said_dated (Err e) Was Runs fixed clock clock' moments now old new few dated turn said = record { moments = moments; few = few; dated = dated; front = stops_as old new Was (Runs moments) turn said }
 
 -- what a line asks for is done
-pub obeyed : {T E : Type 0} (r : Result T E) (world : Option WorldState) (offset : ℤ) (s : Session) (line : List ℕ) (what : Line) (fixed : Option ℤ) (given given' : Option (List ℤ)) (now : Session) (old new : State) → Asks line what
-    → MatchResult r (λ _. SaysAll world fixed given given' (Answers world offset s line what) now old new) (λ _. SaysFront world fixed given given' (Answers world offset s line what) old new)
-    → MatchResult r (λ _. SaysAll world fixed given given' (Obeys world offset s line) now old new) (λ _. SaysFront world fixed given given' (Obeys world offset s line) old new)
-obeyed (Ok x) world offset s line what fixed given given' now old new asks all = record { moments = all.moments; run = all.run; runs = (what, asks, all.runs); says = all.says; dated = all.dated }
-obeyed (Err e) world offset s line what fixed given given' now old new asks some = record {
+pub obeyed : {T E : Type 0} (r : Result T E) (world : Option WorldState) (offset : ℤ) (s : Session) (line : List ℕ) (what : Line) (fixed : Option ℤ) (clock clock' : ClockView) (now : Session) (old new : State) → Asks line what
+    → SaysDated fixed clock clock' (Answers world offset s line what) now old new r → SaysDated fixed clock clock' (Obeys world offset s line) now old new r
+obeyed (Ok x) world offset s line what fixed clock clock' now old new asks all = record { moments = all.moments; run = all.run; runs = (what, asks, all.runs); says = all.says; dated = all.dated }
+obeyed (Err e) world offset s line what fixed clock clock' now old new asks some = record {
   moments = some.moments;
   few = some.few;
   dated = some.dated;
-  front = stops_as world old new (Answers world offset s line what some.moments) (Obeys world offset s line some.moments) (λ run s' is. (what, asks, is)) some.front;
+  front = stops_as old new (Answers world offset s line what some.moments) (Obeys world offset s line some.moments) (λ run s' is. (what, asks, is)) some.front;
 }
 
 -- bytes are said, and no moment is used
-pub says_bytes : (world : Option WorldState) (fixed : Option ℤ) (given : Option (List ℤ)) (Runs : List ℤ → Run → Session → Type 0) (now : Session) (held : Option (List ℕ)) (old new : List ℕ) (looked : Option (List Key)) (faults : ℕ) (bytes : List ℕ) → new ≡ old ++ bytes → Runs [] (saying bytes) now
-    → SaysAll world fixed given given Runs now (state_of held old looked faults) (state_of held new looked faults)
-says_bytes world fixed given Runs now held old new looked faults bytes is runs = record { moments = []; run = saying bytes; runs = runs; says = Says-bytes world held old new looked faults bytes is; dated = Dates-nil fixed given }
+pub says_bytes : (fixed : Option ℤ) (clock : ClockView) (Runs : List ℤ → Run → Session → Type 0) (now : Session) (sink : SinkView) (old new : List ℕ) (machine : MachineView) (bytes : List ℕ) → new ≡ old ++ bytes → Runs [] (saying bytes) now
+    → SaysAll fixed clock clock Runs now (state_of sink old machine) (state_of sink new machine)
+says_bytes fixed clock Runs now sink old new machine bytes is runs = record { moments = []; run = saying bytes; runs = runs; says = Says-bytes sink old new machine bytes is; dated = Dates-nil fixed clock.given }
 
 -- a line is said behind its echo
-pub line_said : {T E : Type 0} (r : Result T E) (world : Option WorldState) (offset : ℤ) (s : Session) (line : List ℕ) (fixed : Option ℤ) (given given' : Option (List ℤ)) (now : Session) (held : Option (List ℕ)) (old mid : List ℕ) (looked : Option (List Key)) (faults : ℕ) (new : State) → mid ≡ old ++ said_question line
-    → MatchResult r (λ _. SaysAll world fixed given given' (Obeys world offset s line) now (state_of held mid looked faults) new) (λ _. SaysFront world fixed given given' (Obeys world offset s line) (state_of held mid looked faults) new)
-    → MatchResult r (λ _. SaysAll world fixed given given' (RunsLine world offset s line) now (state_of held old looked faults) new) (λ _. SaysFront world fixed given given' (RunsLine world offset s line) (state_of held old looked faults) new)
-line_said (Ok x) world offset s line fixed given given' now held old mid looked faults new is all = line_says_all world offset s line fixed given given' now held old mid looked faults new is all
-line_said (Err e) world offset s line fixed given given' now held old mid looked faults new is some = line_says_front world offset s line fixed given given' held old mid looked faults new is some
+pub line_said : {T E : Type 0} (r : Result T E) (world : Option WorldState) (offset : ℤ) (s : Session) (line : List ℕ) (fixed : Option ℤ) (clock clock' : ClockView) (now : Session) (sink : SinkView) (old mid : List ℕ) (machine : MachineView) (new : State) → mid ≡ old ++ said_question line
+    → SaysDated fixed clock clock' (Obeys world offset s line) now (state_of sink mid machine) new r → SaysDated fixed clock clock' (RunsLine world offset s line) now (state_of sink old machine) new r
+line_said (Ok x) world offset s line fixed clock clock' now sink old mid machine new is all = line_says_all world offset s line fixed clock clock' now sink old mid machine new is all
+line_said (Err e) world offset s line fixed clock clock' now sink old mid machine new is some = line_says_front world offset s line fixed clock clock' sink old mid machine new is some
 
 -- a line is written, or a front of it
-pub line_written : {T E : Type 0} (r : Result T E) (world : Option WorldState) (offset : ℤ) (s : Session) (line : List ℕ) (fixed : Option ℤ) (given given' : Option (List ℤ)) (s' : Session) (held mid held' : Option (List ℕ)) (old waits : List ℕ) (looked looked' : Option (List Key)) (faults faults' : ℕ)
-    → old ≡ [] → SaysAll world fixed given given' (RunsLine world offset s line) s' (state_of held old looked faults) (state_of mid waits looked' faults')
-    → MatchResult r (λ _. Appends mid held' waits) (λ _. AppendsSome mid held' (IsFront waits))
-    → MatchResult r (λ _. (moments : List ℤ) × (run : Run) × RunsLine world offset s line moments run s' × Did world fixed (devices_of held looked faults given) (devices_of held' looked' faults' given') moments run)
-    (λ _. (moments : List ℤ) × (front : Run) × IsFrontOfLine world offset s line moments front × Did world fixed (devices_of held looked faults given) (devices_of held' looked' faults' given') moments front)
-line_written (Ok x) world offset s line fixed given given' s' held mid held' old waits looked looked' faults faults' none all flushed = line_ran world offset s line fixed given given' s' held mid held' old waits looked looked' faults faults' none all flushed
-line_written (Err e) world offset s line fixed given given' s' held mid held' old waits looked looked' faults faults' none all front = line_unwritten world offset s line fixed given given' s' held mid held' old waits looked looked' faults faults' none all front
+pub line_written : {T E : Type 0} (r : Result T E) (offset : ℤ) (s : Session) (line : List ℕ) (fixed : Option ℤ) (clock clock' : ClockView) (s' : Session) (sink mid sink' : SinkView) (old waits : List ℕ) (machine machine' : MachineView)
+    → old ≡ [] → SaysAll fixed clock clock' (RunsLine machine.world offset s line) s' (state_of sink old machine) (state_of mid waits machine')
+    → MatchResult r (λ _. Appends mid.held sink'.held waits) (λ _. AppendsSome mid.held sink'.held (IsFront waits))
+    → DoesLine offset fixed s line s' (devices sink machine clock) (devices sink' machine' clock') r
+line_written (Ok x) offset s line fixed clock clock' s' sink mid sink' old waits machine machine' none all flushed = line_ran offset s line fixed clock clock' s' sink mid sink' old waits machine machine' none all flushed
+line_written (Err e) offset s line fixed clock clock' s' sink mid sink' old waits machine machine' none all front = line_unwritten offset s line fixed clock clock' s' sink mid sink' old waits machine machine' none all front

@@ -1,3 +1,4 @@
+pub mod Failing
 pub mod LineLemmas
 pub mod Tellings
 pub mod Lasting

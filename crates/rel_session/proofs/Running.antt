@@ -7,7 +7,8 @@ use Rattle.desk_base.specs.Moments.{AppendsMoments}
 use Rattle.bf_world.specs.Worlds.{WorldState}
 use Rattle.rel_session.specs.Devices.{Devices, Dates, Did, DidAll, DidFront}
 use Rattle.rel_session.specs.Sessions.{Session, Run, nothing, after, RunsLine, Runs, IsFrontOfLine, IsFrontOfRun}
-use Rattle.bf_machine.proofs.Telling.{LooksUp-nil, LooksUp-trans, RoseBy-more, RoseBy-none}
+use Rattle.bf_machine.proofs.Telling.{LooksUp-nil, LooksUp-trans}
+use Rattle.rel_session.proofs.Failing.{CountsFailed-more, CountsFailed-none}
 
 AppendsMoments-nil : (a : Option (List ℤ)) → AppendsMoments a a []
 AppendsMoments-nil None = tt
@@ -29,18 +30,18 @@ Dates-trans (Some moment) a b c xs ys p q = (All-append (λ x. x ≡ moment) xs 
 
 Did-nil : (world : Option WorldState) (fixed : Option ℤ) (a : Devices) → Did world fixed a a [] nothing
 Did-nil world fixed a = record {
-  written = Appends-nil a.held;
-  looked = LooksUp-nil world a.looked;
-  faults = RoseBy-none a.faults a.faults (omega arith);
-  dated = Dates-nil fixed a.given;
+  written = Appends-nil a.sink.held;
+  looked = LooksUp-nil world a.machine.looked;
+  faults = CountsFailed-none a.machine.faults a.machine.faults refl;
+  dated = Dates-nil fixed a.clock.given;
 }
 
 Did-trans : (world : Option WorldState) (fixed : Option ℤ) (a b c : Devices) (xs ys : List ℤ) (r s : Run) → Did world fixed a b xs r → Did world fixed b c ys s → Did world fixed a c (xs ++ ys) (after r s)
 Did-trans world fixed a b c xs ys r s p q = record {
-  written = Appends-trans a.held b.held c.held r.bytes s.bytes p.written q.written;
-  looked = LooksUp-trans world a.looked b.looked c.looked r.looks s.looks p.looked q.looked;
-  faults = RoseBy-more r.faults s.faults a.faults b.faults c.faults p.faults q.faults;
-  dated = Dates-trans fixed a.given b.given c.given xs ys p.dated q.dated;
+  written = Appends-trans a.sink.held b.sink.held c.sink.held r.bytes s.bytes p.written q.written;
+  looked = LooksUp-trans world a.machine.looked b.machine.looked c.machine.looked r.looks s.looks p.looked q.looked;
+  faults = CountsFailed-more r.faults s.faults a.machine.faults b.machine.faults c.machine.faults p.faults q.faults;
+  dated = Dates-trans fixed a.clock.given b.clock.given c.clock.given xs ys p.dated q.dated;
 }
 
 after_nothing : (r : Run) → after r nothing ≡ r
@@ -59,35 +60,35 @@ after_after a b c =
     ∙ ap (λ n. With (a.bytes ++ (b.bytes ++ c.bytes)) (a.looks ++ (b.looks ++ c.looks)) n) (omega arith)
 
 -- Some first lines are run; what is run of the rest, or a front of it, goes on from there.
-pub record RanSoFar (world : Option WorldState) (offset : ℤ) (fixed : Option ℤ) (first : Session) (lines : List (List ℕ)) (old : Devices) (s : Session) (rest : List (List ℕ)) (now : Devices) : Type 0 where
+pub record RanSoFar (offset : ℤ) (fixed : Option ℤ) (first : Session) (lines : List (List ℕ)) (old : Devices) (s : Session) (rest : List (List ℕ)) (now : Devices) : Type 0 where
   pub moments : List ℤ
   pub run : Run
-  pub did : Did world fixed old now moments run
-  pub whole : (later : List ℤ) (r : Run) → Runs world offset s rest later r → Runs world offset first lines (moments ++ later) (after run r)
-  pub front : (later : List ℤ) (r : Run) → IsFrontOfRun world offset s rest later r → IsFrontOfRun world offset first lines (moments ++ later) (after run r)
+  pub did : Did old.machine.world fixed old now moments run
+  pub whole : (later : List ℤ) (r : Run) → Runs old.machine.world offset s rest later r → Runs old.machine.world offset first lines (moments ++ later) (after run r)
+  pub front : (later : List ℤ) (r : Run) → IsFrontOfRun old.machine.world offset s rest later r → IsFrontOfRun old.machine.world offset first lines (moments ++ later) (after run r)
 
-pub RanSoFar-start : (world : Option WorldState) (offset : ℤ) (fixed : Option ℤ) (s : Session) (lines : List (List ℕ)) (a : Devices) → RanSoFar world offset fixed s lines a s lines a
-RanSoFar-start world offset fixed s lines a = record {
+pub RanSoFar-start : (offset : ℤ) (fixed : Option ℤ) (s : Session) (lines : List (List ℕ)) (a : Devices) → RanSoFar offset fixed s lines a s lines a
+RanSoFar-start offset fixed s lines a = record {
   moments = [];
   run = nothing;
-  did = Did-nil world fixed a;
-  whole = λ later r runs. let Ran : Run → Type 0 = λ z. Runs world offset s lines later z in subst Ran (nothing_after r) runs;
-  front = λ later r is. let Ran : Run → Type 0 = λ z. IsFrontOfRun world offset s lines later z in subst Ran (nothing_after r) is;
+  did = Did-nil a.machine.world fixed a;
+  whole = λ later r runs. let Ran : Run → Type 0 = λ z. Runs a.machine.world offset s lines later z in subst Ran (nothing_after r) runs;
+  front = λ later r is. let Ran : Run → Type 0 = λ z. IsFrontOfRun a.machine.world offset s lines later z in subst Ran (nothing_after r) is;
 }
 
 -- the next line is run
-pub RanSoFar-step : (world : Option WorldState) (offset : ℤ) (fixed : Option ℤ) (first : Session) (lines : List (List ℕ)) (old : Devices) (s s' : Session) (rest more : List (List ℕ)) (line : List ℕ) (now new : Devices) (moments : List ℤ) (run : Run)
-    → RanSoFar world offset fixed first lines old s rest now → rest ≡ line ∷ more → RunsLine world offset s line moments run s' → Did world fixed now new moments run
-    → RanSoFar world offset fixed first lines old s' more new
-RanSoFar-step world offset fixed first lines old s s' rest more line now new moments run before is runs did =
-    let Before : List (List ℕ) → Type 0 = λ l. RanSoFar world offset fixed first lines old s l now in
-    let b : RanSoFar world offset fixed first lines old s (line ∷ more) now = subst Before is before in
-    let Ran : Run → List ℤ → Type 0 = λ r l. Runs world offset first lines l r in
-    let Front : Run → List ℤ → Type 0 = λ r l. IsFrontOfRun world offset first lines l r in
+pub RanSoFar-step : (offset : ℤ) (fixed : Option ℤ) (first : Session) (lines : List (List ℕ)) (old : Devices) (s s' : Session) (rest more : List (List ℕ)) (line : List ℕ) (now new : Devices) (moments : List ℤ) (run : Run)
+    → RanSoFar offset fixed first lines old s rest now → rest ≡ line ∷ more → RunsLine old.machine.world offset s line moments run s' → Did old.machine.world fixed now new moments run
+    → RanSoFar offset fixed first lines old s' more new
+RanSoFar-step offset fixed first lines old s s' rest more line now new moments run before is runs did =
+    let Before : List (List ℕ) → Type 0 = λ l. RanSoFar offset fixed first lines old s l now in
+    let b : RanSoFar offset fixed first lines old s (line ∷ more) now = subst Before is before in
+    let Ran : Run → List ℤ → Type 0 = λ r l. Runs old.machine.world offset first lines l r in
+    let Front : Run → List ℤ → Type 0 = λ r l. IsFrontOfRun old.machine.world offset first lines l r in
     record {
       moments = b.moments ++ moments;
       run = after b.run run;
-      did = Did-trans world fixed old now new b.moments moments b.run run b.did did;
+      did = Did-trans old.machine.world fixed old now new b.moments moments b.run run b.did did;
       whole = λ later r goes.
           subst (λ z. Ran z ((b.moments ++ moments) ++ later)) (sym (after_after b.run run r))
           (subst (Ran (after b.run (after run r))) (sym (append_assoc b.moments moments later)) (b.whole (moments ++ later) (after run r) (moments, later, refl, (run, s', runs, (r, goes, refl)))));
@@ -97,20 +98,20 @@ RanSoFar-step world offset fixed first lines old s s' rest more line now new mom
     }
 
 -- a front of the next line is run
-pub RanSoFar-stop : (world : Option WorldState) (offset : ℤ) (fixed : Option ℤ) (first : Session) (lines : List (List ℕ)) (old : Devices) (s : Session) (rest more : List (List ℕ)) (line : List ℕ) (now new : Devices) (moments : List ℤ) (front : Run)
-    → RanSoFar world offset fixed first lines old s rest now → rest ≡ line ∷ more → IsFrontOfLine world offset s line moments front → Did world fixed now new moments front
-    → DidFront world offset first lines fixed old new
-RanSoFar-stop world offset fixed first lines old s rest more line now new moments front before is some did =
-    let Before : List (List ℕ) → Type 0 = λ l. RanSoFar world offset fixed first lines old s l now in
-    let b : RanSoFar world offset fixed first lines old s (line ∷ more) now = subst Before is before in
-    (b.moments ++ moments, after b.run front, b.front moments front (inl some), Did-trans world fixed old now new b.moments moments b.run front b.did did)
+pub RanSoFar-stop : (offset : ℤ) (fixed : Option ℤ) (first : Session) (lines : List (List ℕ)) (old : Devices) (s : Session) (rest more : List (List ℕ)) (line : List ℕ) (now new : Devices) (moments : List ℤ) (front : Run)
+    → RanSoFar offset fixed first lines old s rest now → rest ≡ line ∷ more → IsFrontOfLine old.machine.world offset s line moments front → Did old.machine.world fixed now new moments front
+    → DidFront offset first lines fixed old new
+RanSoFar-stop offset fixed first lines old s rest more line now new moments front before is some did =
+    let Before : List (List ℕ) → Type 0 = λ l. RanSoFar offset fixed first lines old s l now in
+    let b : RanSoFar offset fixed first lines old s (line ∷ more) now = subst Before is before in
+    (b.moments ++ moments, after b.run front, b.front moments front (inl some), Did-trans old.machine.world fixed old now new b.moments moments b.run front b.did did)
 
 -- all lines are run
-pub RanSoFar-end : (world : Option WorldState) (offset : ℤ) (fixed : Option ℤ) (first : Session) (lines : List (List ℕ)) (old : Devices) (s : Session) (rest : List (List ℕ)) (now : Devices) → RanSoFar world offset fixed first lines old s rest now → rest ≡ []
-    → DidAll world offset first lines fixed old now
-RanSoFar-end world offset fixed first lines old s rest now before is =
-    let Before : List (List ℕ) → Type 0 = λ l. RanSoFar world offset fixed first lines old s l now in
-    let b : RanSoFar world offset fixed first lines old s [] now = subst Before is before in
-    let Moments : List ℤ → Type 0 = λ l. Did world fixed old now l (after b.run nothing) in
-    let Done : Run → Type 0 = λ r. Did world fixed old now b.moments r in
+pub RanSoFar-end : (offset : ℤ) (fixed : Option ℤ) (first : Session) (lines : List (List ℕ)) (old : Devices) (s : Session) (rest : List (List ℕ)) (now : Devices) → RanSoFar offset fixed first lines old s rest now → rest ≡ []
+    → DidAll offset first lines fixed old now
+RanSoFar-end offset fixed first lines old s rest now before is =
+    let Before : List (List ℕ) → Type 0 = λ l. RanSoFar offset fixed first lines old s l now in
+    let b : RanSoFar offset fixed first lines old s [] now = subst Before is before in
+    let Moments : List ℤ → Type 0 = λ l. Did old.machine.world fixed old now l (after b.run nothing) in
+    let Done : Run → Type 0 = λ r. Did old.machine.world fixed old now b.moments r in
     (b.moments ++ [], after b.run nothing, b.whole [] nothing (refl, refl), subst Moments (sym (append-nil b.moments)) (subst Done (sym (after_nothing b.run)) b.did))

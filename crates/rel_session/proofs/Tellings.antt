@@ -92,7 +92,14 @@ value_comes offset span room v (On next) said short comes t =
     (λ u told. inr (short, (onto said [] u, (comes t).0 u told, ap (λ l. record u { bytes = l }) (append_assoc (said_value (text_of offset v)) said u.bytes))), refl)
 value_comes offset span room v (Out why) said short comes t =
     let c = comes t in
-    (onto (said_value (text_of offset v)) [] c.0, inr (short, (c.0, c.1, refl)), c.2, ap (λ l. said_value (text_of offset v) ++ l) c.3, c.4, c.5)
+    record {
+      told = onto (said_value (text_of offset v)) [] c.told;
+      is = inr (short, (c.told, c.is, refl));
+      goes = c.goes;
+      bytes = ap (λ l. said_value (text_of offset v) ++ l) c.bytes;
+      looks = c.looks;
+      failed = c.failed;
+    }
 
 pub comes_of_value : (offset : ℤ) (span : Place) (room : Option ℕ) (v : Plain) (step : Step) (old mid new : List ℕ) → length (text_of offset v) ≤ 1048576
     → mid ≡ old ++ said_value (text_of offset v) → TellsValue offset span (λ t. GoesOn room t (λ left. Tells offset span left t)) step mid new
@@ -109,13 +116,17 @@ pub comes_of_long : (offset : ℤ) (span : Place) (room : Option ℕ) (v : Plain
 unfolding Tells
 comes_of_long offset span room v old new long said = record {
   said = said_error TextTooLong span;
-  comes = λ t. (ended (said_error TextTooLong span), inl (long, refl), refl, refl, refl, refl);
+  comes = λ t. record { told = ended (said_error TextTooLong span); is = inl (long, refl); goes = refl; bytes = refl; looks = refl; failed = refl };
   appended = said;
 }
 
 -- a page is full
 pub comes_of_full : (offset : ℤ) (span : Place) (old new : List ℕ) → new ≡ old ++ said_more → TellsValue offset span (λ t. GoesOn (Some 0) t (λ left. Tells offset span left t)) (Out left.More) old new
-comes_of_full offset span old new said = record { said = said_more; comes = λ t. (paused t, refl, refl, refl, refl, refl); appended = said }
+comes_of_full offset span old new said = record {
+  said = said_more;
+  comes = λ t. record { told = paused t; is = refl; goes = refl; bytes = refl; looks = refl; failed = refl };
+  appended = said;
+}
 
 -- a text that was refused for its length
 pub too_long : (text : List ℕ) (why : ValueFault) → why ≡ fault.TextTooLong → AnswersText text (Err why) → 1048576 < length text

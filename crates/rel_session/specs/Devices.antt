@@ -3,25 +3,33 @@ use Rattle.std.specs.Prelude.{◌≡◌, ⊤, ℕ, ℤ, List, All}
 use Rattle.std.specs.declared.option.Option.{Option}
 use Rattle.std.specs.declared.option.Option.TheVariants.{None, Some}
 use Rattle.std.specs.Io.KnownBytes.{Appends}
+use Rattle.desk_base.specs.Counts.{CountsFaults}
 use Rattle.desk_base.specs.Moments.{AppendsMoments, IsMoment}
+use Rattle.desk_base.specs.Views.{SinkView, ClockView}
 use Rattle.line_forms.specs.Numbers.{IsOffset}
 use Rattle.rel_session.specs.declared.asking.Asking.{Asking}
 use Rattle.bf_machine.specs.Looks.{LooksUp}
 use Rattle.bf_machine.specs.Rises.{RoseBy}
-use Rattle.bf_world.specs.declared.key.Key.{Key}
+use Rattle.bf_machine.specs.Views.{MachineView, OnlyLooks}
 use Rattle.bf_world.specs.Worlds.{WorldState}
 use Rattle.rel_session.specs.Sessions.{Session, Run, Runs, IsFrontOfRun}
 
--- the bytes that the sink holds, the keys that were looked up, how many looks failed, and the moments that the clock gave
+-- what the devices tell
 pub record Devices : Type 0 where
-  pub held : Option (List ℕ)
-  pub looked : Option (List Key)
-  pub faults : ℕ
-  pub given : Option (List ℤ)
+  pub sink : SinkView
+  pub machine : MachineView
+  pub clock : ClockView
 
 -- the devices that tell this
-abbrev pub devices_of : Option (List ℕ) → Option (List Key) → ℕ → Option (List ℤ) → Devices
-devices_of held looked faults given = record { held = held; looked = looked; faults = faults; given = given }
+abbrev pub devices : SinkView → MachineView → ClockView → Devices
+devices sink machine clock = record { sink = sink; machine = machine; clock = clock }
+
+-- Nothing was done but to look, to write and to ask for moments; the counts of the sink and the clock rose where these failed, and stayed
+-- where they didn't.
+pub record OnlyAsks (sink_failed clock_failed : Type 0) (old new : Devices) : Type 0 where
+  pub looks : OnlyLooks old.machine new.machine
+  pub sink : CountsFaults sink_failed old.sink.faults new.sink.faults
+  pub clock : CountsFaults clock_failed old.clock.faults new.clock.faults
 
 -- a fixed moment is one
 abbrev pub IsDate : Option ℤ → Type 0
@@ -33,20 +41,27 @@ abbrev pub Dates : Option ℤ → Option (List ℤ) → Option (List ℤ) → Li
 Dates None old new moments = AppendsMoments old new moments
 Dates (Some fixed) old new moments = All (λ moment. moment ≡ fixed) moments × (new ≡ old)
 
+-- So many looks failed: the count of faults rose by at least as many, or stands still at its last value, and it stayed where none did.
+pub record CountsFailed (failed old new : ℕ) : Type 0 where
+  pub rose : RoseBy failed old new
+  pub steady : failed ≡ 0 → new ≡ old
+
 -- The devices did this run, or this front of one, with these moments.
 pub record Did (world : Option WorldState) (fixed : Option ℤ) (old new : Devices) (moments : List ℤ) (run : Run) : Type 0 where
-  pub written : Appends old.held new.held run.bytes
-  pub looked : LooksUp world old.looked new.looked run.looks
-  pub faults : RoseBy run.faults old.faults new.faults
-  pub dated : Dates fixed old.given new.given moments
+  pub written : Appends old.sink.held new.sink.held run.bytes
+  pub looked : LooksUp world old.machine.looked new.machine.looked run.looks
+  pub faults : CountsFailed run.faults old.machine.faults new.machine.faults
+  pub dated : Dates fixed old.clock.given new.clock.given moments
 
 -- All lines were run.
-abbrev pub DidAll : Option WorldState → ℤ → Session → List (List ℕ) → Option ℤ → Devices → Devices → Type 0
-DidAll world offset s lines fixed old new = (moments : List ℤ) × (run : Run) × Runs world offset s lines moments run × Did world fixed old new moments run
+abbrev pub DidAll : ℤ → Session → List (List ℕ) → Option ℤ → Devices → Devices → Type 0
+DidAll offset s lines fixed old new = (moments : List ℤ) × (run : Run) × Runs old.machine.world offset s lines moments run
+    × Did old.machine.world fixed old new moments run
 
 -- A front of that was done.
-abbrev pub DidFront : Option WorldState → ℤ → Session → List (List ℕ) → Option ℤ → Devices → Devices → Type 0
-DidFront world offset s lines fixed old new = (moments : List ℤ) × (front : Run) × IsFrontOfRun world offset s lines moments front × Did world fixed old new moments front
+abbrev pub DidFront : ℤ → Session → List (List ℕ) → Option ℤ → Devices → Devices → Type 0
+DidFront offset s lines fixed old new = (moments : List ℤ) × (front : Run) × IsFrontOfRun old.machine.world offset s lines moments front
+    × Did old.machine.world fixed old new moments front
 
 -- Where and when questions are asked: the offset is one, and a fixed moment is one.
 abbrev pub IsAsking : Asking → Type 0

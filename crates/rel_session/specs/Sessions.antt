@@ -89,17 +89,20 @@ IsGiven (Some w) given t = t ≡ given w
 
 -- What is told of a trace, of which P holds, goes on from a session to the next.
 abbrev pub TellsOf : ℤ → Session → (Trace → Type 0) → Place → Run → Session → Type 0
-TellsOf offset s P span run s' = (told : Telling) × TellsSome offset span (room_of s.page) P told × (run ≡ told_run told) × (s' ≡ pausing s told.rest span)
+TellsOf offset s P span run s' =
+    (told : Telling) × TellsSome offset span (room_of s.page) P told × (run ≡ told_run told) × (s' ≡ pausing s told.rest span)
 
 -- What a text is, is answered at a moment: a question by what it means, and else the refusal.
 abbrev pub AnswersReading : Option WorldState → ℤ → ℤ → Session → Reading → Run → Session → Type 0
-AnswersReading world moment offset s (question plan) run s' = TellsOf offset s (IsGiven world (λ w. meaning w (scene_at moment offset) plan)) (span_of_node plan) run s'
+AnswersReading world moment offset s (question plan) run s' =
+    TellsOf offset s (IsGiven world (λ w. meaning w (scene_at moment offset) plan)) (span_of_node plan) run s'
 AnswersReading world moment offset s (refused kind place) run s' = (run ≡ saying (said_error kind place)) × (s' ≡ s)
 AnswersReading world moment offset s (undefined place words) run s' = (run ≡ saying (said_undefined place words)) × (s' ≡ s)
 
 -- A text is answered at a moment.
 unfoldable pub AnswersText : Option WorldState → ℤ → ℤ → Session → List ℕ → Run → Session → Type 0
-AnswersText world moment offset s text run s' = (reading : Reading) × Reads text reading × AnswersReading world moment offset s reading run s'
+AnswersText world moment offset s text run s' =
+    (reading : Reading) × Reads text reading × AnswersReading world moment offset s reading run s'
 
 -- The question that was paused last goes on; the first list is of those that were paused before it.
 abbrev pub GoesOnWith : Option WorldState → ℤ → Session → List Paused → Run → Session → Type 0

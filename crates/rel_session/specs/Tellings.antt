@@ -42,7 +42,8 @@ GoesOn (Some (suc n)) rest tells told = tells (Some n) told
 unfoldable pub Tells : ℤ → Place → Option ℕ → Trace → Telling → Type 0
 Tells offset span room (Ends Stop) told = told ≡ ended []
 Tells offset span room (Ends (Error kind place)) told = told ≡ ended (said_error kind place)
-Tells offset span room (After (Look place key) t) told = (told ≡ faulted place) ⊎ ((u : Telling) × Tells offset span room t u × (told ≡ onto [] (key ∷ []) u))
+Tells offset span room (After (Look place key) t) told =
+    (told ≡ faulted place) ⊎ ((u : Telling) × Tells offset span room t u × (told ≡ onto [] (key ∷ []) u))
 Tells offset span room (After (Turn place) t) told = Tells offset span room t told
 Tells offset span room (After (Give v) t) told =
     ((1048576 < length (text_of offset v)) × (told ≡ ended (said_error TextTooLong span)))

@@ -1,6 +1,10 @@
 -- What a part of a run does: some of what is said is written, and the rest waits to be written. Only private functions cite this.
-use Rattle.std.specs.Prelude.{◌≡◌, ◌⊎◌, ◌<◌, ◌≤◌, ◌-◌, length, drop, ℕ, ℤ, List, [], ◌++◌, Option, None, Some, Result, Ok, map}
+use Rattle.std.specs.Prelude.{◌≡◌, ◌⊎◌, ◌<◌, ◌≤◌, ◌-◌, length, drop, ℕ, ℤ, List, [], ◌++◌, Option, None, Some, Result, Ok, MatchResult, map}
 use Rattle.std.specs.Io.KnownBytes.{Appends, Keeps}
+use Rattle.desk_base.specs.Counts.{CountsFaults}
+use Rattle.desk_base.specs.Views.{SinkView, ClockView}
+use Rattle.bf_machine.specs.Looks.{LooksUp}
+use Rattle.bf_machine.specs.Views.{MachineView, OnlyLooks}
 use Rattle.bf_world.specs.declared.key.Key.{Key}
 use Rattle.bf_world.specs.Worlds.{WorldState}
 use Rattle.rel_nodes.specs.Spans.{span_of_node}
@@ -19,33 +23,36 @@ use Rattle.rel_session.specs.declared.paused.Step.{Step}
 use Rattle.rel_session.specs.declared.paused.Step.TheVariants.{On, Out}
 use Rattle.rel_session.specs.declared.session.Session as code_session
 use Rattle.rel_session.specs.declared.line.Line.{Line}
-use Rattle.bf_machine.specs.Rises.{RoseBy}
-use Rattle.bf_machine.specs.Looks.{LooksUp}
-use Rattle.rel_session.specs.Devices.{Dates}
+use Rattle.rel_session.specs.Devices.{CountsFailed, Dates, Devices, Did}
 use Rattle.rel_session.specs.Printed.{said_error, said_undefined}
-use Rattle.rel_session.specs.Sessions.{Answers, Asks, IsGiven, Paused, Session, Run, scene_at}
+use Rattle.rel_session.specs.Sessions.{Answers, Asks, IsFrontOfLine, IsGiven, Paused, Session, Run, RunsLine, scene_at}
 use Rattle.rel_lexer.specs.declared.place.Place.{Place}
 use Rattle.rel_session.specs.Tellings.{Telling, Tells, TellsSome, onto}
 use Rattle.rel_trace.specs.Trace.{Stop, Trace, Ends}
 
--- the bytes that the sink holds and those that wait, the keys that were looked up, and how many looks failed
+-- what the sink tells, the bytes that wait to be written, and what the machine tells
 pub record State : Type 0 where
-  pub held : Option (List ℕ)
+  pub sink : SinkView
   pub waiting : List ℕ
-  pub looked : Option (List Key)
-  pub faults : ℕ
+  pub machine : MachineView
 
 -- the state of these
-abbrev pub state_of : Option (List ℕ) → List ℕ → Option (List Key) → ℕ → State
-state_of held waiting looked faults = record { held = held; waiting = waiting; looked = looked; faults = faults }
+abbrev pub state_of : SinkView → List ℕ → MachineView → State
+state_of sink waiting machine = record { sink = sink; waiting = waiting; machine = machine }
+
+-- Nothing was done but to look and to write; the sink's count rose where it failed, and stayed where it didn't; no failure is the clock's.
+pub record OnlyTells (sink_failed clock_failed : Type 0) (old new : State) : Type 0 where
+  pub looks : OnlyLooks old.machine new.machine
+  pub sink : CountsFaults sink_failed old.sink.faults new.sink.faults
+  pub never : ¬ clock_failed
 
 -- The run was said: a front of what waited and of its bytes was written, and the rest waits.
-pub record Says (world : Option WorldState) (old new : State) (run : Run) : Type 0 where
+pub record Says (old new : State) (run : Run) : Type 0 where
   pub written : List ℕ
-  pub appended : Appends old.held new.held written
+  pub appended : Appends old.sink.held new.sink.held written
   pub whole : old.waiting ++ run.bytes ≡ written ++ new.waiting
-  pub looked : LooksUp world old.looked new.looked run.looks
-  pub faults : RoseBy run.faults old.faults new.faults
+  pub looked : LooksUp old.machine.world old.machine.looked new.machine.looked run.looks
+  pub faults : CountsFailed run.faults old.machine.faults new.machine.faults
 
 -- Keys were looked up that are a front of these.
 pub record LooksFront (world : Option WorldState) (old new : Option (List Key)) (all : List Key) : Type 0 where
@@ -55,13 +62,13 @@ pub record LooksFront (world : Option WorldState) (old new : Option (List Key)) 
   pub whole : all ≡ keys ++ unlooked
 
 -- A front of what waited and of the run's bytes was written, a front of its keys was looked up, and so many looks failed.
-pub record Stops (world : Option WorldState) (old new : State) (run : Run) : Type 0 where
+pub record Stops (old new : State) (run : Run) : Type 0 where
   pub written : List ℕ
-  pub appended : Appends old.held new.held written
+  pub appended : Appends old.sink.held new.sink.held written
   pub unsaid : List ℕ
   pub whole : old.waiting ++ run.bytes ≡ written ++ unsaid
-  pub looks : LooksFront world old.looked new.looked run.looks
-  pub faults : RoseBy run.faults old.faults new.faults
+  pub looks : LooksFront old.machine.world old.machine.looked new.machine.looked run.looks
+  pub faults : CountsFailed run.faults old.machine.faults new.machine.faults
 
 -- what a question means at a moment, and its span
 unfoldable pub meaning_of : WorldState → ℤ → ℤ → Question → Trace
@@ -104,12 +111,20 @@ abbrev pub IsLeft : Left → Option Trace → Trace → Type 0
 IsLeft left.Nothing told rest = told ≡ None
 IsLeft left.More told rest = told ≡ Some rest
 
+-- This is told of the whole, with which the question is over or pauses: what was said, looked up, and failed.
+pub record TellsOut (tells : Telling → Type 0) (why : Left) (rest : Trace) (said : List ℕ) (keys : List Key) (faults : ℕ) : Type 0 where
+  pub told : Telling
+  pub is : tells told
+  pub goes : IsLeft why told.rest rest
+  pub bytes : said ≡ told.bytes
+  pub looks : keys ≡ told.looks
+  pub failed : faults ≡ told.faults
+
 -- What comes of one step: what is told of what is left, in the room that is left, is told of the whole with this said and these keys
 -- looked up before it; or this is told of the whole.
 abbrev pub Comes : (Option ℕ → Telling → Type 0) → (Telling → Type 0) → Step → Trace → List ℕ → List Key → ℕ → Type 0
 Comes later tells (On room) rest said keys faults = ((u : Telling) → later room u → tells (onto said keys u)) × (faults ≡ 0)
-Comes later tells (Out why) rest said keys faults =
-    (told : Telling) × tells told × IsLeft why told.rest rest × (said ≡ told.bytes) × (keys ≡ told.looks) × (faults ≡ told.faults)
+Comes later tells (Out why) rest said keys faults = TellsOut tells why rest said keys faults
 
 -- a value was told, and no look was made, whatever is left behind the value
 pub record TellsValue (offset : ℤ) (span : Place) (tells : Trace → Telling → Type 0) (step : Step) (old new : List ℕ) : Type 0 where
@@ -117,26 +132,27 @@ pub record TellsValue (offset : ℤ) (span : Place) (tells : Trace → Telling �
   pub comes : (t : Trace) → Comes (λ room. Tells offset span room t) (tells t) step t said [] 0
   pub appended : new ≡ old ++ said
 
--- the next value was told, or how the question ends
-pub record TellsStep (world : Option WorldState) (later : Option ℕ → Telling → Type 0) (tells : Telling → Type 0) (step : Step) (left : Trace) (old : List ℕ) (looked : Option (List Key)) (before : ℕ) (new : List ℕ) (looked_now : Option (List Key)) (now : ℕ) : Type 0 where
+-- The next value was told, or how the question ends. What waits, and what the machine tells, was that and is this.
+pub record TellsStep (world : Option WorldState) (later : Option ℕ → Telling → Type 0) (tells : Telling → Type 0) (step : Step)
+    (left : Trace) (waits : List ℕ) (old : MachineView) (waits' : List ℕ) (new : MachineView) : Type 0 where
   pub said : List ℕ
   pub keys : List Key
   pub faults : ℕ
   pub comes : Comes later tells step left said keys faults
-  pub appended : new ≡ old ++ said
-  pub looks : LooksUp world looked looked_now keys
-  pub rose : RoseBy faults before now
+  pub appended : waits' ≡ waits ++ said
+  pub looks : LooksUp world old.looked new.looked keys
+  pub rose : CountsFailed faults old.faults new.faults
 
 -- What is told of a cursor's question, in this room.
 abbrev pub TellsLeft : Option WorldState → ℤ → Place → Cursor → Option ℕ → Telling → Type 0
 TellsLeft world offset span cursor room told = TellsSome offset span room (IsLeftOf world cursor) told
 
 -- Something could be told of this, of which a front was looked up, with as many failed looks.
-pub record Stays (world : Option WorldState) (tells : Telling → Type 0) (looked : Option (List Key)) (before : ℕ) (looked_now : Option (List Key)) (now : ℕ) : Type 0 where
+pub record Stays (world : Option WorldState) (tells : Telling → Type 0) (old new : MachineView) : Type 0 where
   pub told : Telling
   pub is : tells told
-  pub looks : LooksFront world looked looked_now told.looks
-  pub rose : RoseBy told.faults before now
+  pub looks : LooksFront world old.looked new.looked told.looks
+  pub rose : CountsFailed told.faults old.faults new.faults
 
 -- what is left to draw falls
 abbrev pub IsNearer : Step → ℕ → ℕ → Type 0
@@ -148,8 +164,10 @@ abbrev pub IsFew : code_session.Session → Type 0
 IsFew s = length s.paused.items ≤ 16
 
 -- Nothing was written or looked up, and no look failed.
-abbrev pub Unwritten : Option WorldState → State → State → Type 0
-Unwritten world old new = Keeps old.held new.held × LooksUp world old.looked new.looked [] × (new.faults ≡ old.faults)
+pub record Unwritten (old new : State) : Type 0 where
+  pub keeps : Keeps old.sink.held new.sink.held
+  pub looked : LooksUp old.machine.world old.machine.looked new.machine.looked []
+  pub steady : new.machine.faults ≡ old.machine.faults
 
 -- A question comes exactly where the text is one, and a refusal exactly as the text is refused.
 unfoldable pub IsRead : List ℕ → Result Question Refusal → Type 0
@@ -175,28 +193,51 @@ abbrev pub Obeys : Option WorldState → ℤ → Session → List ℕ → List �
 Obeys world offset s line moments run s' = (what : Line) × Asks line what × Answers world offset s line what moments run s'
 
 -- A run of this kind was said, and leaves this session.
-abbrev pub SaysOf : Option WorldState → (Run → Session → Type 0) → Session → State → State → Type 0
-SaysOf world Is s old new = (run : Run) × Is run s × Says world old new run
+abbrev pub SaysOf : (Run → Session → Type 0) → Session → State → State → Type 0
+SaysOf Is s old new = (run : Run) × Is run s × Says old new run
 
 -- A front of a run of this kind was said.
-abbrev pub StopsIn : Option WorldState → (Run → Session → Type 0) → State → State → Type 0
-StopsIn world Is old new = (run : Run) × (s : Session) × Is run s × Stops world old new run
+abbrev pub StopsIn : (Run → Session → Type 0) → State → State → Type 0
+StopsIn Is old new = (run : Run) × (s : Session) × Is run s × Stops old new run
 
 -- A front of a run of this kind was said, or nothing of it so far.
-abbrev pub StopsEarly : Option WorldState → (Run → Session → Type 0) → State → State → Type 0
-StopsEarly world Is old new = Unwritten world old new ⊎ StopsIn world Is old new
+abbrev pub StopsEarly : (Run → Session → Type 0) → State → State → Type 0
+StopsEarly Is old new = Unwritten old new ⊎ StopsIn Is old new
+
+-- A run of this kind was said, and leaves this session, or a front of it, at an error.
+abbrev pub SaysOrStops : {T E : Type 0} → (Run → Session → Type 0) → Session → State → State → Result T E → Type 0
+SaysOrStops Is s old new result = MatchResult result (λ _. SaysOf Is s old new) (λ _. StopsIn Is old new)
+
+-- The same, where at an error nothing of it may have been said so far.
+abbrev pub SaysOrStopsEarly : {T E : Type 0} → (Run → Session → Type 0) → Session → State → State → Result T E → Type 0
+SaysOrStopsEarly Is s old new result = MatchResult result (λ _. SaysOf Is s old new) (λ _. StopsEarly Is old new)
 
 -- A run was said, with the moments that it used, and leaves this session.
-pub record SaysAll (world : Option WorldState) (fixed : Option ℤ) (given given' : Option (List ℤ)) (Runs : List ℤ → Run → Session → Type 0) (s : Session) (old new : State) : Type 0 where
+pub record SaysAll (fixed : Option ℤ) (clock clock' : ClockView) (Runs : List ℤ → Run → Session → Type 0) (s : Session)
+    (old new : State) : Type 0 where
   pub moments : List ℤ
   pub run : Run
   pub runs : Runs moments run s
-  pub says : Says world old new run
-  pub dated : Dates fixed given given' moments
+  pub says : Says old new run
+  pub dated : Dates fixed clock.given clock'.given moments
 
 -- A front of a run was said, or nothing of it so far, with the moments had.
-pub record SaysFront (world : Option WorldState) (fixed : Option ℤ) (given given' : Option (List ℤ)) (Runs : List ℤ → Run → Session → Type 0) (old new : State) : Type 0 where
+pub record SaysFront (fixed : Option ℤ) (clock clock' : ClockView) (Runs : List ℤ → Run → Session → Type 0) (old new : State) : Type 0 where
   pub moments : List ℤ
   pub few : length moments ≤ 1
-  pub dated : Dates fixed given given' moments
-  pub front : StopsEarly world (Runs moments) old new
+  pub dated : Dates fixed clock.given clock'.given moments
+  pub front : StopsEarly (Runs moments) old new
+
+-- A run was said, and leaves this session, or a front of it, at an error, with the moments of a clock.
+abbrev pub SaysDated : {T E : Type 0} → Option ℤ → ClockView → ClockView → (List ℤ → Run → Session → Type 0) → Session → State → State
+    → Result T E → Type 0
+SaysDated fixed clock clock' Runs s old new result =
+    MatchResult result (λ _. SaysAll fixed clock clock' Runs s old new) (λ _. SaysFront fixed clock clock' Runs old new)
+
+-- A line was run, and leaves this session, or a front of it, at an error.
+abbrev pub DoesLine : {T E : Type 0} → ℤ → Option ℤ → Session → List ℕ → Session → Devices → Devices → Result T E → Type 0
+DoesLine offset fixed s line s' old new result = MatchResult result
+    (λ _. (moments : List ℤ) × (run : Run) × RunsLine old.machine.world offset s line moments run s'
+    × Did old.machine.world fixed old new moments run)
+    (λ _. (moments : List ℤ) × (front : Run) × IsFrontOfLine old.machine.world offset s line moments front
+    × Did old.machine.world fixed old new moments front)

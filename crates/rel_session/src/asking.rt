@@ -1,5 +1,5 @@
-ghost use Rattle.std.specs.Prelude.{◌≡◌, ◌≤◌, ◌∷◌, [], IsErrOf, IfOk, MatchResult};
-ghost use Rattle.desk_base.specs.Counts.{Rose};
+ghost use Rattle.std.specs.Prelude.{◌≡◌, ◌∷◌, [], IsErrOf, IfOk, MatchResult};
+ghost use Rattle.desk_base.specs.Counts.{CountsFaults};
 ghost use Rattle.desk_base.specs.Moments.{IsMoment};
 ghost use Rattle.rel_session.specs.Devices.{Dates, IsAsking};
 
@@ -21,12 +21,10 @@ impl Asking {
     pub(crate) fn next_moment<C: Clock>(self, clock: &mut C) -> Result<i64, Halt>
         requires { IsAsking self }
         ensures dated { MatchResult result
-            (λ moment. Dates self.moment (C.given clock.old) (C.given clock.new) (moment ∷ []))
-            (λ _. Dates self.moment (C.given clock.old) (C.given clock.new) []) }
+            (λ moment. Dates self.moment (C.told clock.old).given (C.told clock.new).given (moment ∷ []))
+            (λ _. Dates self.moment (C.told clock.old).given (C.told clock.new).given []) }
         ensures moment { IfOk result IsMoment }
-        ensures later { C.faults clock.old ≤ C.faults clock.new }
-        ensures failed { IsErrOf result Halt.Clock → Rose (C.faults clock.old) (C.faults clock.new) }
-        ensures steady { ¬ IsErrOf result Halt.Clock → C.faults clock.new ≡ C.faults clock.old }
+        ensures counts { CountsFaults (IsErrOf result Halt.Clock) (C.told clock.old).faults (C.told clock.new).faults }
         ensures only { MatchResult result (λ _. Unit {0}) (λ halt. halt ≡ Halt.Clock) }
     {
         if let Some(moment) = self.moment {

@@ -1,6 +1,6 @@
-ghost use Rattle.std.specs.Prelude.{◌≡◌, ◌≤◌, [], IsErrOf, MatchResult};
+ghost use Rattle.std.specs.Prelude.{◌≡◌, [], IsErrOf, MatchResult};
 ghost use Rattle.std.specs.Io.KnownBytes.{Appends};
-ghost use Rattle.desk_base.specs.Counts.{Rose};
+ghost use Rattle.desk_base.specs.Counts.{CountsFaults};
 ghost use Rattle.desk_base.specs.Flow.{AppendsSome, IsFront};
 ghost use Rattle.rel_session.specs.declared.halt.Halt.TheVariants.{Memory};
 
@@ -29,11 +29,9 @@ impl From<AllocError> for Halt {
 /// Writes a piece.
 pub fn put<W: Sink>(sink: &mut W, piece: &[u8]) -> Result<(), Halt>
     ensures written { MatchResult result
-        (λ _. Appends (W.held sink.old) (W.held sink.new) piece.now)
-        (λ _. AppendsSome (W.held sink.old) (W.held sink.new) (IsFront piece.now)) }
-    ensures later { W.faults sink.old ≤ W.faults sink.new }
-    ensures failed { IsErrOf result Halt.Sink → Rose (W.faults sink.old) (W.faults sink.new) }
-    ensures steady { ¬ IsErrOf result Halt.Sink → W.faults sink.new ≡ W.faults sink.old }
+        (λ _. Appends (W.told sink.old).held (W.told sink.new).held piece.now)
+        (λ _. AppendsSome (W.told sink.old).held (W.told sink.new).held (IsFront piece.now)) }
+    ensures counts { CountsFaults (IsErrOf result Halt.Sink) (W.told sink.old).faults (W.told sink.new).faults }
     ensures never { ¬ IsErrOf result Halt.Clock }
 {
     match sink.write(piece) {
@@ -45,12 +43,10 @@ pub fn put<W: Sink>(sink: &mut W, piece: &[u8]) -> Result<(), Halt>
 /// Writes what waits to be written.
 pub(crate) fn flush<W: Sink>(alloc: Global, sink: &mut W, out: &mut Bytes) -> Result<(), Halt>
     ensures written { MatchResult result
-        (λ _. Appends (W.held sink.old) (W.held sink.new) out.old)
-        (λ _. AppendsSome (W.held sink.old) (W.held sink.new) (IsFront out.old)) }
+        (λ _. Appends (W.told sink.old).held (W.told sink.new).held out.old)
+        (λ _. AppendsSome (W.told sink.old).held (W.told sink.new).held (IsFront out.old)) }
     ensures empty { MatchResult result (λ _. out.new ≡ []) (λ _. Unit {0}) }
-    ensures later { W.faults sink.old ≤ W.faults sink.new }
-    ensures failed { IsErrOf result Halt.Sink → Rose (W.faults sink.old) (W.faults sink.new) }
-    ensures steady { ¬ IsErrOf result Halt.Sink → W.faults sink.new ≡ W.faults sink.old }
+    ensures counts { CountsFaults (IsErrOf result Halt.Sink) (W.told sink.old).faults (W.told sink.new).faults }
     ensures never { ¬ IsErrOf result Halt.Clock }
 {
     put(sink, out.as_slice())?;

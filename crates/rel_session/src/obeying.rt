@@ -1,10 +1,9 @@
-ghost use Rattle.std.specs.Prelude.{◌≡◌, ◌≤◌, ℤ, List, MatchResult, IsErrOf};
-ghost use Rattle.desk_base.specs.Counts.{Rose};
+ghost use Rattle.std.specs.Prelude.{IsErrOf};
 ghost use Rattle.desk_base.specs.Moments.{IsMoment};
 ghost use Rattle.line_forms.specs.Numbers.{IsOffset};
-ghost use Rattle.rel_session.specs.Devices.{Did, IsAsking, devices_of};
-ghost use Rattle.rel_session.specs.Sessions.{Answers, AnswersText, IsFrontOfLine, Run, RunsLine};
-ghost use Rattle.rel_session.specs.Waiting.{IsFew, Obeys, SaysAll, SaysFront, SaysOf, StopsEarly, session_of, state_of};
+ghost use Rattle.rel_session.specs.Devices.{OnlyAsks, IsAsking, devices};
+ghost use Rattle.rel_session.specs.Sessions.{Answers, AnswersText, RunsLine};
+ghost use Rattle.rel_session.specs.Waiting.{DoesLine, IsFew, Obeys, OnlyTells, SaysDated, SaysOrStopsEarly, session_of, state_of};
 
 use crate::answers::{say_no_command, say_question};
 use crate::halt::{Halt, flush};
@@ -28,27 +27,14 @@ impl Session {
     ) -> Result<(), Halt>
         requires asking { IsAsking asking }
         requires few { IsFew self.old }
-        ensures ran { MatchResult result
-            (λ _. (moments : List ℤ) × (run : Run) × RunsLine (M.world machine.old) asking.offset (session_of (M.world machine.old) self.old) line.now moments run (session_of (M.world machine.old) self.new)
-            × Did (M.world machine.old) asking.moment
-            (devices_of (W.held sink.old) (M.looked machine.old) (M.faults machine.old) (C.given clock.old))
-            (devices_of (W.held sink.new) (M.looked machine.new) (M.faults machine.new) (C.given clock.new)) moments run)
-            (λ _. (moments : List ℤ) × (front : Run) × IsFrontOfLine (M.world machine.old) asking.offset (session_of (M.world machine.old) self.old) line.now moments front
-            × Did (M.world machine.old) asking.moment
-            (devices_of (W.held sink.old) (M.looked machine.old) (M.faults machine.old) (C.given clock.old))
-            (devices_of (W.held sink.new) (M.looked machine.new) (M.faults machine.new) (C.given clock.new)) moments front) }
+        ensures ran { let world = (M.told machine.old).world in
+            DoesLine asking.offset asking.moment (session_of world self.old) line.now (session_of world self.new)
+            (devices (W.told sink.old) (M.told machine.old) (C.told clock.old))
+            (devices (W.told sink.new) (M.told machine.new) (C.told clock.new)) result }
         ensures few { IsFew self.new }
-        ensures world { M.world machine.new ≡ M.world machine.old }
-        ensures acted { M.acted machine.new ≡ M.acted machine.old }
-        ensures polled { M.polled machine.new ≡ M.polled machine.old }
-        ensures started { M.started machine.new ≡ M.started machine.old }
-        ensures machine_later { M.faults machine.old ≤ M.faults machine.new }
-        ensures later { W.faults sink.old ≤ W.faults sink.new }
-        ensures failed { IsErrOf result Halt.Sink → Rose (W.faults sink.old) (W.faults sink.new) }
-        ensures steady { ¬ IsErrOf result Halt.Sink → W.faults sink.new ≡ W.faults sink.old }
-        ensures clock_later { C.faults clock.old ≤ C.faults clock.new }
-        ensures clock_failed { IsErrOf result Halt.Clock → Rose (C.faults clock.old) (C.faults clock.new) }
-        ensures clock_steady { ¬ IsErrOf result Halt.Clock → C.faults clock.new ≡ C.faults clock.old }
+        ensures only { OnlyAsks (IsErrOf result Halt.Sink) (IsErrOf result Halt.Clock)
+            (devices (W.told sink.old) (M.told machine.old) (C.told clock.old))
+            (devices (W.told sink.new) (M.told machine.new) (C.told clock.new)) }
     {
         let mut out = Bytes::new(alloc);
         self.say_line(alloc, line, asking, sink, machine, clock, &mut out)?;
@@ -68,26 +54,16 @@ impl Session {
     ) -> Result<(), Halt>
         requires asking { IsAsking asking }
         requires few { IsFew self.old }
-        ensures said { MatchResult result
-            (λ _. SaysAll (M.world machine.old) asking.moment (C.given clock.old) (C.given clock.new) (RunsLine (M.world machine.old) asking.offset (session_of (M.world machine.old) self.old) line.now)
-            (session_of (M.world machine.old) self.new)
-            (state_of (W.held sink.old) out.old (M.looked machine.old) (M.faults machine.old))
-            (state_of (W.held sink.new) out.new (M.looked machine.new) (M.faults machine.new)))
-            (λ _. SaysFront (M.world machine.old) asking.moment (C.given clock.old) (C.given clock.new) (RunsLine (M.world machine.old) asking.offset (session_of (M.world machine.old) self.old) line.now)
-            (state_of (W.held sink.old) out.old (M.looked machine.old) (M.faults machine.old))
-            (state_of (W.held sink.new) out.new (M.looked machine.new) (M.faults machine.new))) }
+        ensures said { let world = (M.told machine.old).world in
+            let s = session_of world self.old in
+            SaysDated asking.moment (C.told clock.old) (C.told clock.new)
+            (RunsLine world asking.offset s line.now) (session_of world self.new)
+            (state_of (W.told sink.old) out.old (M.told machine.old))
+            (state_of (W.told sink.new) out.new (M.told machine.new)) result }
         ensures few { IsFew self.new }
-        ensures world { M.world machine.new ≡ M.world machine.old }
-        ensures acted { M.acted machine.new ≡ M.acted machine.old }
-        ensures polled { M.polled machine.new ≡ M.polled machine.old }
-        ensures started { M.started machine.new ≡ M.started machine.old }
-        ensures machine_later { M.faults machine.old ≤ M.faults machine.new }
-        ensures later { W.faults sink.old ≤ W.faults sink.new }
-        ensures failed { IsErrOf result Halt.Sink → Rose (W.faults sink.old) (W.faults sink.new) }
-        ensures steady { ¬ IsErrOf result Halt.Sink → W.faults sink.new ≡ W.faults sink.old }
-        ensures clock_later { C.faults clock.old ≤ C.faults clock.new }
-        ensures clock_failed { IsErrOf result Halt.Clock → Rose (C.faults clock.old) (C.faults clock.new) }
-        ensures clock_steady { ¬ IsErrOf result Halt.Clock → C.faults clock.new ≡ C.faults clock.old }
+        ensures only { OnlyAsks (IsErrOf result Halt.Sink) (IsErrOf result Halt.Clock)
+            (devices (W.told sink.old) (M.told machine.old) (C.told clock.old))
+            (devices (W.told sink.new) (M.told machine.new) (C.told clock.new)) }
     {
         say_question(line, out)?;
         self.obey(alloc, line, asking, sink, machine, clock, out)
@@ -106,26 +82,16 @@ impl Session {
     ) -> Result<(), Halt>
         requires asking { IsAsking asking }
         requires few { IsFew self.old }
-        ensures said { MatchResult result
-            (λ _. SaysAll (M.world machine.old) asking.moment (C.given clock.old) (C.given clock.new) (Obeys (M.world machine.old) asking.offset (session_of (M.world machine.old) self.old) line.now)
-            (session_of (M.world machine.old) self.new)
-            (state_of (W.held sink.old) out.old (M.looked machine.old) (M.faults machine.old))
-            (state_of (W.held sink.new) out.new (M.looked machine.new) (M.faults machine.new)))
-            (λ _. SaysFront (M.world machine.old) asking.moment (C.given clock.old) (C.given clock.new) (Obeys (M.world machine.old) asking.offset (session_of (M.world machine.old) self.old) line.now)
-            (state_of (W.held sink.old) out.old (M.looked machine.old) (M.faults machine.old))
-            (state_of (W.held sink.new) out.new (M.looked machine.new) (M.faults machine.new))) }
+        ensures said { let world = (M.told machine.old).world in
+            let s = session_of world self.old in
+            SaysDated asking.moment (C.told clock.old) (C.told clock.new)
+            (Obeys world asking.offset s line.now) (session_of world self.new)
+            (state_of (W.told sink.old) out.old (M.told machine.old))
+            (state_of (W.told sink.new) out.new (M.told machine.new)) result }
         ensures few { IsFew self.new }
-        ensures world { M.world machine.new ≡ M.world machine.old }
-        ensures acted { M.acted machine.new ≡ M.acted machine.old }
-        ensures polled { M.polled machine.new ≡ M.polled machine.old }
-        ensures started { M.started machine.new ≡ M.started machine.old }
-        ensures machine_later { M.faults machine.old ≤ M.faults machine.new }
-        ensures later { W.faults sink.old ≤ W.faults sink.new }
-        ensures failed { IsErrOf result Halt.Sink → Rose (W.faults sink.old) (W.faults sink.new) }
-        ensures steady { ¬ IsErrOf result Halt.Sink → W.faults sink.new ≡ W.faults sink.old }
-        ensures clock_later { C.faults clock.old ≤ C.faults clock.new }
-        ensures clock_failed { IsErrOf result Halt.Clock → Rose (C.faults clock.old) (C.faults clock.new) }
-        ensures clock_steady { ¬ IsErrOf result Halt.Clock → C.faults clock.new ≡ C.faults clock.old }
+        ensures only { OnlyAsks (IsErrOf result Halt.Sink) (IsErrOf result Halt.Clock)
+            (devices (W.told sink.old) (M.told machine.old) (C.told clock.old))
+            (devices (W.told sink.new) (M.told machine.new) (C.told clock.new)) }
     {
         match Line::of(line) {
             Line::Question => self.ask(alloc, line, asking, sink, machine, clock, out),
@@ -151,26 +117,16 @@ impl Session {
     ) -> Result<(), Halt>
         requires asking { IsAsking asking }
         requires few { IsFew self.old }
-        ensures said { MatchResult result
-            (λ _. SaysAll (M.world machine.old) asking.moment (C.given clock.old) (C.given clock.new) (Answers (M.world machine.old) asking.offset (session_of (M.world machine.old) self.old) text.now Line.Question)
-            (session_of (M.world machine.old) self.new)
-            (state_of (W.held sink.old) out.old (M.looked machine.old) (M.faults machine.old))
-            (state_of (W.held sink.new) out.new (M.looked machine.new) (M.faults machine.new)))
-            (λ _. SaysFront (M.world machine.old) asking.moment (C.given clock.old) (C.given clock.new) (Answers (M.world machine.old) asking.offset (session_of (M.world machine.old) self.old) text.now Line.Question)
-            (state_of (W.held sink.old) out.old (M.looked machine.old) (M.faults machine.old))
-            (state_of (W.held sink.new) out.new (M.looked machine.new) (M.faults machine.new))) }
+        ensures said { let world = (M.told machine.old).world in
+            let s = session_of world self.old in
+            SaysDated asking.moment (C.told clock.old) (C.told clock.new)
+            (Answers world asking.offset s text.now Line.Question) (session_of world self.new)
+            (state_of (W.told sink.old) out.old (M.told machine.old))
+            (state_of (W.told sink.new) out.new (M.told machine.new)) result }
         ensures few { IsFew self.new }
-        ensures world { M.world machine.new ≡ M.world machine.old }
-        ensures acted { M.acted machine.new ≡ M.acted machine.old }
-        ensures polled { M.polled machine.new ≡ M.polled machine.old }
-        ensures started { M.started machine.new ≡ M.started machine.old }
-        ensures machine_later { M.faults machine.old ≤ M.faults machine.new }
-        ensures later { W.faults sink.old ≤ W.faults sink.new }
-        ensures failed { IsErrOf result Halt.Sink → Rose (W.faults sink.old) (W.faults sink.new) }
-        ensures steady { ¬ IsErrOf result Halt.Sink → W.faults sink.new ≡ W.faults sink.old }
-        ensures clock_later { C.faults clock.old ≤ C.faults clock.new }
-        ensures clock_failed { IsErrOf result Halt.Clock → Rose (C.faults clock.old) (C.faults clock.new) }
-        ensures clock_steady { ¬ IsErrOf result Halt.Clock → C.faults clock.new ≡ C.faults clock.old }
+        ensures only { OnlyAsks (IsErrOf result Halt.Sink) (IsErrOf result Halt.Clock)
+            (devices (W.told sink.old) (M.told machine.old) (C.told clock.old))
+            (devices (W.told sink.new) (M.told machine.new) (C.told clock.new)) }
     {
         let moment = asking.next_moment(clock)?;
         self.answer(alloc, text, Asked { moment, asking }, sink, machine, out)
@@ -189,23 +145,15 @@ impl Session {
         requires offset { IsOffset asked.asking.offset }
         requires moment { IsMoment asked.moment }
         requires few { IsFew self.old }
-        ensures said { MatchResult result
-            (λ _. SaysOf (M.world machine.old) (AnswersText (M.world machine.old) asked.moment asked.asking.offset (session_of (M.world machine.old) self.old) text.now) (session_of (M.world machine.old) self.new)
-            (state_of (W.held sink.old) out.old (M.looked machine.old) (M.faults machine.old))
-            (state_of (W.held sink.new) out.new (M.looked machine.new) (M.faults machine.new)))
-            (λ _. StopsEarly (M.world machine.old) (AnswersText (M.world machine.old) asked.moment asked.asking.offset (session_of (M.world machine.old) self.old) text.now)
-            (state_of (W.held sink.old) out.old (M.looked machine.old) (M.faults machine.old))
-            (state_of (W.held sink.new) out.new (M.looked machine.new) (M.faults machine.new))) }
+        ensures said { let world = (M.told machine.old).world in
+            SaysOrStopsEarly (AnswersText world asked.moment asked.asking.offset (session_of world self.old) text.now)
+            (session_of world self.new)
+            (state_of (W.told sink.old) out.old (M.told machine.old))
+            (state_of (W.told sink.new) out.new (M.told machine.new)) result }
         ensures few { IsFew self.new }
-        ensures world { M.world machine.new ≡ M.world machine.old }
-        ensures acted { M.acted machine.new ≡ M.acted machine.old }
-        ensures polled { M.polled machine.new ≡ M.polled machine.old }
-        ensures started { M.started machine.new ≡ M.started machine.old }
-        ensures machine_later { M.faults machine.old ≤ M.faults machine.new }
-        ensures later { W.faults sink.old ≤ W.faults sink.new }
-        ensures failed { IsErrOf result Halt.Sink → Rose (W.faults sink.old) (W.faults sink.new) }
-        ensures steady { ¬ IsErrOf result Halt.Sink → W.faults sink.new ≡ W.faults sink.old }
-        ensures never { ¬ IsErrOf result Halt.Clock }
+        ensures only { OnlyTells (IsErrOf result Halt.Sink) (IsErrOf result Halt.Clock)
+            (state_of (W.told sink.old) out.old (M.told machine.old))
+            (state_of (W.told sink.new) out.new (M.told machine.new)) }
     {
         let opened = match open_question(alloc, text, asked) {
             Ok(opened) => opened,

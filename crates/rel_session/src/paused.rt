@@ -1,6 +1,7 @@
-ghost use Rattle.std.specs.Prelude.{◌≡◌, ◌≤◌, ℤ, IfOk, MatchResult, IsErrOf};
-ghost use Rattle.desk_base.specs.Counts.{Rose};
+ghost use Rattle.std.specs.Prelude.{◌≡◌, ℤ, IfOk, MatchResult, IsErrOf};
+ghost use Rattle.desk_base.specs.Counts.{CountsFaults};
 ghost use Rattle.desk_base.specs.Flow.{AppendsSome, IsFront};
+ghost use Rattle.bf_machine.specs.Views.{OnlyLooks};
 ghost use Rattle.line_forms.specs.Numbers.{IsOffset};
 ghost use Rattle.rel_lexer.specs.declared.place.Place.{Place};
 ghost use Rattle.rel_value.specs.Operands.{IsSound};
@@ -9,7 +10,7 @@ ghost use Rattle.rel_trace.specs.Trace.{After, Give};
 ghost use Rattle.rel_eval.specs.Cursors.{weight};
 ghost use Rattle.rel_session.specs.Sessions.{told_run};
 ghost use Rattle.rel_session.specs.Tellings.{GoesOn, Telling, Tells};
-ghost use Rattle.rel_session.specs.Waiting.{Flushes, IsLeft, IsNearer, Says, Stays, Stops, TellsLeft, TellsStep, TellsValue, left_of, some_given, state_of};
+ghost use Rattle.rel_session.specs.Waiting.{Flushes, IsLeft, IsNearer, OnlyTells, Says, Stays, Stops, TellsLeft, TellsStep, TellsValue, left_of, some_given, state_of};
 
 use crate::Asking;
 use crate::answers::{say_error, say_fault, say_more, say_value};
@@ -63,26 +64,16 @@ impl Paused {
         out: &mut Bytes,
     ) -> Result<Left, Halt>
         requires offset { IsOffset asking.offset }
-        ensures told { (told : Telling)
-            × TellsLeft (M.world machine.old) asking.offset self.old.span self.old.cursor room told × MatchResult result
-            (λ left. IsLeft left told.rest (some_given (M.world machine.old) (left_of self.new.cursor)) × Says (M.world machine.old)
-            (state_of (W.held sink.old) out.old (M.looked machine.old) (M.faults machine.old))
-            (state_of (W.held sink.new) out.new (M.looked machine.new) (M.faults machine.new))
-            (told_run told))
-            (λ _. Stops (M.world machine.old)
-            (state_of (W.held sink.old) out.old (M.looked machine.old) (M.faults machine.old))
-            (state_of (W.held sink.new) out.new (M.looked machine.new) (M.faults machine.new))
-            (told_run told)) }
+        ensures told { let world = (M.told machine.old).world in
+            let old = state_of (W.told sink.old) out.old (M.told machine.old) in
+            let new = state_of (W.told sink.new) out.new (M.told machine.new) in
+            (told : Telling) × TellsLeft world asking.offset self.old.span self.old.cursor room told × MatchResult result
+            (λ left. IsLeft left told.rest (some_given world (left_of self.new.cursor)) × Says old new (told_run told))
+            (λ _. Stops old new (told_run told)) }
         ensures span { self.new.span ≡ self.old.span }
-        ensures world { M.world machine.new ≡ M.world machine.old }
-        ensures acted { M.acted machine.new ≡ M.acted machine.old }
-        ensures polled { M.polled machine.new ≡ M.polled machine.old }
-        ensures started { M.started machine.new ≡ M.started machine.old }
-        ensures machine_later { M.faults machine.old ≤ M.faults machine.new }
-        ensures later { W.faults sink.old ≤ W.faults sink.new }
-        ensures failed { IsErrOf result Halt.Sink → Rose (W.faults sink.old) (W.faults sink.new) }
-        ensures steady { ¬ IsErrOf result Halt.Sink → W.faults sink.new ≡ W.faults sink.old }
-        ensures never { ¬ IsErrOf result Halt.Clock }
+        ensures only { OnlyTells (IsErrOf result Halt.Sink) (IsErrOf result Halt.Clock)
+            (state_of (W.told sink.old) out.old (M.told machine.old))
+            (state_of (W.told sink.new) out.new (M.told machine.new)) }
     {
         let mut room = room;
         'page: loop {
@@ -104,20 +95,16 @@ impl Paused {
         out: &mut Bytes,
     ) -> Result<Step, AllocError>
         requires offset { IsOffset asking.offset }
-        ensures told { MatchResult result
-            (λ step. TellsStep (M.world machine.old) (TellsLeft (M.world machine.old) asking.offset self.old.span self.new.cursor)
-            (TellsLeft (M.world machine.old) asking.offset self.old.span self.old.cursor room)
-            step (some_given (M.world machine.old) (left_of self.new.cursor))
-            out.old (M.looked machine.old) (M.faults machine.old) out.new (M.looked machine.new) (M.faults machine.new))
-            (λ _. Stays (M.world machine.old) (TellsLeft (M.world machine.old) asking.offset self.old.span self.old.cursor room)
-            (M.looked machine.old) (M.faults machine.old) (M.looked machine.new) (M.faults machine.new)) }
-        ensures nearer { MatchResult result (λ step. IsNearer step (weight self.old.cursor) (weight self.new.cursor)) (λ _. Unit {0}) }
+        ensures told { let world = (M.told machine.old).world in
+            let tells = TellsLeft world asking.offset self.old.span self.old.cursor room in
+            MatchResult result
+            (λ step. TellsStep world (TellsLeft world asking.offset self.old.span self.new.cursor) tells step
+            (some_given world (left_of self.new.cursor)) out.old (M.told machine.old) out.new (M.told machine.new))
+            (λ _. Stays world tells (M.told machine.old) (M.told machine.new)) }
+        ensures nearer { MatchResult result
+            (λ step. IsNearer step (weight self.old.cursor) (weight self.new.cursor)) (λ _. Unit {0}) }
         ensures span { self.new.span ≡ self.old.span }
-        ensures world { M.world machine.new ≡ M.world machine.old }
-        ensures acted { M.acted machine.new ≡ M.acted machine.old }
-        ensures polled { M.polled machine.new ≡ M.polled machine.old }
-        ensures started { M.started machine.new ≡ M.started machine.old }
-        ensures machine_later { M.faults machine.old ≤ M.faults machine.new }
+        ensures looks { OnlyLooks (M.told machine.old) (M.told machine.new) }
     {
         match self.cursor.pull(machine) {
             Pulled::Value(value) => tell_value(alloc, &value, self.span, room, asking, out),
@@ -130,7 +117,8 @@ impl Paused {
                 say_fault(alloc, place, out)?;
                 Ok(Step::Out(Left::Nothing))
             }
-            Pulled::Memory | Pulled::Closed => Err(AllocError),
+            Pulled::Memory => Err(AllocError),
+            Pulled::Closed => Err(AllocError),
         }
     }
 }
@@ -138,11 +126,9 @@ impl Paused {
 /// Writes what waits where it has grown long.
 fn flush_long<W: Sink>(alloc: Global, sink: &mut W, out: &mut Bytes) -> Result<(), Halt>
     ensures written { MatchResult result
-        (λ _. Flushes (W.held sink.old) (W.held sink.new) out.old out.new)
-        (λ _. AppendsSome (W.held sink.old) (W.held sink.new) (IsFront out.old)) }
-    ensures later { W.faults sink.old ≤ W.faults sink.new }
-    ensures failed { IsErrOf result Halt.Sink → Rose (W.faults sink.old) (W.faults sink.new) }
-    ensures steady { ¬ IsErrOf result Halt.Sink → W.faults sink.new ≡ W.faults sink.old }
+        (λ _. Flushes (W.told sink.old).held (W.told sink.new).held out.old out.new)
+        (λ _. AppendsSome (W.told sink.old).held (W.told sink.new).held (IsFront out.old)) }
+    ensures counts { CountsFaults (IsErrOf result Halt.Sink) (W.told sink.old).faults (W.told sink.new).faults }
     ensures never { ¬ IsErrOf result Halt.Clock }
 {
     if out.as_slice().len() < PIECE {
@@ -162,7 +148,8 @@ fn tell_value(
 ) -> Result<Step, AllocError>
     requires sound { IsSound (shown value.now) }
     requires offset { IsOffset asking.offset }
-    ensures { IfOk result (λ step. TellsValue asking.offset span (λ t. Tells asking.offset span room (After (Give (shown value.now)) t)) step out.old out.new) }
+    ensures { IfOk result (λ step. TellsValue asking.offset span
+        (λ t. Tells asking.offset span room (After (Give (shown value.now)) t)) step out.old out.new) }
 {
     match text(alloc, value, asking.offset) {
         Ok(text) => {

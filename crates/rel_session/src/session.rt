@@ -1,10 +1,9 @@
-ghost use Rattle.std.specs.Prelude.{◌≡◌, ◌≤◌, MatchResult, IsErrOf, OnOk, Option, Some};
-ghost use Rattle.desk_base.specs.Counts.{Rose};
+ghost use Rattle.std.specs.Prelude.{◌≡◌, IsErrOf, OnOk, Option, Some};
 ghost use Rattle.bf_world.specs.Worlds.{WorldState};
 ghost use Rattle.line_forms.specs.Numbers.{IsOffset};
 ghost use Rattle.rel_session.specs.Sessions.{GoesOnWith, IsGiven, TellsOf, fresh, pausing};
 ghost use Rattle.rel_session.specs.Tellings.{room_of};
-ghost use Rattle.rel_session.specs.Waiting.{IsFew, SaysOf, StopsIn, last_fifteen, left_of, session_of, some_given, state_of};
+ghost use Rattle.rel_session.specs.Waiting.{IsFew, OnlyTells, SaysOrStops, last_fifteen, left_of, session_of, some_given, state_of};
 
 use crate::answers::say_nothing_paused;
 use crate::paused::{Left, Paused};
@@ -49,23 +48,15 @@ impl Session {
     ) -> Result<(), Halt>
         requires offset { IsOffset asking.offset }
         requires few { IsFew self.old }
-        ensures said { MatchResult result
-            (λ _. SaysOf (M.world machine.old) (GoesOnWith (M.world machine.old) asking.offset (session_of (M.world machine.old) self.old) (session_of (M.world machine.old) self.old).paused) (session_of (M.world machine.old) self.new)
-            (state_of (W.held sink.old) out.old (M.looked machine.old) (M.faults machine.old))
-            (state_of (W.held sink.new) out.new (M.looked machine.new) (M.faults machine.new)))
-            (λ _. StopsIn (M.world machine.old) (GoesOnWith (M.world machine.old) asking.offset (session_of (M.world machine.old) self.old) (session_of (M.world machine.old) self.old).paused)
-            (state_of (W.held sink.old) out.old (M.looked machine.old) (M.faults machine.old))
-            (state_of (W.held sink.new) out.new (M.looked machine.new) (M.faults machine.new))) }
+        ensures said { let world = (M.told machine.old).world in
+            let s = session_of world self.old in
+            SaysOrStops (GoesOnWith world asking.offset s s.paused) (session_of world self.new)
+            (state_of (W.told sink.old) out.old (M.told machine.old))
+            (state_of (W.told sink.new) out.new (M.told machine.new)) result }
         ensures few { IsFew self.new }
-        ensures world { M.world machine.new ≡ M.world machine.old }
-        ensures acted { M.acted machine.new ≡ M.acted machine.old }
-        ensures polled { M.polled machine.new ≡ M.polled machine.old }
-        ensures started { M.started machine.new ≡ M.started machine.old }
-        ensures machine_later { M.faults machine.old ≤ M.faults machine.new }
-        ensures later { W.faults sink.old ≤ W.faults sink.new }
-        ensures failed { IsErrOf result Halt.Sink → Rose (W.faults sink.old) (W.faults sink.new) }
-        ensures steady { ¬ IsErrOf result Halt.Sink → W.faults sink.new ≡ W.faults sink.old }
-        ensures never { ¬ IsErrOf result Halt.Clock }
+        ensures only { OnlyTells (IsErrOf result Halt.Sink) (IsErrOf result Halt.Clock)
+            (state_of (W.told sink.old) out.old (M.told machine.old))
+            (state_of (W.told sink.new) out.new (M.told machine.new)) }
     {
         match self.paused.pop() {
             Some(latest) => self.tell(alloc, latest, asking, sink, machine, out),
@@ -85,23 +76,15 @@ impl Session {
     ) -> Result<(), Halt>
         requires offset { IsOffset asking.offset }
         requires few { IsFew self.old }
-        ensures said { MatchResult result
-            (λ _. SaysOf (M.world machine.old) (TellsOf asking.offset (session_of (M.world machine.old) self.old) (IsGiven (M.world machine.old) (left_of question.cursor)) question.span) (session_of (M.world machine.old) self.new)
-            (state_of (W.held sink.old) out.old (M.looked machine.old) (M.faults machine.old))
-            (state_of (W.held sink.new) out.new (M.looked machine.new) (M.faults machine.new)))
-            (λ _. StopsIn (M.world machine.old) (TellsOf asking.offset (session_of (M.world machine.old) self.old) (IsGiven (M.world machine.old) (left_of question.cursor)) question.span)
-            (state_of (W.held sink.old) out.old (M.looked machine.old) (M.faults machine.old))
-            (state_of (W.held sink.new) out.new (M.looked machine.new) (M.faults machine.new))) }
+        ensures said { let world = (M.told machine.old).world in
+            let given = IsGiven world (left_of question.cursor) in
+            SaysOrStops (TellsOf asking.offset (session_of world self.old) given question.span) (session_of world self.new)
+            (state_of (W.told sink.old) out.old (M.told machine.old))
+            (state_of (W.told sink.new) out.new (M.told machine.new)) result }
         ensures few { IsFew self.new }
-        ensures world { M.world machine.new ≡ M.world machine.old }
-        ensures acted { M.acted machine.new ≡ M.acted machine.old }
-        ensures polled { M.polled machine.new ≡ M.polled machine.old }
-        ensures started { M.started machine.new ≡ M.started machine.old }
-        ensures machine_later { M.faults machine.old ≤ M.faults machine.new }
-        ensures later { W.faults sink.old ≤ W.faults sink.new }
-        ensures failed { IsErrOf result Halt.Sink → Rose (W.faults sink.old) (W.faults sink.new) }
-        ensures steady { ¬ IsErrOf result Halt.Sink → W.faults sink.new ≡ W.faults sink.old }
-        ensures never { ¬ IsErrOf result Halt.Clock }
+        ensures only { OnlyTells (IsErrOf result Halt.Sink) (IsErrOf result Halt.Clock)
+            (state_of (W.told sink.old) out.old (M.told machine.old))
+            (state_of (W.told sink.new) out.new (M.told machine.new)) }
     {
         let mut question = question;
         match question.tell(alloc, room_of(self.page), asking, sink, machine, out) {

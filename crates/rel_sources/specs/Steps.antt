@@ -46,9 +46,9 @@ AsRoom room event.Full = room ≡ false
 AsRoom room _ = ⊤
 
 -- A value brings nearer the next look or turn.
-abbrev pub Falls : ℕ → WalkEvent → ℕ → Type 0
-Falls old (event.Given v) new = new < old
-Falls old _ new = ⊤
+abbrev pub Falls : WalkEvent → ℕ → ℕ → Type 0
+Falls (event.Given v) old new = new < old
+Falls _ old new = ⊤
 
 -- A value that is given is sound.
 abbrev pub GivesSound : WalkEvent → Type 0

@@ -44,7 +44,7 @@ impl HeldItem {
     pub fn give(&mut self) -> Option<WalkEvent>
         ensures moves { MatchOption result ((item_in self.old ≡ Absent) × (item_in self.new ≡ Absent))
             (λ event. (t : Trace) → Moves (before (item_in self.old) t) event (before (item_in self.new) t)) }
-        ensures falls { IfSome result (λ event. Falls (values_in (item_in self.old)) event (values_in (item_in self.new))) }
+        ensures falls { IfSome result (λ event. Falls event (values_in (item_in self.old)) (values_in (item_in self.new))) }
         ensures given { values_in (item_in self.new) ≡ 0 }
         ensures sound { IsSoundItem (item_in self.old) → IsSoundItem (item_in self.new) }
         ensures gives_sound { IsSoundItem (item_in self.old) → IfSome result GivesSound }

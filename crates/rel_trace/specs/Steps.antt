@@ -23,10 +23,10 @@ Goes l t (Full p) l' t' = LooksAt p t × (t ≡ t') × (l' ≡ l)
 Goes l t (Failed p) l' t' = LooksAt p t × (t ≡ t') × (l' ≡ l)
 Goes l t Memory l' t' = l' ≡ l
 
--- a look fails only where the machine's count of faults rose
+-- A look fails only where the count of faults went up, and else the count stays.
 abbrev pub HasCause : ℕ → ℕ → Step → Type 0
 HasCause old new (Failed p) = Rose old new
-HasCause old new _ = Unit {0}
+HasCause old new _ = new ≡ old
 
 -- a look is made, or fails, only where there is room for one more event, and only there it isn't told that there is none
 abbrev pub AsRoom : Bool → Step → Type 0

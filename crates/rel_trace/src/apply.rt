@@ -46,7 +46,8 @@ impl Apply {
     /// none here.
     pub fn tell_scalar(self, left: Option<Scalar>, value: Scalar) -> Option<Scalar>
         ensures made { result ≡ scalar_made self left value }
-        ensures told { (offset : ℤ) (x : Option Plain) → IfSome left (λ scalar. x ≡ Some (plain scalar)) → IfSome result (λ scalar. applied self offset x (plain value) ≡ one (plain scalar)) }
+        ensures told { (offset : ℤ) (x : Option Plain) → IfSome left (λ scalar. x ≡ Some (plain scalar))
+            → IfSome result (λ scalar. applied self offset x (plain value) ≡ one (plain scalar)) }
     {
         match self {
             Apply::Negate { .. } => value.opposite(),
@@ -59,7 +60,9 @@ impl Apply {
     /// After a step of the part. Times are written as a clock shows them that is `offset` minutes east of UTC.
     pub(crate) fn after(self, alloc: Global, step: Step, left: Option<&Held>, offset: i64) -> Step
         requires { IsOffset offset }
-        ensures goes { (l l' : List Key) (t t' : Trace) → Goes l t step l' t' → Goes l (each t (applied self offset (lent left.entry))) result l' (each t' (applied self offset (lent left.entry))) }
+        ensures goes { (l l' : List Key) (t t' : Trace) → Goes l t step l' t'
+            → Goes l (each t (applied self offset (lent left.entry)))
+            result l' (each t' (applied self offset (lent left.entry))) }
         ensures cause { (a b : ℕ) → HasCause a b step → HasCause a b result }
         ensures room { (r : Bool) → AsRoom r step → AsRoom r result }
         ensures falls { (q q' : ℕ) → Falls step q q' → Falls result q q' }

@@ -35,12 +35,16 @@ impl Choice {
     /// The step that follows from a step of the test, and whether the branch that is chosen begins now.
     pub fn after_test(&mut self, step: Step) -> Next
         requires { is_test self.old ≡ true }
-        ensures goes { (l l' : List Key) (t t' : Trace) (b c f g : Around → Trace) (s : Around) → Goes l t step l' t' → Goes l (choice_left self.old t b c f g s) result.step l' (choice_left self.new t' (begun result.begins b f) (begun result.begins c g) f g s) }
+        ensures goes { (l l' : List Key) (t t' : Trace) (b c f g : Around → Trace) (s : Around) → Goes l t step l' t'
+            → Goes l (choice_left self.old t b c f g s)
+            result.step l' (choice_left self.new t' (begun result.begins b f) (begun result.begins c g) f g s) }
         ensures cause { (a b : ℕ) → HasCause a b step → HasCause a b result.step }
         ensures room { (r : Bool) → AsRoom r step → AsRoom r result.step }
         ensures begins { result.begins ≡ not (is_test self.new) }
         ensures memory { result.step ≡ Memory → step ≡ Memory }
-        ensures falls { (q q' r w c d : ℕ) → Falls step q q' → Falls result.step (choice_quiet self.old q r w c d) (choice_quiet self.new q' (begun_quiet result.begins r c) (begun_quiet result.begins w d) c d) }
+        ensures falls { (q q' r w c d : ℕ) → Falls step q q'
+            → Falls result.step (choice_quiet self.old q r w c d)
+            (choice_quiet self.new q' (begun_quiet result.begins r c) (begun_quiet result.begins w d) c d) }
     {
         match step {
             Step::Given(value) => {
@@ -61,11 +65,14 @@ impl Choice {
     /// The step that follows from a step of the branch that was chosen.
     pub fn after_branch(&mut self, step: Step) -> Step
         requires { is_test self.old ≡ false }
-        ensures goes { (l l' : List Key) (a : Trace) (b c b' c' f g : Around → Trace) (s : Around) → Goes l (branch_left self.old b c s) step l' (branch_left self.old b' c' s) → Goes l (choice_left self.old a b c f g s) result l' (choice_left self.new a b' c' f g s) }
+        ensures goes { (l l' : List Key) (a : Trace) (b c b' c' f g : Around → Trace) (s : Around)
+            → Goes l (branch_left self.old b c s) step l' (branch_left self.old b' c' s)
+            → Goes l (choice_left self.old a b c f g s) result l' (choice_left self.new a b' c' f g s) }
         ensures cause { (a b : ℕ) → HasCause a b step → HasCause a b result }
         ensures room { (r : Bool) → AsRoom r step → AsRoom r result }
         ensures memory { result ≡ Memory → step ≡ Memory }
-        ensures falls { (q r w r' w' c d : ℕ) → Falls step (branch_quiet self.old r w) (branch_quiet self.old r' w') → Falls result (choice_quiet self.old q r w c d) (choice_quiet self.new q r' w' c d) }
+        ensures falls { (q r w r' w' c d : ℕ) → Falls step (branch_quiet self.old r w) (branch_quiet self.old r' w')
+            → Falls result (choice_quiet self.old q r w c d) (choice_quiet self.new q r' w' c d) }
     {
         match step {
             Step::Over => {

@@ -40,7 +40,8 @@ fn text_in(value: &Value) -> Option<&str>
 /// The bytes of a part.
 fn part_in(value: &Value) -> Option<&str>
     requires { IsSound (shown value.now) }
-    ensures { MatchOption result (in_full (shown value.now) ≡ shown value.now) (λ text. (in_full (shown value.now) ≡ words text.now) × (length text.now ≤ 4294967295)) }
+    ensures { MatchOption result (in_full (shown value.now) ≡ shown value.now)
+        (λ text. (in_full (shown value.now) ≡ words text.now) × (length text.now ≤ 4294967295)) }
 {
     match value {
         Value::Part { whole, from, to } => Some(&whole.as_str()[*from as usize..*to as usize]),

@@ -52,10 +52,12 @@ impl Draw {
     pub(crate) fn after(&mut self, step: Step) -> Step
         requires { draw_done self.old ≡ false }
         ensures kind { draw_kind self.new ≡ draw_kind self.old }
-        ensures goes { (l l' : List Key) (t t' : Trace) → Goes l t step l' t' → Goes l (draw_left self.old t) result l' (draw_left self.new t') }
+        ensures goes { (l l' : List Key) (t t' : Trace) → Goes l t step l' t'
+            → Goes l (draw_left self.old t) result l' (draw_left self.new t') }
         ensures cause { (a b : ℕ) → HasCause a b step → HasCause a b result }
         ensures room { (r : Bool) → AsRoom r step → AsRoom r result }
-        ensures falls { (q q' : ℕ) → Falls step q q' → Falls result (zero_if (draw_done self.old) (q + 1)) (zero_if (draw_done self.new) (q' + 1)) }
+        ensures falls { (q q' : ℕ) → Falls step q q'
+            → Falls result (zero_if (draw_done self.old) (q + 1)) (zero_if (draw_done self.new) (q' + 1)) }
     {
         match self {
             Draw::Single { place, held, done } => match step {

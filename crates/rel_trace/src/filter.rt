@@ -38,7 +38,8 @@ impl Filter {
 
     pub(crate) fn reset(&mut self)
         ensures kind { filter_kind self.new ≡ filter_kind self.old }
-        ensures rest { (a : Trace) (b f : Around → Trace) (s : Around) → filter_rest self.new a b f s ≡ two_whole (filter_kind self.old) a f s }
+        ensures rest { (a : Trace) (b f : Around → Trace) (s : Around)
+            → filter_rest self.new a b f s ≡ two_whole (filter_kind self.old) a f s }
     {
         drop(self.held.take());
     }
@@ -61,12 +62,14 @@ impl Filter {
     pub(crate) fn after_first(&mut self, step: Step) -> Next
         requires { filter_on self.old ≡ false }
         ensures kind { filter_kind self.new ≡ filter_kind self.old }
-        ensures goes { (l l' : List Key) (t t' : Trace) (b f : Around → Trace) (s : Around) → Goes l t step l' t' → Goes l (filter_rest self.old t b f s) result.step l' (filter_rest self.new t' (begun result.begins b f) f s) }
+        ensures goes { (l l' : List Key) (t t' : Trace) (b f : Around → Trace) (s : Around) → Goes l t step l' t'
+            → Goes l (filter_rest self.old t b f s) result.step l' (filter_rest self.new t' (begun result.begins b f) f s) }
         ensures cause { (a b : ℕ) → HasCause a b step → HasCause a b result.step }
         ensures room { (r : Bool) → AsRoom r step → AsRoom r result.step }
         ensures begins { result.begins ≡ filter_on self.new }
         ensures memory { result.step ≡ Memory → step ≡ Memory }
-        ensures falls { (q q' r c : ℕ) → Falls step q q' → Falls result.step (filter_quiet self.old q r c) (filter_quiet self.new q' (begun_quiet result.begins r c) c) }
+        ensures falls { (q q' r c : ℕ) → Falls step q q'
+            → Falls result.step (filter_quiet self.old q r c) (filter_quiet self.new q' (begun_quiet result.begins r c) c) }
     {
         match step {
             Step::Given(value) => {
@@ -83,11 +86,14 @@ impl Filter {
     pub(crate) fn after_second(&mut self, step: Step) -> Step
         requires { filter_on self.old ≡ true }
         ensures kind { filter_kind self.new ≡ filter_kind self.old }
-        ensures goes { (l l' : List Key) (a : Trace) (b b' f : Around → Trace) (s : Around) → Goes l (b (with_tested self.old.held s)) step l' (b' (with_tested self.old.held s)) → Goes l (filter_rest self.old a b f s) result l' (filter_rest self.new a b' f s) }
+        ensures goes { (l l' : List Key) (a : Trace) (b b' f : Around → Trace) (s : Around)
+            → Goes l (b (with_tested self.old.held s)) step l' (b' (with_tested self.old.held s))
+            → Goes l (filter_rest self.old a b f s) result l' (filter_rest self.new a b' f s) }
         ensures cause { (a b : ℕ) → HasCause a b step → HasCause a b result }
         ensures room { (r : Bool) → AsRoom r step → AsRoom r result }
         ensures memory { result ≡ Memory → step ≡ Memory }
-        ensures falls { (q r r' c : ℕ) → Falls step r r' → Falls result (filter_quiet self.old q r c) (filter_quiet self.new q r' c) }
+        ensures falls { (q r r' c : ℕ) → Falls step r r'
+            → Falls result (filter_quiet self.old q r c) (filter_quiet self.new q r' c) }
     {
         match step {
             Step::Given(value) => {

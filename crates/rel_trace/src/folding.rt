@@ -39,7 +39,8 @@ impl Folding {
     pub(crate) fn reset(&mut self)
         ensures kind { self.new.fold ≡ self.old.fold }
         ensures place { self.new.place ≡ self.old.place }
-        ensures rest { (s : Around) (offset : ℤ) (t : Trace) → fold_left self.new s.argument t ≡ one_whole (fold_kind self.old.fold self.old.place) s offset t }
+        ensures rest { (s : Around) (offset : ℤ) (t : Trace)
+            → fold_left self.new s.argument t ≡ one_whole (fold_kind self.old.fold self.old.place) s offset t }
     {
         self.held = self.fold.held_first();
         self.done = false;
@@ -50,10 +51,12 @@ impl Folding {
         requires { self.old.done ≡ false }
         ensures kind { self.new.fold ≡ self.old.fold }
         ensures place { self.new.place ≡ self.old.place }
-        ensures goes { (l l' : List Key) (t t' : Trace) → Goes l t step l' t' → Goes l (fold_left self.old (lent separator.entry) t) result l' (fold_left self.new (lent separator.entry) t') }
+        ensures goes { (l l' : List Key) (t t' : Trace) → Goes l t step l' t'
+            → Goes l (fold_left self.old (lent separator.entry) t) result l' (fold_left self.new (lent separator.entry) t') }
         ensures cause { (a b : ℕ) → HasCause a b step → HasCause a b result }
         ensures room { (r : Bool) → AsRoom r step → AsRoom r result }
-        ensures falls { (q q' : ℕ) → Falls step q q' → Falls result (zero_if self.old.done (q + 1)) (zero_if self.new.done (q' + 1)) }
+        ensures falls { (q q' : ℕ) → Falls step q q'
+            → Falls result (zero_if self.old.done (q + 1)) (zero_if self.new.done (q' + 1)) }
     {
         match step {
             Step::Given(value) => {
@@ -77,8 +80,10 @@ impl Folding {
         requires { self.old.done ≡ false }
         ensures kind { self.new.fold ≡ self.old.fold }
         ensures place { self.new.place ≡ self.old.place }
-        ensures goes { (o : Outcome) (separator : Option Plain) (l : List Key) (t : Trace) → Works o worked → Goes l (onward self.old.fold self.old.place o (λ h. folded self.old.fold separator self.old.place (Some h) t)) result l (fold_left self.new separator t) }
-        ensures cause { (a b : ℕ) → HasCause a b result }
+        ensures goes { (o : Outcome) (separator : Option Plain) (l : List Key) (t : Trace) → Works o worked
+            → Goes l (onward self.old.fold self.old.place o (λ h. folded self.old.fold separator self.old.place (Some h) t))
+            result l (fold_left self.new separator t) }
+        ensures cause { (count : ℕ) → HasCause count count result }
         ensures room { (r : Bool) → AsRoom r result }
         ensures falls { (q q' : ℕ) → q' < q → Falls result (q + 1) (zero_if self.new.done (q' + 1)) }
     {

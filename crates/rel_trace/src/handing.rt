@@ -34,7 +34,7 @@ impl Hand {
     /// The step before the second part.
     fn opening(self) -> Step
         ensures goes { (l : List Key) (t u : Trace) → Goes l (follow (led self t) u) result l (follow t u) }
-        ensures cause { (a b : ℕ) → HasCause a b result }
+        ensures cause { (count : ℕ) → HasCause count count result }
         ensures room { (r : Bool) → AsRoom r result }
         ensures memory { result ≡ Memory → ⊥ }
         ensures falls { (q q' c : ℕ) → q' < q → Falls result (first_quiet self q c) (first_quiet self q' c + (c + 1)) }
@@ -87,7 +87,8 @@ impl Handing {
 
     pub(crate) fn reset(&mut self)
         ensures kind { handing_kind self.new ≡ handing_kind self.old }
-        ensures rest { (a : Trace) (b f : Around → Trace) (s : Around) → handing_rest self.new a b f s ≡ two_whole (handing_kind self.old) a f s }
+        ensures rest { (a : Trace) (b f : Around → Trace) (s : Around)
+            → handing_rest self.new a b f s ≡ two_whole (handing_kind self.old) a f s }
     {
         drop(self.held.take());
     }
@@ -96,7 +97,8 @@ impl Handing {
     pub(crate) fn release(&mut self)
         ensures kind { handing_kind self.new ≡ handing_kind self.old }
         ensures given_up { handing_on self.new ≡ false }
-        ensures rest { (a : Trace) (b f : Around → Trace) (s : Around) → b (handed_down self.old s) ≡ none → handing_rest self.new a b f s ≡ handing_rest self.old a b f s }
+        ensures rest { (a : Trace) (b f : Around → Trace) (s : Around) → b (handed_down self.old s) ≡ none
+            → handing_rest self.new a b f s ≡ handing_rest self.old a b f s }
         ensures falls { (q r c : ℕ) → handing_quiet self.new q r c ≤ handing_quiet self.old q r c }
     {
         drop(self.held.take());
@@ -117,12 +119,14 @@ impl Handing {
     pub(crate) fn after_first(&mut self, step: Step) -> Next
         requires { handing_on self.old ≡ false }
         ensures kind { handing_kind self.new ≡ handing_kind self.old }
-        ensures goes { (l l' : List Key) (t t' : Trace) (b f : Around → Trace) (s : Around) → Goes l t step l' t' → Goes l (handing_rest self.old t b f s) result.step l' (handing_rest self.new t' (begun result.begins b f) f s) }
+        ensures goes { (l l' : List Key) (t t' : Trace) (b f : Around → Trace) (s : Around) → Goes l t step l' t'
+            → Goes l (handing_rest self.old t b f s) result.step l' (handing_rest self.new t' (begun result.begins b f) f s) }
         ensures cause { (a b : ℕ) → HasCause a b step → HasCause a b result.step }
         ensures room { (r : Bool) → AsRoom r step → AsRoom r result.step }
         ensures begins { result.begins ≡ handing_on self.new }
         ensures memory { result.step ≡ Memory → step ≡ Memory }
-        ensures falls { (q q' r c : ℕ) → Falls step q q' → Falls result.step (handing_quiet self.old q r c) (handing_quiet self.new q' (begun_quiet result.begins r c) c) }
+        ensures falls { (q q' r c : ℕ) → Falls step q q'
+            → Falls result.step (handing_quiet self.old q r c) (handing_quiet self.new q' (begun_quiet result.begins r c) c) }
     {
         match step {
             Step::Given(value) => {
@@ -138,11 +142,14 @@ impl Handing {
     pub(crate) fn after_second(&mut self, step: Step) -> Step
         requires { handing_on self.old ≡ true }
         ensures kind { handing_kind self.new ≡ handing_kind self.old }
-        ensures goes { (l l' : List Key) (a : Trace) (b b' f : Around → Trace) (s : Around) → Goes l (b (handed_down self.old s)) step l' (b' (handed_down self.old s)) → Goes l (handing_rest self.old a b f s) result l' (handing_rest self.new a b' f s) }
+        ensures goes { (l l' : List Key) (a : Trace) (b b' f : Around → Trace) (s : Around)
+            → Goes l (b (handed_down self.old s)) step l' (b' (handed_down self.old s))
+            → Goes l (handing_rest self.old a b f s) result l' (handing_rest self.new a b' f s) }
         ensures cause { (a b : ℕ) → HasCause a b step → HasCause a b result }
         ensures room { (r : Bool) → AsRoom r step → AsRoom r result }
         ensures memory { result ≡ Memory → step ≡ Memory }
-        ensures falls { (q r r' c : ℕ) → Falls step r r' → Falls result (handing_quiet self.old q r c) (handing_quiet self.new q r' c) }
+        ensures falls { (q r r' c : ℕ) → Falls step r r'
+            → Falls result (handing_quiet self.old q r c) (handing_quiet self.new q r' c) }
     {
         match step {
             Step::Over => {

@@ -23,7 +23,8 @@ impl One {
     /// The one value of the part. None and a second one are errors at the head's place.
     pub fn single(place: Place) -> One
         ensures kind { one_kind result ≡ single_kind place }
-        ensures rest { (s : Around) (offset : ℤ) (t : Trace) → one_left result s offset t ≡ one_whole (single_kind place) s offset t }
+        ensures rest { (s : Around) (offset : ℤ) (t : Trace)
+            → one_left result s offset t ≡ one_whole (single_kind place) s offset t }
     {
         One::Draw(Draw::Single {
             place,
@@ -43,7 +44,8 @@ impl One {
     /// An aggregate with its head at this place.
     pub fn fold(fold: Fold, place: Place) -> One
         ensures kind { one_kind result ≡ fold_kind fold place }
-        ensures rest { (s : Around) (offset : ℤ) (t : Trace) → one_left result s offset t ≡ one_whole (fold_kind fold place) s offset t }
+        ensures rest { (s : Around) (offset : ℤ) (t : Trace)
+            → one_left result s offset t ≡ one_whole (fold_kind fold place) s offset t }
     {
         One::Fold(Folding::new(fold, place))
     }
@@ -51,7 +53,8 @@ impl One {
     /// `-` before the part, at this place.
     pub fn negate(place: Place) -> One
         ensures kind { one_kind result ≡ negate_kind place }
-        ensures rest { (s : Around) (offset : ℤ) (t : Trace) → one_left result s offset t ≡ one_whole (negate_kind place) s offset t }
+        ensures rest { (s : Around) (offset : ℤ) (t : Trace)
+            → one_left result s offset t ≡ one_whole (negate_kind place) s offset t }
     {
         One::Apply(Apply::Negate { place })
     }
@@ -59,7 +62,8 @@ impl One {
     /// `not` before the part, at this place.
     pub fn not(place: Place) -> One
         ensures kind { one_kind result ≡ not_kind place }
-        ensures rest { (s : Around) (offset : ℤ) (t : Trace) → one_left result s offset t ≡ one_whole (not_kind place) s offset t }
+        ensures rest { (s : Around) (offset : ℤ) (t : Trace)
+            → one_left result s offset t ≡ one_whole (not_kind place) s offset t }
     {
         One::Apply(Apply::Not { place })
     }
@@ -67,7 +71,8 @@ impl One {
     /// A cast of the part, whose words are at this place.
     pub fn cast(to: Cast, place: Place) -> One
         ensures kind { one_kind result ≡ cast_kind to place }
-        ensures rest { (s : Around) (offset : ℤ) (t : Trace) → one_left result s offset t ≡ one_whole (cast_kind to place) s offset t }
+        ensures rest { (s : Around) (offset : ℤ) (t : Trace)
+            → one_left result s offset t ≡ one_whole (cast_kind to place) s offset t }
     {
         One::Apply(Apply::Cast { to, place })
     }
@@ -75,7 +80,8 @@ impl One {
     /// A sign between the left value in scope and the part's, at this place.
     pub fn sign(sign: BinarySign, place: Place) -> One
         ensures kind { one_kind result ≡ sign_kind sign place }
-        ensures rest { (s : Around) (offset : ℤ) (t : Trace) → one_left result s offset t ≡ one_whole (sign_kind sign place) s offset t }
+        ensures rest { (s : Around) (offset : ℤ) (t : Trace)
+            → one_left result s offset t ≡ one_whole (sign_kind sign place) s offset t }
     {
         One::Apply(Apply::Sign { sign, place })
     }
@@ -83,7 +89,8 @@ impl One {
     /// The left value in scope and the part's as a tuple. The place is the span of the left one's part.
     pub fn tuple(joining: Joining, span: Place) -> One
         ensures kind { one_kind result ≡ tuple_kind joining span }
-        ensures rest { (s : Around) (offset : ℤ) (t : Trace) → one_left result s offset t ≡ one_whole (tuple_kind joining span) s offset t }
+        ensures rest { (s : Around) (offset : ℤ) (t : Trace)
+            → one_left result s offset t ≡ one_whole (tuple_kind joining span) s offset t }
     {
         One::Apply(Apply::Tuple { joining, span })
     }
@@ -113,7 +120,8 @@ impl One {
     /// Begins anew. Its part does so too.
     pub fn reset(&mut self)
         ensures kind { one_kind self.new ≡ one_kind self.old }
-        ensures rest { (s : Around) (offset : ℤ) (t : Trace) → one_left self.new s offset t ≡ one_whole (one_kind self.old) s offset t }
+        ensures rest { (s : Around) (offset : ℤ) (t : Trace)
+            → one_left self.new s offset t ≡ one_whole (one_kind self.old) s offset t }
     {
         match self {
             One::Draw(draw) => draw.reset(),
@@ -127,7 +135,8 @@ impl One {
         requires waits { is_done self.old ≡ false }
         requires offset_in { IsOffset offset }
         ensures kind { one_kind self.new ≡ one_kind self.old }
-        ensures goes { (l l' : List Key) (t t' : Trace) → Goes l t step l' t' → Goes l (one_left self.old (seen scope.entry) offset t) result l' (one_left self.new (seen scope.entry) offset t') }
+        ensures goes { (l l' : List Key) (t t' : Trace) → Goes l t step l' t'
+            → Goes l (one_left self.old (seen scope.entry) offset t) result l' (one_left self.new (seen scope.entry) offset t') }
         ensures cause { (a b : ℕ) → HasCause a b step → HasCause a b result }
         ensures room { (r : Bool) → AsRoom r step → AsRoom r result }
         ensures falls { (q q' : ℕ) → Falls step q q' → Falls result (one_quiet self.old q) (one_quiet self.new q') }

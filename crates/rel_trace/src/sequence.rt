@@ -39,7 +39,8 @@ impl Sequence {
 
     pub(crate) fn reset(&mut self)
         ensures kind { sequence_kind self.new ≡ sequence_kind self.old }
-        ensures rest { (a : Trace) (b f : Around → Trace) (s : Around) → sequence_rest self.new a b f s ≡ two_whole (sequence_kind self.old) a f s }
+        ensures rest { (a : Trace) (b f : Around → Trace) (s : Around)
+            → sequence_rest self.new a b f s ≡ two_whole (sequence_kind self.old) a f s }
     {
         self.on_second = false;
     }
@@ -48,12 +49,14 @@ impl Sequence {
     pub(crate) fn after_first(&mut self, step: Step) -> Next
         requires { sequence_on self.old ≡ false }
         ensures kind { sequence_kind self.new ≡ sequence_kind self.old }
-        ensures goes { (l l' : List Key) (t t' : Trace) (b f : Around → Trace) (s : Around) → Goes l t step l' t' → Goes l (sequence_rest self.old t b f s) result.step l' (sequence_rest self.new t' (begun result.begins b f) f s) }
+        ensures goes { (l l' : List Key) (t t' : Trace) (b f : Around → Trace) (s : Around) → Goes l t step l' t'
+            → Goes l (sequence_rest self.old t b f s) result.step l' (sequence_rest self.new t' (begun result.begins b f) f s) }
         ensures cause { (a b : ℕ) → HasCause a b step → HasCause a b result.step }
         ensures room { (r : Bool) → AsRoom r step → AsRoom r result.step }
         ensures begins { result.begins ≡ sequence_on self.new }
         ensures memory { result.step ≡ Memory → step ≡ Memory }
-        ensures falls { (q q' r c : ℕ) → Falls step q q' → Falls result.step (sequence_quiet self.old q r c) (sequence_quiet self.new q' (begun_quiet result.begins r c) c) }
+        ensures falls { (q q' r c : ℕ) → Falls step q q'
+            → Falls result.step (sequence_quiet self.old q r c) (sequence_quiet self.new q' (begun_quiet result.begins r c) c) }
     {
         match self.order {
             Order::Then => match step {
@@ -94,11 +97,13 @@ impl Sequence {
     pub(crate) fn after_second(&mut self, step: Step) -> Step
         requires { sequence_on self.old ≡ true }
         ensures kind { sequence_kind self.new ≡ sequence_kind self.old }
-        ensures goes { (l l' : List Key) (a : Trace) (b b' f : Around → Trace) (s : Around) → Goes l (b s) step l' (b' s) → Goes l (sequence_rest self.old a b f s) result l' (sequence_rest self.new a b' f s) }
+        ensures goes { (l l' : List Key) (a : Trace) (b b' f : Around → Trace) (s : Around) → Goes l (b s) step l' (b' s)
+            → Goes l (sequence_rest self.old a b f s) result l' (sequence_rest self.new a b' f s) }
         ensures cause { (a b : ℕ) → HasCause a b step → HasCause a b result }
         ensures room { (r : Bool) → AsRoom r step → AsRoom r result }
         ensures memory { result ≡ Memory → step ≡ Memory }
-        ensures falls { (q r r' c : ℕ) → Falls step r r' → Falls result (sequence_quiet self.old q r c) (sequence_quiet self.new q r' c) }
+        ensures falls { (q r r' c : ℕ) → Falls step r r'
+            → Falls result (sequence_quiet self.old q r c) (sequence_quiet self.new q r' c) }
     {
         match self.order {
             Order::Then | Order::Bar => step,

@@ -37,7 +37,8 @@ impl Two {
     /// `and` and `or`
     pub fn logical(logic: Logic) -> Two
         ensures kind { two_kind result ≡ logic_kind logic }
-        ensures rest { (a : Trace) (b f : Around → Trace) (s : Around) → two_left result a b f s ≡ two_whole (logic_kind logic) a f s }
+        ensures rest { (a : Trace) (b f : Around → Trace) (s : Around)
+            → two_left result a b f s ≡ two_whole (logic_kind logic) a f s }
     {
         Two::Sequence(Sequence::new(Order::Logical(logic)))
     }
@@ -45,7 +46,8 @@ impl Two {
     /// The second part for each value of the first as `it`, with the head at this place.
     pub fn each(head: Place) -> Two
         ensures kind { two_kind result ≡ each_kind head }
-        ensures rest { (a : Trace) (b f : Around → Trace) (s : Around) → two_left result a b f s ≡ two_whole (each_kind head) a f s }
+        ensures rest { (a : Trace) (b f : Around → Trace) (s : Around)
+            → two_left result a b f s ≡ two_whole (each_kind head) a f s }
     {
         Two::Handing(Handing::new(Hand::Each { head }))
     }
@@ -53,7 +55,8 @@ impl Two {
     /// The values of the first part that the second keeps, which sees each as `it`. The head is at this place.
     pub fn sift(head: Place) -> Two
         ensures kind { two_kind result ≡ sift_kind head }
-        ensures rest { (a : Trace) (b f : Around → Trace) (s : Around) → two_left result a b f s ≡ two_whole (sift_kind head) a f s }
+        ensures rest { (a : Trace) (b f : Around → Trace) (s : Around)
+            → two_left result a b f s ≡ two_whole (sift_kind head) a f s }
     {
         Two::Filter(Filter::new(head))
     }
@@ -61,7 +64,8 @@ impl Two {
     /// The second part with the value of the first as argument.
     pub fn argument() -> Two
         ensures kind { two_kind result ≡ argument_kind }
-        ensures rest { (a : Trace) (b f : Around → Trace) (s : Around) → two_left result a b f s ≡ two_whole (argument_kind) a f s }
+        ensures rest { (a : Trace) (b f : Around → Trace) (s : Around)
+            → two_left result a b f s ≡ two_whole (argument_kind) a f s }
     {
         Two::Handing(Handing::new(Hand::Argument))
     }
@@ -77,7 +81,8 @@ impl Two {
     /// A turn at the first part's span, and then the second part with the value of the first to its left.
     pub fn turned(span: Place) -> Two
         ensures kind { two_kind result ≡ turned_kind span }
-        ensures rest { (a : Trace) (b f : Around → Trace) (s : Around) → two_left result a b f s ≡ two_whole (turned_kind span) a f s }
+        ensures rest { (a : Trace) (b f : Around → Trace) (s : Around)
+            → two_left result a b f s ≡ two_whole (turned_kind span) a f s }
     {
         Two::Handing(Handing::new(Hand::Turned { span }))
     }
@@ -96,7 +101,8 @@ impl Two {
     /// Begins anew. The first part does so too, and the second where `Next::begins` says so.
     pub fn reset(&mut self)
         ensures kind { two_kind self.new ≡ two_kind self.old }
-        ensures rest { (a : Trace) (b f : Around → Trace) (s : Around) → two_left self.new a b f s ≡ two_whole (two_kind self.old) a f s }
+        ensures rest { (a : Trace) (b f : Around → Trace) (s : Around)
+            → two_left self.new a b f s ≡ two_whole (two_kind self.old) a f s }
     {
         match self {
             Two::Sequence(sequence) => sequence.reset(),
@@ -121,12 +127,14 @@ impl Two {
     pub fn after_first(&mut self, step: Step) -> Next
         requires { on_second self.old ≡ false }
         ensures kind { two_kind self.new ≡ two_kind self.old }
-        ensures goes { (l l' : List Key) (t t' : Trace) (b f : Around → Trace) (s : Around) → Goes l t step l' t' → Goes l (two_left self.old t b f s) result.step l' (two_left self.new t' (begun result.begins b f) f s) }
+        ensures goes { (l l' : List Key) (t t' : Trace) (b f : Around → Trace) (s : Around) → Goes l t step l' t'
+            → Goes l (two_left self.old t b f s) result.step l' (two_left self.new t' (begun result.begins b f) f s) }
         ensures cause { (a b : ℕ) → HasCause a b step → HasCause a b result.step }
         ensures room { (r : Bool) → AsRoom r step → AsRoom r result.step }
         ensures begins { result.begins ≡ on_second self.new }
         ensures memory { result.step ≡ Memory → step ≡ Memory }
-        ensures falls { (q q' r c : ℕ) → Falls step q q' → Falls result.step (two_quiet self.old q r c) (two_quiet self.new q' (begun_quiet result.begins r c) c) }
+        ensures falls { (q q' r c : ℕ) → Falls step q q'
+            → Falls result.step (two_quiet self.old q r c) (two_quiet self.new q' (begun_quiet result.begins r c) c) }
     {
         match self {
             Two::Sequence(sequence) => sequence.after_first(step),
@@ -140,7 +148,9 @@ impl Two {
     pub fn after_second(&mut self, step: Step) -> Step
         requires { on_second self.old ≡ true }
         ensures kind { two_kind self.new ≡ two_kind self.old }
-        ensures goes { (l l' : List Key) (a : Trace) (b b' f : Around → Trace) (s : Around) → Goes l (b (second_around self.old s)) step l' (b' (second_around self.old s)) → Goes l (two_left self.old a b f s) result l' (two_left self.new a b' f s) }
+        ensures goes { (l l' : List Key) (a : Trace) (b b' f : Around → Trace) (s : Around)
+            → Goes l (b (second_around self.old s)) step l' (b' (second_around self.old s))
+            → Goes l (two_left self.old a b f s) result l' (two_left self.new a b' f s) }
         ensures cause { (a b : ℕ) → HasCause a b step → HasCause a b result }
         ensures room { (r : Bool) → AsRoom r step → AsRoom r result }
         ensures memory { result ≡ Memory → step ≡ Memory }
@@ -158,7 +168,8 @@ impl Two {
     pub fn release(&mut self)
         ensures kind { two_kind self.new ≡ two_kind self.old }
         ensures given_up { on_second self.new ≡ (waits_for_end (two_kind self.old) && on_second self.old) }
-        ensures rest { (a : Trace) (b f : Around → Trace) (s : Around) → b (second_around self.old s) ≡ none → two_left self.new a b f s ≡ two_left self.old a b f s }
+        ensures rest { (a : Trace) (b f : Around → Trace) (s : Around) → b (second_around self.old s) ≡ none
+            → two_left self.new a b f s ≡ two_left self.old a b f s }
         ensures falls { (q r c : ℕ) → two_quiet self.new q r c ≤ two_quiet self.old q r c }
     {
         match self {

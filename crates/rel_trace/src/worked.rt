@@ -36,8 +36,9 @@ impl Worked {
 
     /// The step that gives it, or fails at a place.
     pub(crate) fn at(self, place: Place) -> Step
-        ensures goes { (o : Outcome) → Works o self → (l : List Key) (t : Trace) → Goes l (follow (result_at place o) t) result l t }
-        ensures cause { (a b : ℕ) → HasCause a b result }
+        ensures goes { (o : Outcome) → Works o self → (l : List Key) (t : Trace)
+            → Goes l (follow (result_at place o) t) result l t }
+        ensures cause { (count : ℕ) → HasCause count count result }
         ensures room { (r : Bool) → AsRoom r result }
         ensures falls { (q q' : ℕ) → q' < q → Falls result q q' }
     {

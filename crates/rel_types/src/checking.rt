@@ -11,7 +11,8 @@ use std::alloc::Global;
 
 /// The plan of a tree, or the first fault in the order of checking.
 pub fn check(alloc: Global, tree: &Tree) -> Result<Plan, TypeError>
-    ensures { MatchResult result (λ plan. typed None (shown tree.now) ≡ Ok (shown_plan plan)) (Fails (typed None (shown tree.now))) }
+    ensures { MatchResult result (λ plan. typed None (shown tree.now)
+        ≡ Ok (shown_plan plan)) (Fails (typed None (shown tree.now))) }
 {
     let root = typed(alloc, None, tree)?;
     Ok(Plan { root })

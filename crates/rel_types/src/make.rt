@@ -34,7 +34,8 @@ pub(crate) fn literal(place: Place, text: &Text) -> Result<Node, TypeError>
 
 #[tactic(auto, unfolding(crate::specs::Outcomes::after, crate::specs::Outcomes::Fails))]
 pub(crate) fn it(alloc: Global, place: Place, around: Option<&Kind>) -> Result<Node, TypeError>
-    ensures { Answers shown_node (after (defined place (codes "it") (shown_lent around.entry)) (λ kind. Ok (node kind false (it place)))) result }
+    ensures { Answers shown_node (after (defined place (codes "it") (shown_lent around.entry))
+        (λ kind. Ok (node kind false (it place)))) result }
 {
     let kind = it_kind(alloc, place, around)?;
     Ok(singular(kind, Form::It { place }))
@@ -172,7 +173,8 @@ fn conditional(
     yes: Box<Node>,
     no: Box<Node>,
 ) -> Result<Node, AllocError>
-    ensures { IfOk result (λ n. shown_node n ≡ choice_node place (shown_node test.value) (shown_node yes.value) (shown_node no.value)) }
+    ensures { IfOk result (λ n. shown_node n
+        ≡ choice_node place (shown_node test.value) (shown_node yes.value) (shown_node no.value)) }
 {
     Ok(Node {
         kind: yes.kind.copy()?,

@@ -64,7 +64,8 @@ fn item_head(
     argument: &Option<Box<Node>>,
     object: &Option<Box<Node>>,
 ) -> Result<Option<Headed>, AllocError>
-    ensures { IfOk result (λ o. option_map shown_headed o ≡ item_head plural (item_kind (literal_number (shown_held argument.now)) (held_kind (shown_held object.now)))) }
+    ensures { IfOk result (λ o. option_map shown_headed o
+        ≡ item_head plural (item_kind (literal_number (shown_held argument.now)) (held_kind (shown_held object.now)))) }
 {
     match item_kind(literal_number(argument), kind_held(object)) {
         Some(kind) => Ok(Some(Headed {

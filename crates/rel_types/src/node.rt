@@ -127,7 +127,8 @@ impl Links {
     }
 
     pub(crate) fn push(&mut self, link: Link) -> Result<(), AllocError>
-        ensures { IfOk result (λ _. shown_links self.new ≡ more_links (shown_links self.old) (shown_link link).0 (shown_link link).1 (shown_link link).2) }
+        ensures { IfOk result (λ _. shown_links self.new
+            ≡ more_links (shown_links self.old) (shown_link link).0 (shown_link link).1 (shown_link link).2) }
     {
         self.items.push(link)?;
         Ok(())

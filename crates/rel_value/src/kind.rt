@@ -38,7 +38,8 @@ pub struct Kinds {
 impl Kinds {
     /// The list of two kinds.
     pub fn pair(alloc: Global, first: Kind, second: Kind) -> Result<Kinds, AllocError>
-        ensures { IfOk result (λ list. shown_kinds list ≡ more_kinds (more_kinds no_kinds (shown_kind first)) (shown_kind second)) }
+        ensures { IfOk result (λ list. shown_kinds list
+            ≡ more_kinds (more_kinds no_kinds (shown_kind first)) (shown_kind second)) }
     {
         let mut items = Vec::new(alloc);
         items.push(first)?;

@@ -122,7 +122,10 @@ impl ReportQueue {
     /// takes no memory.
     pub(crate) fn hold(&mut self, key: Key, digest: [u8; 32])
         requires { IsQueued self.old (shown_key key) }
-        ensures { self.new ≡ record { queue = without (shown_key key) self.old.queue; held = with_held (shown_key key) digest self.old.held } }
+        ensures { self.new ≡ record {
+          queue = without (shown_key key) self.old.queue;
+          held = with_held (shown_key key) digest self.old.held;
+        } }
     {
         if self.held.len() == MOST_HELD {
             self.forget_oldest();

@@ -1,9 +1,11 @@
 -- What a question that was read is answered. Other crates may cite these lemmas.
 use Rattle.std.proofs.Common.{◌≡◌, Bool, true, false, List, refl, Option, Some}
+use Rattle.rel_value.specs.Plain.{booleans}
 use Rattle.bf_world.specs.declared.key.Key.{Key}
 use Rattle.bf_world.specs.Worlds.{WorldState}
 use Rattle.rel_sources.specs.declared.scene.Scene.{Scene}
 use Rattle.rel_types.specs.Plans.{PlainNode, kind_of}
+use Rattle.rel_types.specs.Alike.{same_kind}
 use Rattle.rel_trace.specs.declared.kind.RelKind.TheVariants.{NotSingular, Incompatible}
 use Rattle.rel_nodes.specs.Spans.{span_of_node}
 use Rattle.rel_eval.specs.declared.told.OneText.{OneText}
@@ -12,8 +14,6 @@ use Rattle.rel_eval.specs.declared.told.Truth.{Truth}
 use Rattle.rel_eval.specs.declared.told.Truth.TheVariants as truth
 use Rattle.rel_eval.specs.Cuts.{meaning}
 use Rattle.rel_eval.specs.Singles.{Words, Judges, one_text_of, truth_of}
-use Rattle.rel_types.specs.Alike.{same_kind}
-use Rattle.rel_value.specs.Plain.{booleans}
 use Rattle.script_run.specs.Asking.{SaysQuestion, JudgesKind, JudgesQuestion}
 
 pub says_question : (plural : Bool) (world : Option WorldState) (scene : Scene) (plan : PlainNode) (old : Option (List Key)) (answer : OneText) (new : Option (List Key)) →

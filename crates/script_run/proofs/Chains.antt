@@ -1,9 +1,9 @@
 -- Results that come one after another.
 use Rattle.std.proofs.Common.{◌≡◌, ℕ, List, [], ◌∷◌, ◌++◌, refl, sym, ap, subst, ◌∙◌, append_assoc, ◌⊎◌, inl, inr}
+use Rattle.bf_machine.specs.Views.{MachineView}
 use Rattle.script_run.specs.declared.broken.Broken.{Broken}
 use Rattle.script_run.specs.declared.broken.Broken.TheVariants as broken
 use Rattle.script_run.specs.Walks.{Known, Settled, Next, Stop, Walk}
-use Rattle.script_run.specs.Machines.{MachineView}
 use Rattle.script_run.specs.Asking.{When}
 use Rattle.script_run.specs.RunSteps.{Settles, Comes, Any, IsTextOf, StarvesAsking, Starves}
 use Rattle.script_run.specs.Fills.{Reaches, Breaks}

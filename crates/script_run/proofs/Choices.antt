@@ -1,6 +1,7 @@
 -- What the test of an arm is to a run, before lists that are kept elsewhere.
-use Rattle.std.proofs.Common.{◌≡◌, ◌≢◌, ◌+◌, Bool, true, List, [], ◌∷◌, sym, ap, subst, ◌∙◌, Option, None, arith}
+use Rattle.std.proofs.Common.{◌≡◌, ◌≢◌, ℕ, ◌+◌, Bool, true, List, [], ◌∷◌, sym, ap, subst, ◌∙◌, arith}
 use Rattle.std.specs.Prelude.{if◌then◌else◌}
+use Rattle.bf_machine.specs.Views.{MachineView}
 use Rattle.rel_sources.specs.declared.scene.Scene.{Scene}
 use Rattle.rel_eval.specs.declared.told.Truth.{Truth}
 use Rattle.rel_eval.specs.declared.told.Truth.TheVariants as truth
@@ -10,20 +11,16 @@ use Rattle.script_text.specs.declared.tree.Statement.{Statement}
 use Rattle.script_text.specs.Views.{shown_statements, statement_items}
 use Rattle.script_run.specs.declared.place.Place.{Place}
 use Rattle.script_run.specs.declared.place.Place.TheVariants.{Ready}
-use Rattle.script_run.specs.declared.ran.Ran.{Ran}
 use Rattle.script_run.specs.declared.todo.Todo.{Todo}
-use Rattle.script_run.specs.Walks.{Known, Settled, judged, Walk, Rest}
+use Rattle.script_run.specs.Walks.{Known, Settled, judged, Walk, Rest, after_truth}
 use Rattle.script_run.specs.ScriptWalks.{walk_all}
-use Rattle.script_run.specs.Machines.{MachineView}
 use Rattle.script_run.specs.Asking.{when_of, known_in, JudgesOn}
-use Rattle.script_run.specs.RunSteps.{Any, Starves}
+use Rattle.script_run.specs.RunSteps.{Any}
 use Rattle.script_run.specs.RunPlaces.{statements_walk, arm_walk, arms_walk, todo_walk, todos_walk, place_walk}
 use Rattle.script_run.specs.Weights.{all_weight, list_weight, todo_weight, todos_weight, place_weight}
-use Rattle.script_run.specs.ArmAnswers.{after_arm, AnswersArm}
-use Rattle.script_run.specs.Fills.{StepsTo}
-use Rattle.script_run.proofs.Chains.{reach_none, reach_one, starve_from}
-use Rattle.script_run.proofs.Texts.{tested_memory}
-use Rattle.script_run.proofs.Moves.{goes_none, ready_walk}
+use Rattle.script_run.specs.Fills.{Reaches}
+use Rattle.script_run.proofs.Chains.{reach_one}
+use Rattle.script_run.proofs.Moves.{ready_walk}
 use Rattle.script_run.proofs.Trees.{StatementsShowEach, walk_statements, weight_statements}
 
 -- what arms do, and what an arm before them does
@@ -53,36 +50,20 @@ pub choosing_none : (current : Todo) (old new : List Todo) (all : List Arm) (oth
 choosing_none current old new all other known more e is =
     choosing_same current old new all other known more e ∙ ap (λ l. choosing current new l other known more) is
 
--- the answer of an arm's test by its name
-pub arm_as : (arm : Arm) (rest other : Rest) (known : Known) (x y : Truth) (result : Option Ran) (left : Walk) → x ≡ y →
-    AnswersArm y (arm_walk arm rest other known) (after_arm arm rest other y known) result left → AnswersArm x (arm_walk arm rest other known) (after_arm arm rest other x known) result left
-arm_as arm rest other known x y result left e h =
-    let P : Truth → Type 0 = λ a. AnswersArm a (arm_walk arm rest other known) (after_arm arm rest other a known) result left in
-    subst P (sym e) h
+-- what comes after the answer of an arm's test
+abbrev pub after_arm : Arm → Rest → Rest → Truth → Rest
+after_arm arm rest other = after_truth (out-Arm arm).line (walk_all (shown_statements (out-Arm arm).body) rest) other
 
--- an answer of an arm's test that is a result
-arm_goes : (scene : Scene) (arm : Arm) (rest other : Rest) (v : MachineView) (answer : Truth) (w : MachineView) (result : Option Ran) (left : Walk) → answer ≢ truth.Memory →
-    JudgesOn scene (out-Arm arm).test v answer w → (result ≡ None) × ((more : List Settled) → after_arm arm rest other answer (known_in scene) more ≡ left more) →
-    StepsTo (when_of scene) v (arm_walk arm rest other (known_in scene)) result w left
-arm_goes scene arm rest other v answer w result left ne j h =
-    goes_none (when_of scene) v (arm_walk arm rest other (known_in scene)) result w left h.0
-    (reach_one Any (when_of scene) v (arm_walk arm rest other (known_in scene)) (judged answer) w left tt (ne, j) h.1)
+-- the answer by its name
+pub judged_as : (scene : Scene) (test : List ℕ) (old : MachineView) (x answer : Truth) (new : MachineView) → x ≡ answer → JudgesOn scene test old x new → JudgesOn scene test old answer new
+judged_as scene test old x answer new is j = let P : Truth → Type 0 = λ a. JudgesOn scene test old a new in subst P is j
 
--- a step in which the test of an arm is asked
-pub arm_steps : (scene : Scene) (arm : Arm) (rest other : Rest) (v : MachineView) (answer : Truth) (w : MachineView) (result : Option Ran) (left : Walk) →
-    JudgesOn scene (out-Arm arm).test v answer w → AnswersArm answer (arm_walk arm rest other (known_in scene)) (after_arm arm rest other answer (known_in scene)) result left →
-    StepsTo (when_of scene) v (arm_walk arm rest other (known_in scene)) result w left
-arm_steps scene arm rest other v truth.True w result left j h = arm_goes scene arm rest other v truth.True w result left (λ is. absurd (cc)) j h
-arm_steps scene arm rest other v truth.False w result left j h = arm_goes scene arm rest other v truth.False w result left (λ is. absurd (cc)) j h
-arm_steps scene arm rest other v (truth.Error kind place) w result left j h = arm_goes scene arm rest other v (truth.Error kind place) w result left (λ is. absurd (cc)) j h
-arm_steps scene arm rest other v (truth.Failed place) w result left j h = arm_goes scene arm rest other v (truth.Failed place) w result left (λ is. absurd (cc)) j h
-arm_steps scene arm rest other v truth.Memory w result left j h =
-    let f : Walk = arm_walk arm rest other (known_in scene) in
-    let P : Option Ran → Type 0 = λ r. StepsTo (when_of scene) v f r w left in
-    let starved : Starves (when_of scene) (out-Arm arm).line v f w =
-    tested_memory scene (out-Arm arm).line (out-Arm arm).test (walk_all (shown_statements (out-Arm arm).body) rest) other v w j in
-    subst P (sym h.0)
-    (v, reach_none Any (when_of scene) v f left h.1, ((out-Arm arm).line, starve_from (when_of scene) (out-Arm arm).line v left f w (λ more. sym (h.1 more)) starved))
+-- an answer that is a result
+pub arm_reaches : (scene : Scene) (arm : Arm) (rest other : Rest) (old : MachineView) (x answer : Truth) (new : MachineView) (left : Walk) → x ≡ answer → answer ≢ truth.Memory →
+    JudgesOn scene (out-Arm arm).test old x new → ((more : List Settled) → after_arm arm rest other answer (known_in scene) more ≡ left more) →
+    Reaches Any (when_of scene) old (arm_walk arm rest other (known_in scene)) new left
+arm_reaches scene arm rest other old x answer new left is ample j same =
+    reach_one Any (when_of scene) old (arm_walk arm rest other (known_in scene)) (judged answer) new left tt (ample, judged_as scene (out-Arm arm).test old x answer new is j) same
 
 -- ---- a body that comes first
 pub pushed_first : {T : Type 0} (b : Bool) (value : T) (old new : List T) → new ≡ (if b then value ∷ old else old) → b ≡ true → new ≡ value ∷ old

@@ -1,15 +1,15 @@
 -- What results count: the commands among them, and that a line fails for a fault of the machine only where there is one.
 use Rattle.std.proofs.Common.{◌≡◌, ◌≢◌, ℕ, ◌+◌, ◌-◌, ◌^◌, ◌≤◌, max, min, List, [], ◌∷◌, ◌++◌, refl, sym, ap, ◌∙◌, append_assoc, append-nil, ◌⊎◌, inl, inr, arith}
 use Rattle.desk_base.specs.Counts.{Rose}
-use Rattle.rel_sources.specs.declared.pair.Pair.{Pair}
 use Rattle.bf_machine.specs.Rises.{RoseBy}
+use Rattle.bf_machine.specs.Views.{MachineView}
+use Rattle.rel_sources.specs.declared.pair.Pair.{Pair}
 use Rattle.script_text.specs.Scripts.{PlainScript}
 use Rattle.script_run.specs.declared.cause.Cause.TheVariants.{MachineFault}
 use Rattle.script_run.specs.declared.ran.Ran.TheVariants.{Failed as FailedAt}
 use Rattle.script_run.specs.declared.run.Run.{Run}
 use Rattle.script_run.specs.Walks.{Known, Settled, said, judged, acted, polled, fault_in, faults_in, Next, Says, Tests, Pauses, Does, Polls, Fails, Walk}
 use Rattle.script_run.specs.ScriptWalks.{given_known, standing, next, after, command_of, commands_in, commands}
-use Rattle.script_run.specs.Machines.{MachineView}
 use Rattle.script_run.specs.Asking.{When}
 use Rattle.script_run.specs.RunSteps.{Settles, Comes, Any}
 use Rattle.script_run.specs.Advances.{GoesOn}
@@ -61,9 +61,10 @@ machine_fault_counted at script given settled old n new run h =
     let f : Walk = standing script given in
     let counts : Counts f = script_counts script (given_known given) in
     let later : Counts (after script given settled) = (λ more result m can is. counts (settled ++ more) result m can (ap (λ l. (f l).next) (append_assoc settled more (result ∷ [])) ∙ is)) in
-    let is : (after script given settled h.results).next ≡ Fails n MachineFault = ap (λ l. (f l).next) (sym (append-nil (settled ++ h.results))) ∙ h.stops.0 in
-    counted (comes_count at old (after script given settled) h.results h.between n later h.comes is)
+    let a = h.advances in
+    let is : (after script given settled a.results).next ≡ Fails n MachineFault = ap (λ l. (after script given settled l).next) (sym (append-nil a.results)) ∙ a.stops.0 in
+    counted (comes_count at old (after script given settled) a.results a.between n later a.comes is)
   where
-    counted : (faults_in h.results ≢ 0) ⊎ ((after script given settled []).next ≡ Fails n MachineFault) → Rose old.faults new.faults ⊎ (next script given settled ≡ Fails n MachineFault)
-    counted (inl some) = inl (some_rose (faults_in h.results) old.faults new.faults some h.faults)
+    counted : (faults_in h.advances.results ≢ 0) ⊎ ((after script given settled []).next ≡ Fails n MachineFault) → Rose old.faults new.faults ⊎ (next script given settled ≡ Fails n MachineFault)
+    counted (inl some) = inl (some_rose (faults_in h.advances.results) old.faults new.faults some h.advances.faults)
     counted (inr before) = inr (ap (λ l. (standing script given l).next) (sym (append-nil settled)) ∙ before)

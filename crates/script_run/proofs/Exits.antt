@@ -2,13 +2,13 @@
 use Rattle.std.proofs.Common.{◌≡◌, ℕ, ℤ, pos, Bool, true, false, cond, List, [], ◌∷◌, ◌++◌, append-nil, Option, Some, None, refl, sym, ap, ◌∙◌}
 use Rattle.std.specs.Prelude.{is_some, length, ◌==◌, codes}
 use Rattle.std.specs.Str.{bytes_eq}
+use Rattle.hex.specs.Hex.{encode_lower}
 use Rattle.sha1.specs.Sha1.{sha1}
 use Rattle.sha2.specs.Sha256.{sha256}
-use Rattle.hex.specs.Hex.{encode_lower}
 use Rattle.rel_value.specs.TimesRead.{time_of}
+use Rattle.bf_world.specs.declared.command.Command.TheVariants.{Write, Append, Delete, Copy, Move, MakeFolder, DropFolder, Start, Put, Drop, Place as PlaceFile}
 use Rattle.rel_sources.specs.declared.pair.Pair.{Pair}
 use Rattle.rel_sources.specs.Scenes.{value_of}
-use Rattle.bf_world.specs.declared.command.Command.TheVariants.{Write, Append, Delete, Copy, Move, MakeFolder, DropFolder, Start, Put, Drop, Place as PlaceFile}
 use Rattle.script_text.specs.declared.line.Line.{Line}
 use Rattle.script_text.specs.declared.line.Line.TheVariants as line
 use Rattle.script_text.specs.declared.prefetch.Prefetch.{Prefetch}

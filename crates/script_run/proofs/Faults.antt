@@ -5,17 +5,17 @@ use Rattle.hex.specs.Hex.{encode_lower}
 use Rattle.sha1.specs.Sha1.{sha1}
 use Rattle.sha2.specs.Sha256.{sha256}
 use Rattle.rel_value.specs.TimesRead.{time_of}
-use Rattle.rel_sources.specs.Scenes.{value_of}
-use Rattle.rel_eval.specs.declared.told.OneText.{OneText}
-use Rattle.rel_eval.specs.declared.told.OneText.TheVariants as one_text
-use Rattle.rel_eval.specs.declared.told.Truth.{Truth}
-use Rattle.rel_eval.specs.declared.told.Truth.TheVariants as truth
 use Rattle.bf_world.specs.declared.command.Command.{Command}
 use Rattle.bf_world.specs.declared.command.Command.TheVariants as command
 use Rattle.bf_world.specs.declared.command.Acted.{Acted}
 use Rattle.bf_world.specs.declared.command.Acted.TheVariants as of_act
 use Rattle.bf_world.specs.declared.command.Polled.{Polled}
 use Rattle.bf_world.specs.declared.command.Polled.TheVariants as of_poll
+use Rattle.rel_sources.specs.Scenes.{value_of}
+use Rattle.rel_eval.specs.declared.told.OneText.{OneText}
+use Rattle.rel_eval.specs.declared.told.OneText.TheVariants as one_text
+use Rattle.rel_eval.specs.declared.told.Truth.{Truth}
+use Rattle.rel_eval.specs.declared.told.Truth.TheVariants as truth
 use Rattle.script_text.specs.declared.line.Line.{Line}
 use Rattle.script_text.specs.declared.line.Line.TheVariants as line
 use Rattle.script_text.specs.declared.prefetch.Prefetch.{Prefetch}

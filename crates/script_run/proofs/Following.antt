@@ -1,12 +1,12 @@
 -- Whoever calls a run is answered along a course.
 use Rattle.std.proofs.Common.{◌≡◌, ◌↔◌, ℕ, Bool, true, false, IsTrue, List, [], ◌∷◌, ◌++◌, Option, Some, None, refl, sym, subst, ◌∙◌}
-use Rattle.rel_sources.specs.declared.pair.Pair.{Pair}
 use Rattle.bf_world.specs.Worlds.{WorldState}
+use Rattle.bf_machine.specs.Views.{MachineView}
+use Rattle.rel_sources.specs.declared.pair.Pair.{Pair}
 use Rattle.script_text.specs.Scripts.{PlainScript}
 use Rattle.script_run.specs.declared.ran.Ran.{Ran}
 use Rattle.script_run.specs.declared.run.Run.{Run}
 use Rattle.script_run.specs.Walks.{supplied}
-use Rattle.script_run.specs.Machines.{MachineView}
 use Rattle.script_run.specs.Asking.{When}
 use Rattle.script_run.specs.RunPlaces.{Stands, wanted_at}
 use Rattle.script_run.specs.Advances.{GoesOn, wanted_by}
@@ -15,8 +15,8 @@ use Rattle.script_run.specs.Courses.{Going, Supplying, ran, taken, Point, IsAt, 
 pub advance_follows : (at : When) (world : WorldState) (script : PlainScript) (given : List Pair) (old : Point) (before : MachineView) (answer : Ran) (left : MachineView) (run : Run) →
     before.world ≡ Some world → GoesOn at script given old.settled before answer left run → wanted_at run.place ≡ wanted_by answer → Follows script given old (Going at world) (ran answer) run
 advance_follows at world script given old before answer left run told goes wanted = record {
-  point = record { settled = old.settled ++ goes.results; wanted = wanted_by answer };
-  replies = record { before = before; told = told; results = goes.results; between = goes.between; comes = goes.comes; left = left; stops = goes.stops; point = refl };
+  point = record { settled = old.settled ++ goes.advances.results; wanted = wanted_by answer };
+  replies = record { before = before; told = told; results = goes.advances.results; between = goes.advances.between; comes = goes.advances.comes; left = left; stops = goes.advances.stops; point = refl };
   is_at = record { stands = goes.stands; wants = wanted };
 }
 

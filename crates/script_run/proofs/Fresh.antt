@@ -1,12 +1,13 @@
--- From a place before a line nothing of the line that comes next is settled. Other crates may cite these lemmas.
-use Rattle.std.proofs.Common.{◌≡◌, ◌==◌, ℕ, ℤ, pos, Bool, true, false, if◌then◌else◌, is_some, List, [], ◌∷◌, ◌++◌, length, Option, Some, None, refl}
+-- From a place before a line nothing of the line that comes next is settled, and no result has failed it. Other crates may cite these lemmas.
+use Rattle.std.proofs.Common.{◌≡◌, ◌==◌, ℕ, ℤ, pos, Bool, true, false, if◌then◌else◌, is_some, List, [], ◌∷◌, ◌++◌, length, Option, Some, None, refl, subst, arith}
+use Rattle.std.proofs.lemmas.Bool.Decides.{nat_tests}
 use Rattle.std.specs.Str.{bytes_eq}
 use Rattle.hex.specs.Hex.{encode_lower}
 use Rattle.sha1.specs.Sha1.{sha1}
 use Rattle.sha2.specs.Sha256.{sha256}
 use Rattle.rel_value.specs.TimesRead.{time_of}
-use Rattle.rel_sources.specs.Scenes.{value_of}
 use Rattle.bf_world.specs.declared.command.Command.TheVariants as command
+use Rattle.rel_sources.specs.Scenes.{value_of}
 use Rattle.script_text.specs.declared.line.Line.{Line}
 use Rattle.script_text.specs.declared.line.Line.TheVariants as line
 use Rattle.script_text.specs.declared.prefetch.Prefetch.{Prefetch}
@@ -17,19 +18,21 @@ use Rattle.script_text.specs.declared.tree.Statement.{Statement}
 use Rattle.script_text.specs.declared.tree.Arm.{Arm}
 use Rattle.script_text.specs.Trees.{PlainStatement, act, choice, Statements, no_statements, more_statements, Arms, no_arms, more_arms}
 use Rattle.script_text.specs.Views.{shown_statement, shown_statements}
+use Rattle.script_run.specs.declared.cause.Cause.{Cause}
 use Rattle.script_run.specs.declared.cause.Cause.TheVariants.{ParameterTwice, WrongSize, WrongDigest}
 use Rattle.script_run.specs.declared.place.Place.{Place}
 use Rattle.script_run.specs.declared.place.Place.TheVariants.{Ready, Wanting, Supplied, Placing, Doing, Waiting, Testing, Asking, Done, Failed}
 use Rattle.script_run.specs.declared.todo.Todo.{Todo}
 use Rattle.script_run.specs.declared.todo.Todo.TheVariants.{Fetches, Statements as StatementsLeft}
 use Rattle.script_run.specs.declared.run.Run.{Run}
-use Rattle.script_run.specs.Walks.{Known, is_midway, Rest, failing, testing, doing}
+use Rattle.script_run.specs.Causes.{HasTexts}
+use Rattle.script_run.specs.Walks.{Known, Next, Does, Fails, is_of_result, is_midway, Rest, failing, testing, doing}
 use Rattle.script_run.specs.LineWalks.{filling, filled, lining, ended, with_parameter, setting, timed, dated, line_walk, placing}
 use Rattle.script_run.specs.ScriptWalks.{walk, walk_all, walk_arms, fetch_all}
 use Rattle.script_run.specs.Asking.{known_in}
 use Rattle.script_run.specs.RunPlaces.{statements_walk, arms_walk, todo_walk, todos_walk, place_walk, around, from, IsBeforeLine}
 
--- nothing of what comes next is settled
+-- nothing of what comes next is settled, and no result has failed it
 abbrev pub IsFresh : Rest → Type 0
 IsFresh rest = (known : Known) → is_midway (rest known []).next ≡ false
 
@@ -39,10 +42,6 @@ one_fresh : (b : Bool) (f g : Rest) (known : Known) → is_midway (f known []).n
     is_midway ((if b then f known else g known) []).next ≡ false
 one_fresh true f g known p q = p
 one_fresh false f g known p q = q
-
-either_fresh : (b : Bool) (f g : Rest) → IsFresh f → IsFresh g → IsFresh (if b then f else g)
-either_fresh true f g p q = p
-either_fresh false f g p q = q
 
 filling_fresh : (n : ℕ) (parts : List Part2) (text : List ℕ) (rest : Bool → List ℕ → Rest) → ((more : List ℕ) → IsFresh (rest false more)) →
     IsFresh (filling n false parts text rest)
@@ -90,15 +89,29 @@ line_fresh n (line.Setting name value date) rest fresh =
     filled_fresh n name _ (λ text. filled_fresh n value _ (λ more. dated_fresh n date _ (λ moment known. refl)))
 line_fresh n (line.SettingDelete name date) rest fresh = filled_fresh n name _ (λ text. dated_fresh n date _ (λ moment known. refl))
 
-placing_fresh : (fetch : Prefetch) (bytes : List ℕ) (rest : Rest) → IsFresh (placing fetch bytes rest)
-placing_fresh fetch bytes rest =
-    either_fresh (length bytes == fetch.size) _ (failing fetch.line (WrongSize fetch.size (length bytes)))
-    (either_fresh (bytes_eq (sha1 bytes) fetch.sha1) _ (failing fetch.line (WrongDigest (encode_lower fetch.sha1) (encode_lower (sha1 bytes))))
-    (either_fresh (bytes_eq (sha256 bytes) fetch.sha256) (doing fetch.line false (command.Place fetch.name bytes) rest)
-    (failing fetch.line (WrongDigest (encode_lower fetch.sha256) (encode_lower (sha256 bytes))))
-    (λ known. refl) (λ known. refl))
-    (λ known. refl))
-    (λ known. refl)
+either_next : (P : Next → Type 0) (b : Bool) (f g : Rest) (known : Known) → (b ≡ true → P (f known []).next) → (b ≡ false → P (g known []).next) → P ((if b then f else g) known []).next
+either_next P true f g known p q = p refl
+either_next P false f g known p q = q refl
+
+-- what comes next of bytes that came: they are placed, or their size or a digest is wrong
+pub placing_next : (P : Next → Type 0) (fetch : Prefetch) (bytes : List ℕ) (rest : Rest) (known : Known) → P (Does fetch.line false (command.Place fetch.name bytes)) →
+    (length bytes == fetch.size ≡ false → P (Fails fetch.line (WrongSize fetch.size (length bytes)))) → ((stated found : List ℕ) → P (Fails fetch.line (WrongDigest stated found))) →
+    P (placing fetch bytes rest known []).next
+placing_next P fetch bytes rest known placed long wrong =
+    either_next P (length bytes == fetch.size) _ (failing fetch.line (WrongSize fetch.size (length bytes))) known
+    (λ sized. either_next P (bytes_eq (sha1 bytes) fetch.sha1) _ (failing fetch.line (WrongDigest (encode_lower fetch.sha1) (encode_lower (sha1 bytes)))) known
+    (λ first. either_next P (bytes_eq (sha256 bytes) fetch.sha256) (doing fetch.line false (command.Place fetch.name bytes) rest)
+    (failing fetch.line (WrongDigest (encode_lower fetch.sha256) (encode_lower (sha256 bytes)))) known
+    (λ second. placed) (λ second. wrong (encode_lower fetch.sha256) (encode_lower (sha256 bytes))))
+    (λ first. wrong (encode_lower fetch.sha1) (encode_lower (sha1 bytes))))
+    long
+
+placing_fresh : (fetch : Prefetch) (bytes : List ℕ) (rest : Rest) → length bytes ≡ fetch.size → IsFresh (placing fetch bytes rest)
+placing_fresh fetch bytes rest sized known =
+    placing_next (λ next. is_midway next ≡ false) fetch bytes rest known refl (λ other. absurd (differ fetch.size (subst (λ n. n == fetch.size ≡ false) sized other))) (λ stated found. refl)
+  where
+    differ : (n : ℕ) → n == n ≡ false → ⊥
+    differ n e = grind (arith, nat_tests, e)
 
 -- ---- statements
 
@@ -138,17 +151,21 @@ todos_fresh : (todos : List Todo) → IsFresh (todos_walk todos)
 todos_fresh [] = λ known. refl
 todos_fresh (todo ∷ todos) = todo_fresh todo (todos_walk todos) (todos_fresh todos)
 
+texts_fresh : (cause : Cause) → HasTexts cause → is_of_result cause ≡ false
+texts_fresh (WrongDigest stated found) texts = refl
+texts_fresh cause texts = absurd texts
+
 place_fresh : (place : Place) (rest : Rest) → IsFresh rest → IsBeforeLine place → IsFresh (place_walk place rest)
 place_fresh Ready rest fresh before = fresh
 place_fresh (Wanting fetch) rest fresh before = λ known. refl
-place_fresh (Supplied fetch bytes) rest fresh before = placing_fresh fetch bytes rest
+place_fresh (Supplied fetch bytes) rest fresh sized = placing_fresh fetch bytes rest sized
 place_fresh (Placing n name bytes) rest fresh before = λ known. refl
 place_fresh (Doing n what) rest fresh before = line_fresh n what rest fresh
 place_fresh (Waiting n process) rest fresh before = absurd before
 place_fresh (Testing arms other) rest fresh before = arms_fresh arms.items rest (walk_all (shown_statements other) rest) (walk_all_fresh (shown_statements other) rest fresh)
 place_fresh (Asking arm arms other) rest fresh before = λ known. refl
 place_fresh Done rest fresh before = λ known. refl
-place_fresh (Failed n cause) rest fresh before = λ known. refl
+place_fresh (Failed n cause) rest fresh texts = λ known. texts_fresh cause texts
 
 -- From a place before a line nothing of what comes next is settled.
 pub fresh_from : (run : Run) → IsBeforeLine run.place → is_midway (from run []).next ≡ false

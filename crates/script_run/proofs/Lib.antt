@@ -16,4 +16,3 @@ pub mod Choices
 pub mod OneAnswer
 pub mod OneCourse
 pub mod Following
-pub mod Carrying

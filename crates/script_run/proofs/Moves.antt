@@ -1,45 +1,43 @@
--- What the machine's answers are to a run, and what a step comes to.
-use Rattle.std.proofs.Common.{◌≡◌, ◌≢◌, ℕ, ◌+◌, ◌<◌, ◌≤◌, ℤ, Bool, true, false, List, [], ◌∷◌, ◌++◌, drop, length, length-drop, refl, sym, ap, subst, ◌∙◌, append-nil, Option, Some, None, arith}
-use Rattle.std.specs.Prelude.{OnSome, is_some, if◌then◌else◌}
-use Rattle.desk_base.specs.Counts.{Rose}
-use Rattle.bf_world.specs.declared.key.Key.{Key}
+-- What a step of a run comes to.
+use mir.Val.{of_z, to_z}
+use Rattle.std.proofs.Common.{◌≡◌, ◌≢◌, ℕ, ◌+◌, ◌<◌, ◌≤◌, ℤ, SFits, w64, Bool, true, false, List, [], ◌∷◌, ◌++◌, drop, length, length-drop, refl, sym, ap, subst, ◌∙◌, append-nil, Option, Some, None, arith}
+use Rattle.std.proofs.lemmas.Int.{to_z-of_z}
+use Rattle.std.specs.Prelude.{is_some, if◌then◌else◌}
 use Rattle.bf_world.specs.declared.command.Command.{Command}
 use Rattle.bf_world.specs.declared.command.Command.TheVariants as command
 use Rattle.bf_world.specs.declared.command.Acted.{Acted}
 use Rattle.bf_world.specs.declared.command.Acted.TheVariants as of_act
-use Rattle.bf_world.specs.declared.command.Polled.{Polled}
-use Rattle.bf_world.specs.declared.command.Polled.TheVariants as of_poll
 use Rattle.bf_world.specs.declared.command.ProcessNo.{ProcessNo}
+use Rattle.bf_world.specs.declared.command.Polled.TheVariants as of_poll
 use Rattle.bf_world.specs.Worlds.{WorldState}
-use Rattle.bf_world.specs.Done.{FitsCommand}
 use Rattle.bf_machine.specs.Told.{Told, Grows}
-use Rattle.bf_machine.specs.Acts.{Acts, commands_added, CountsStarted}
-use Rattle.bf_machine.specs.Polls.{Polls as PollAnswers, numbers_added}
+use Rattle.bf_machine.specs.Views.{MachineView}
+use Rattle.bf_machine.specs.Acts.{ActsOn, CountsStarted}
+use Rattle.bf_machine.specs.Polls.{PollsOn}
 use Rattle.rel_sources.specs.declared.pair.Pair.{Pair}
 use Rattle.rel_sources.specs.declared.scene.Scene.{Scene}
 use Rattle.rel_sources.specs.Scenes.{value_of}
-use Rattle.script_text.specs.declared.line.Line.{Line}
-use Rattle.script_run.specs.declared.ran.Ran.{Ran}
-use Rattle.script_run.specs.declared.ran.Ran.TheVariants as ran
 use Rattle.script_text.specs.declared.prefetch.Prefetch.{Prefetch}
 use Rattle.script_run.specs.declared.cause.Cause.{Cause}
 use Rattle.script_run.specs.declared.cause.Cause.TheVariants.{MachineFault, ParameterTwice}
 use Rattle.script_run.specs.declared.place.Place.{Place}
-use Rattle.script_run.specs.declared.place.Place.TheVariants.{Ready, Placing, Doing, Failed}
+use Rattle.script_run.specs.declared.place.Place.TheVariants.{Ready, Wanting, Waiting}
+use Rattle.script_run.specs.declared.ran.Ran.{Ran}
+use Rattle.script_run.specs.declared.ran.Ran.TheVariants as ran
 use Rattle.script_run.specs.declared.run.Run.{Run}
-use Rattle.script_run.specs.Walks.{Known, Settled, acted, polled, Walk, Rest, failing, after_act, acting, polling, doing, with_exit}
-use Rattle.script_run.specs.LineWalks.{line_walk, placing, setting, with_parameter}
-use Rattle.script_run.specs.Machines.{MachineView, view, ActsOn, PollsOn}
+use Rattle.script_run.specs.Walks.{Known, Settled, acted, polled, Walk, Rest, failing, acting, polling, doing, with_exit}
+use Rattle.script_run.specs.LineWalks.{placing, setting, with_parameter}
 use Rattle.script_run.specs.Asking.{When, when_of, known_in}
-use Rattle.script_run.specs.RunSteps.{Any, IsTextOf, Starves, Stops}
-use Rattle.script_run.specs.RunPlaces.{todo_walk, todos_walk, place_walk, around, from, WaitsBelow}
-use Rattle.script_run.specs.Weights.{place_weight, around_weight, run_weight}
-use Rattle.script_run.specs.Fills.{Reaches, StepsTo, Falls, LineSteps, IsRestored, Rests, Compares, StartsBelow}
-use Rattle.script_run.proofs.Chains.{reach_none, reach_one, reach_then, reach_any, reach_from, starve_here, starve_from, starve_reached}
+use Rattle.script_run.specs.RunSteps.{Any, Starves, Stops}
+use Rattle.script_run.specs.RunPlaces.{todo_walk, todos_walk, place_walk, around, from, WaitsBelow, wanted_at, IsBeforeLine}
+use Rattle.script_run.specs.Weights.{todo_weight, todos_weight, place_weight, around_weight, run_weight}
+use Rattle.script_run.specs.Fills.{Reaches}
+use Rattle.script_run.specs.OneStep.{StepsTo, Falls, Rests, Steps, Again, StepsFrom, MovesTo, Compares, StartsBelow, FollowsAct}
+use Rattle.script_run.proofs.Chains.{reach_none, reach_one, reach_then, reach_same, starve_here}
 
 -- ---- a machine that did nothing
-same_view : (a b : MachineView) → a.world ≡ b.world → a.looked ≡ b.looked → a.acted ≡ b.acted → a.polled ≡ b.polled → a.faults ≡ b.faults → a ≡ b
-same_view a b world looked done polls faults = λ i. record { world = world i; looked = looked i; acted = done i; polled = polls i; faults = faults i }
+same_view : (a b : MachineView) → a.world ≡ b.world → a.looked ≡ b.looked → a.acted ≡ b.acted → a.polled ≡ b.polled → a.started ≡ b.started → a.faults ≡ b.faults → a ≡ b
+same_view a b world looked done polls started faults = λ i. record { world = world i; looked = looked i; acted = done i; polled = polls i; started = started i; faults = faults i }
 
 told_same : (a b : Option WorldState) → Told a b (λ before now. now ≡ before) → b ≡ a
 told_same None b h = h
@@ -54,96 +52,189 @@ grows_same (Some before) (Some now) h = ap Some (h ∙ append-nil before)
 -- without memory an act leaves all as it was
 pub act_without_memory : (moment : ℤ) (command : Command) (old new : MachineView) → ActsOn moment command old of_act.Memory new → new ≡ old
 act_without_memory moment command old new h =
-    same_view new old (told_same old.world new.world h.world) h.looked (grows_same old.acted new.acted h.acted) h.polled (h.faults.steady (λ e. absurd (cc)))
+    same_view new old (told_same old.world new.world h.world) h.looked (grows_same old.acted new.acted h.acted) h.polled h.started (h.counts.steady (λ e. absurd (cc)))
 
-pub acts_view : (moment : ℤ) (command : Command) (answer : Acted) (w v : Option WorldState) (l m : Option (List Key)) (a b : Option (List Command)) (p q : Option (List ℕ)) (x y : ℕ) →
-    Told w v (λ before now. Acts before now command moment answer) → m ≡ l → Grows a b (commands_added command answer) → q ≡ p → FitsCommand command answer → (answer ≡ of_act.Failed → Rose x y) → (answer ≢ of_act.Failed → y ≡ x) →
-    ActsOn moment command (view w l a p x) answer (view v m b q y)
-acts_view moment command answer w v l m a b p q x y world looked done polls fits rose steady =
-    record { world = world; looked = looked; acted = done; polled = polls; fits = fits; faults = record { rose = rose; steady = steady } }
+-- the same act at a moment that was passed as a word
+pub acts_at : (moment : ℤ) (command : Command) (old : MachineView) (answer : Acted) (new : MachineView) → SFits w64 moment →
+    ActsOn (to_z w64 (of_z w64 moment)) command old answer new → ActsOn moment command old answer new
+acts_at moment command old answer new fits h =
+    let P : ℤ → Type 0 = λ m. ActsOn m command old answer new in
+    subst P (to_z-of_z w64 moment fits) h
 
-pub polls_view : (process : ℕ) (answer : Polled) (w v : Option WorldState) (l m : Option (List Key)) (a b : Option (List Command)) (p q : Option (List ℕ)) (x y : ℕ) →
-    Told w v (λ before now. PollAnswers before now process answer) → m ≡ l → b ≡ a → Grows p q (numbers_added process answer) → (answer ≡ of_poll.Failed → Rose x y) → (answer ≢ of_poll.Failed → y ≡ x) →
-    PollsOn process (view w l a p x) answer (view v m b q y)
-polls_view process answer w v l m a b p q x y world looked done polls rose steady =
-    record { world = world; looked = looked; acted = done; polled = polls; faults = record { rose = rose; steady = steady } }
+-- programs that were started
+pub counts_grow : (old new : ℕ) (answer : Acted) → CountsStarted old new answer → old ≤ new
+counts_grow old new of_act.Done h = omega arith
+counts_grow old new (of_act.Started process) h = omega arith
+counts_grow old new (of_act.Refused reason) h = omega arith
+counts_grow old new of_act.Failed h = omega arith
+counts_grow old new of_act.Memory h = omega arith
 
--- what is left after a command's answer
-pub act_steps : (at : When) (line : ℕ) (midway : Bool) (command : Command) (rest : Rest) (started : ℕ → Rest) (known : Known) (old : MachineView) (answer : Acted) (new : MachineView) (left : Walk) →
-    answer ≢ of_act.Memory → ActsOn at.moment command old answer new → ((more : List Settled) → after_act line rest started answer known more ≡ left more) →
-    Reaches Any at old (acting line midway command rest started known) new left
-act_steps at line midway command rest started known old answer new left ne h same =
-    reach_one Any at old (acting line midway command rest started known) (acted answer) new left tt (ne, h) same
+-- ---- a run at a place
+-- A run stands at a place, with all that another one knew and had left.
+pub record StandsAt (place : Place) (old new : Run) : Type 0 where
+  pub stands : new.place ≡ place
+  pub current : new.current ≡ old.current
+  pub later : new.later.items ≡ old.later.items
+  pub scene : new.kept.scene ≡ old.kept.scene
 
--- the same where a step goes on
-pub goes_none : (at : When) (old : MachineView) (f : Walk) (result : Option Ran) (new : MachineView) (left : Walk) → result ≡ None → Reaches Any at old f new left → StepsTo at old f result new left
-goes_none at old f result new left e a = let P : Option Ran → Type 0 = λ r. StepsTo at old f r new left in subst P (sym e) a
+pub moved_stands : (place : Place) (old new : Run) → new ≡ record old { place = place } → StandsAt place old new
+moved_stands place old new e = record {
+  stands = ap (λ (r : Run). r.place) e;
+  current = ap (λ (r : Run). r.current) e;
+  later = ap (λ (r : Run). r.later.items) e;
+  scene = ap (λ (r : Run). r.kept.scene) e;
+}
 
-pub line_none : (at : When) (old : MachineView) (f : Walk) (result : Option Ran) (new : MachineView) (left : Walk) → result ≡ None → Reaches Any at old f new left → LineSteps at old f result new left
-line_none at old f result new left e a = let P : Option Ran → Type 0 = λ r. LineSteps at old f r new left in subst P (sym e) a
+-- where nothing was changed
+pub still_stands : (place : Place) (run : Run) → run.place ≡ place → StandsAt place run run
+still_stands place run e = record { stands = e; current = refl; later = refl; scene = refl }
 
--- what is left after a poll's answer
+pub stands_walk : (place : Place) (old new : Run) → StandsAt place old new → (more : List Settled) → place_walk place (around old) (known_in old.kept.scene) more ≡ from new more
+stands_walk place old new h more = sym (λ i. place_walk (h.stands i) (todo_walk (h.current i) (todos_walk (h.later i))) (known_in (h.scene i)) more)
+
+stands_weight : (place : Place) (old new : Run) → StandsAt place old new → run_weight new ≡ place_weight place + around_weight old
+stands_weight place old new h = λ i. place_weight (h.stands i) + (todo_weight (h.current i) + todos_weight (h.later i))
+
+stands_time : (place : Place) (old new : Run) → StandsAt place old new → when_of new.kept.scene ≡ when_of old.kept.scene
+stands_time place old new h = ap when_of h.scene
+
+-- ---- steps that stop
+-- a step that stops at the place from which it was made
+pub stop_step : (place : Place) (old : Run) (weight : ℕ) (before : MachineView) (r : Ran) (after : MachineView) (new : Run) → StandsAt place old new →
+    Stops (when_of old.kept.scene) before (place_walk place (around old) (known_in old.kept.scene)) r after → Rests (Some r) place → WaitsBelow after.started place → before.started ≤ after.started →
+    Steps (when_of old.kept.scene) before (place_walk place (around old) (known_in old.kept.scene)) weight (Some r) after new
+stop_step place old weight before r after new h stops rests waits started =
+    let S : Walk → Type 0 = λ w. Stops (when_of old.kept.scene) before w r after in
+    let R : Place → Type 0 = λ p. Rests (Some r) p in
+    let W : Place → Type 0 = λ p. WaitsBelow after.started p in
+    record {
+      steps = (
+        before,
+        reach_none Any (when_of old.kept.scene) before (place_walk place (around old) (known_in old.kept.scene)) (from new) (stands_walk place old new h),
+        subst S (λ i more. stands_walk place old new h more i) stops,
+      );
+      falls = tt;
+      time = stands_time place old new h;
+      waits = subst W (sym h.stands) waits;
+      started = started;
+      rests = subst R (sym h.stands) rests;
+    }
+
+-- elsewhere no file is wanted
+none_again : (wanted : Option (List ℕ)) (old : MachineView) (f : Walk) (result : Option Ran) (new : MachineView) (left : Walk) → wanted ≡ None → Again wanted old f result new left
+none_again wanted old f result new left e = let P : Option (List ℕ) → Type 0 = λ w. Again w old f result new left in subst P (sym e) tt
+
+pub step_from : (place : Place) (old : Run) (before : MachineView) (result : Option Ran) (after : MachineView) (new : Run) → wanted_at place ≡ None →
+    Steps (when_of old.kept.scene) before (place_walk place (around old) (known_in old.kept.scene)) (place_weight place + around_weight old) result after new → StepsFrom place old before result after new
+step_from place old before result after new none h = record { step = h; again = none_again (wanted_at place) before _ result after (from new) none }
+
+before_wants : (place : Place) → IsBeforeLine place → wanted_at place ≡ None
+before_wants (Wanting fetch) h = absurd h
+before_wants place h = refl
+
+before_waits : (place : Place) (started : ℕ) → IsBeforeLine place → WaitsBelow started place
+before_waits (Waiting line process) started h = absurd h
+before_waits place started h = tt
+
+-- memory ran out in a line
+pub starved_step : (place : Place) (old : Run) (line : ℕ) (before after : MachineView) (new : Run) → IsBeforeLine place → StandsAt place old new →
+    Starves (when_of old.kept.scene) line before (place_walk place (around old) (known_in old.kept.scene)) after → before.started ≤ after.started → StepsFrom place old before (Some ran.Memory) after new
+starved_step place old line before after new fits h starves started =
+    step_from place old before (Some ran.Memory) after new (before_wants place fits)
+    (stop_step place old (place_weight place + around_weight old) before ran.Memory after new h (line, starves) (before_wants place fits, fits) (before_waits place after.started fits) started)
+
+-- memory ran out, and nothing was done
+pub memory_step : (place : Place) (old : Run) (before after : MachineView) (new : Run) → IsBeforeLine place → StandsAt place old new → after ≡ before → StepsFrom place old before (Some ran.Memory) after new
+memory_step place old before after new fits h same =
+    let f : Walk = place_walk place (around old) (known_in old.kept.scene) in
+    let P : MachineView → Type 0 = λ v. Starves (when_of old.kept.scene) 0 before f v in
+    let started : after.started ≡ before.started = ap (λ (v : MachineView). v.started) same in
+    starved_step place old 0 before after new fits h (subst P (sym same) (starve_here (when_of old.kept.scene) 0 before f)) (omega (arith, started))
+
+-- ---- steps that go on
+pub none_step : (at : When) (weight : ℕ) (before : MachineView) (f : Walk) (result : Option Ran) (after : MachineView) (new : Run) → result ≡ None → when_of new.kept.scene ≡ at → run_weight new < weight →
+    WaitsBelow after.started new.place → before.started ≤ after.started → Reaches Any at before f after (from new) → Steps at before f weight result after new
+none_step at weight before f result after new none time less waits started a =
+    let P : Option Ran → Type 0 = λ r. Steps at before f weight r after new in
+    let own : Steps at before f weight None after new = record { steps = a; falls = less; time = time; waits = waits; started = started; rests = tt } in
+    subst P (sym none) own
+
+-- a step that goes on from another place
+pub goes_step : (place : Place) (old : Run) (weight : ℕ) (before : MachineView) (f : Walk) (result : Option Ran) (after : MachineView) (new : Run) → result ≡ None → StandsAt place old new →
+    place_weight place + around_weight old < weight → WaitsBelow after.started place → before.started ≤ after.started →
+    Reaches Any (when_of old.kept.scene) before f after (place_walk place (around old) (known_in old.kept.scene)) → Steps (when_of old.kept.scene) before f weight result after new
+goes_step place old weight before f result after new none h less waits started a =
+    let at : When = when_of old.kept.scene in
+    let W : Place → Type 0 = λ p. WaitsBelow after.started p in
+    let weighs : run_weight new ≡ place_weight place + around_weight old = stands_weight place old new h in
+    none_step at weight before f result after new none (stands_time place old new h) (omega (arith, weighs, less)) (subst W (sym h.stands) waits) started
+    (reach_same Any at before f after (place_walk place (around old) (known_in old.kept.scene)) (from new) a (stands_walk place old new h))
+
+-- the same of a run that nothing but its place was changed of
+pub move_step : (place : Place) (old : Run) (weight : ℕ) (before : MachineView) (f : Walk) (result : Option Ran) (after : MachineView) (new : Run) → MovesTo place old result new →
+    place_weight place + around_weight old < weight → WaitsBelow after.started place → before.started ≤ after.started →
+    Reaches Any (when_of old.kept.scene) before f after (place_walk place (around old) (known_in old.kept.scene)) → Steps (when_of old.kept.scene) before f weight result after new
+move_step place old weight before f result after new h less waits started a =
+    goes_step place old weight before f result after new h.goes_on (moved_stands place old new h.moved) less waits started a
+
+-- ---- the same step
+falls_within : (result : Option Ran) (a b new : ℕ) → a ≤ b → Falls result a new → Falls result b new
+falls_within None a b new le h = omega arith
+falls_within (Some r) a b new le h = tt
+
+steps_then : (at : When) (old : MachineView) (f : Walk) (mid : MachineView) (g : Walk) (result : Option Ran) (new : MachineView) (left : Walk) → Reaches Any at old f mid g → StepsTo at mid g result new left → StepsTo at old f result new left
+steps_then at old f mid g None new left a h = reach_then Any at old f mid g new left a h
+steps_then at old f mid g (Some r) new left a h = (h.0, reach_then Any at old f mid g h.0 left a h.1, h.2)
+
+-- a step behind results
+pub step_behind : (at : When) (old : MachineView) (f : Walk) (mid : MachineView) (g : Walk) (a b : ℕ) (result : Option Ran) (new : MachineView) (run : Run) → Reaches Any at old f mid g → old.started ≤ mid.started → a ≤ b →
+    Steps at mid g a result new run → Steps at old f b result new run
+step_behind at old f mid g a b result new run reach started le h = record {
+  steps = steps_then at old f mid g result new (from run) reach h.steps;
+  falls = falls_within result a b (run_weight run) le h.falls;
+  time = h.time;
+  waits = h.waits;
+  started = omega (arith, h.started);
+  rests = h.rests;
+}
+
+-- a step from the same walk by another name
+pub step_along : (at : When) (old : MachineView) (f g : Walk) (a b : ℕ) (result : Option Ran) (new : MachineView) (run : Run) → ((more : List Settled) → f more ≡ g more) → a ≤ b →
+    Steps at old g a result new run → Steps at old f b result new run
+step_along at old f g a b result new run same le h = step_behind at old f old g a b result new run (reach_none Any at old f g same) (omega arith) le h
+
+-- ---- what comes after an answer
+counts_below : (old new : ℕ) (answer : Acted) → CountsStarted old new answer → StartsBelow new answer
+counts_below old new of_act.Done h = tt
+counts_below old new (of_act.Started process) h =
+    let e : process.0 ≡ old = ap (λ (p : ProcessNo). p.0) h.0 in
+    omega (arith, e)
+counts_below old new (of_act.Refused reason) h = tt
+counts_below old new of_act.Failed h = tt
+counts_below old new of_act.Memory h = tt
+
+-- the step after a command's answer
+pub act_step : (line weight : ℕ) (started : ℕ → Rest) (old : Run) (answer : Acted) (result : Option Ran) (new : Run) (midway : Bool) (command : Command) (before after : MachineView) →
+    FollowsAct line weight started old answer result new → answer ≢ of_act.Memory → ActsOn old.kept.scene.moment command before answer after →
+    Steps (when_of old.kept.scene) before (acting line midway command (around old) started (known_in old.kept.scene)) (weight + around_weight old) result after new
+act_step line weight started old answer result new midway command before after h ample acts =
+    let walk : Walk = acting line midway command (around old) started (known_in old.kept.scene) in
+    let same : around_weight new ≡ around_weight old = ap around_weight h.rest in
+    none_step (when_of old.kept.scene) (weight + around_weight old) before walk result after new h.goes_on (ap (λ (r : Run). when_of r.kept.scene) h.rest) (omega (arith, h.falls, same))
+    (h.waits after.started (counts_below before.started after.started answer acts.started)) (counts_grow before.started after.started answer acts.started)
+    (reach_one Any (when_of old.kept.scene) before walk (acted answer) after (from new) tt (ample, acts) h.walk)
+
 pub poll_exits : (at : When) (line process : ℕ) (rest : Rest) (known : Known) (old : MachineView) (code : ℤ) (new : MachineView) (left : Walk) →
     PollsOn process old (of_poll.Exited code) new → ((more : List Settled) → rest (with_exit code known) more ≡ left more) → Reaches Any at old (polling line process rest known) new left
 poll_exits at line process rest known old code new left h same =
     reach_one Any at old (polling line process rest known) (polled (of_poll.Exited code)) new left tt ((λ e. absurd (cc)), h) same
 
-pub poll_fails : (at : When) (line process : ℕ) (rest : Rest) (known : Known) (old new : MachineView) (left : Walk) →
-    PollsOn process old of_poll.Failed new → ((more : List Settled) → failing line MachineFault known more ≡ left more) → Reaches Any at old (polling line process rest known) new left
-poll_fails at line process rest known old new left h same =
-    reach_one Any at old (polling line process rest known) (polled of_poll.Failed) new left tt ((λ e. absurd (cc)), h) same
+pub poll_fails : (at : When) (line process : ℕ) (rest : Rest) (known : Known) (old new : MachineView) →
+    PollsOn process old of_poll.Failed new → Reaches Any at old (polling line process rest known) new (failing line MachineFault known)
+poll_fails at line process rest known old new h =
+    reach_one Any at old (polling line process rest known) (polled of_poll.Failed) new (failing line MachineFault known) tt ((λ e. absurd (cc)), h) (λ more. refl)
 
--- ---- steps
-pub step_stops : (at : When) (old : MachineView) (f : Walk) (r : Ran) (new : MachineView) (g : Walk) →
-    ((more : List Settled) → f more ≡ g more) → Stops at old g r new → StepsTo at old f (Some r) new g
-step_stops at old f r new g same h = (old, reach_none Any at old f g same, h)
-
--- memory ran out, and nothing was done
-pub memory_stops : (at : When) (line : ℕ) (old : MachineView) (f : Walk) (new : MachineView) (left : Walk) → new ≡ old → ((more : List Settled) → f more ≡ left more) → StepsTo at old f (Some ran.Memory) new left
-memory_stops at line old f new left e same =
-    let P : MachineView → Type 0 = λ v. Starves at line old left v in
-    step_stops at old f ran.Memory new left same (line, subst P (sym e) (starve_here at line old left))
-
--- what is left after texts of a line; without memory the line stands as before
-pub line_step : (at : When) (line : ℕ) (old : MachineView) (f : Walk) (mid : MachineView) (g : Walk) (result : Option Ran) (new : MachineView) (left : Walk) →
-    Reaches (IsTextOf line) at old f mid g → LineSteps at mid g result new left → OnSome result ((more : List Settled) → left more ≡ f more) → StepsTo at old f result new left
-line_step at line old f mid g None new left a h same = reach_then Any at old f mid g new left (reach_any (IsTextOf line) at old f mid g a) h
-line_step at line old f mid g (Some r) new left a h same =
-    let starved : Starves at line old left new =
-    (let P : MachineView → Type 0 = λ v. Starves at line old f v in starve_from at line old left f new same (subst P (sym h.1) (starve_reached at line old f mid g a))) in
-    let P : Ran → Type 0 = λ q. Stops at old left q new in
-    (old, reach_none Any at old f left (λ more. sym (same more)), subst P (sym h.0) (line, starved))
-
--- what a run that stands before its line again does
-pub restored_walk : (line : ℕ) (what : Line) (old new : Run) → IsRestored line what old new → (more : List Settled) → from new more ≡ line_walk line what (around old) (known_in old.kept.scene) more
-restored_walk line what old new h more = λ i. place_walk (h.place i) (todo_walk (h.current i) (todos_walk (h.later i).items)) (known_in (h.scene i)) more
-
-pub restores : (result : Option Ran) (line : ℕ) (what : Line) (old new : Run) → OnSome result (IsRestored line what old new) →
-    OnSome result ((more : List Settled) → from new more ≡ line_walk line what (around old) (known_in old.kept.scene) more)
-restores None line what old new h = tt
-restores (Some r) line what old new h = restored_walk line what old new h
-
-pub restored_rests : (result : Option Ran) (line : ℕ) (what : Line) (old new : Run) (at : When) (v : MachineView) (f : Walk) (w : MachineView) (left : Walk) →
-    OnSome result (IsRestored line what old new) → LineSteps at v f result w left → Rests result new.place
-restored_rests None line what old new at v f w left h s = tt
-restored_rests (Some r) line what old new at v f w left h s =
-    let P : Place → Type 0 = λ p. Rests (Some r) p in
-    let Q : Ran → Type 0 = λ q. Rests (Some q) (Doing line what) in
-    subst P (sym h.place) (subst Q (sym s.0) (refl, tt))
-
--- a step from the same walk by another name
-pub step_from : (at : When) (old : MachineView) (e f : Walk) (result : Option Ran) (new : MachineView) (left : Walk) → ((more : List Settled) → e more ≡ f more) → StepsTo at old f result new left → StepsTo at old e result new left
-step_from at old e f None new left same h = reach_from Any at old e f new left same h
-step_from at old e f (Some r) new left same h = (h.0, reach_from Any at old e f h.0 left same h.1, h.2)
-
-pub falls_within : (result : Option Ran) (a b new : ℕ) → a ≤ b → Falls result a new → Falls result b new
-falls_within None a b new le h = omega arith
-falls_within (Some r) a b new le h = tt
-
--- before the next line no program is waited for
-pub ready_waits : (place : Place) (started : ℕ) → place ≡ Ready → WaitsBelow started place
-ready_waits place started e = let P : Place → Type 0 = λ p. WaitsBelow started p in subst P (sym e) tt
-
+-- ---- lists and bytes
 -- of an empty list the first is none
 pub none_left : {T : Type 0} (old new : List T) → old ≡ new → new ≡ drop 1 old → old ≡ []
 none_left [] new e d = refl
@@ -164,59 +255,10 @@ compared_other fetch bytes read cause rest known more e h =
     let P : List ℕ → Type 0 = λ b. placing fetch b rest known more ≡ failing fetch.line cause known more in
     subst P e (ap (λ (r : Rest). r known more) (h rest))
 
--- ---- programs that were started
-pub counts_grow : (old new : ℕ) (answer : Acted) → CountsStarted old new answer → old ≤ new
-counts_grow old new of_act.Done h = omega arith
-counts_grow old new (of_act.Started process) h = omega arith
-counts_grow old new (of_act.Refused reason) h = omega arith
-counts_grow old new of_act.Failed h = omega arith
-counts_grow old new of_act.Memory h = omega arith
+-- ---- before the next line
+pub ready_waits : (place : Place) (started : ℕ) → place ≡ Ready → WaitsBelow started place
+ready_waits place started e = let P : Place → Type 0 = λ p. WaitsBelow started p in subst P (sym e) tt
 
-pub counts_below : (old new : ℕ) (answer : Acted) → CountsStarted old new answer → StartsBelow new answer
-counts_below old new of_act.Done h = tt
-counts_below old new (of_act.Started process) h =
-    let e : process.0 ≡ old = ap (λ (p : ProcessNo). p.0) h.0 in
-    omega (arith, e)
-counts_below old new (of_act.Refused reason) h = tt
-counts_below old new of_act.Failed h = tt
-counts_below old new of_act.Memory h = tt
-
--- ---- a line that fails, and a command's answer
-pub fails_walk : (line : ℕ) (cause : Cause) (old new : Run) → new ≡ record old { place = Failed line cause } → (more : List Settled) → failing line cause (known_in old.kept.scene) more ≡ from new more
-fails_walk line cause old new e more = sym (ap (λ (r : Run). from r more) e)
-
--- what a run does that stands at another place
-pub placed_walk : (place : Place) (old new : Run) → new ≡ record old { place = place } → (more : List Settled) → place_walk place (around old) (known_in old.kept.scene) more ≡ from new more
-placed_walk place old new e more = sym (ap (λ (r : Run). from r more) e)
-
-pub place_falls : (result : Option Ran) (place : Place) (old new : Run) (most bound : ℕ) → result ≡ None → new ≡ record old { place = place } → place_weight place < most → most ≤ bound →
-    Falls result (bound + around_weight old) (run_weight new)
-place_falls result place old new most bound none e less le =
-    let P : Option Ran → Type 0 = λ r. Falls r (bound + around_weight old) (run_weight new) in
-    let w : run_weight new ≡ place_weight place + around_weight old = ap run_weight e in
-    let falls : run_weight new < bound + around_weight old = omega (arith, w) in
-    subst P (sym none) falls
-
-pub place_time : (place : Place) (old new : Run) → new ≡ record old { place = place } → when_of new.kept.scene ≡ when_of old.kept.scene
-place_time place old new e = ap (λ (r : Run). when_of r.kept.scene) e
-
-pub failed_waits : (line : ℕ) (cause : Cause) (old new : Run) (started : ℕ) → new ≡ record old { place = Failed line cause } → WaitsBelow started new.place
-failed_waits line cause old new started e = let P : Run → Type 0 = λ r. WaitsBelow started r.place in subst P (sym e) tt
-
-pub none_rests : (result : Option Ran) (place : Place) → result ≡ None → Rests result place
-none_rests result place e = let P : Option Ran → Type 0 = λ r. Rests r place in subst P (sym e) tt
-
-pub none_restored : (result : Option Ran) (line : ℕ) (what : Line) (old new : Run) → result ≡ None → OnSome result (IsRestored line what old new)
-none_restored result line what old new e = let P : Option Ran → Type 0 = λ r. OnSome r (IsRestored line what old new) in subst P (sym e) tt
-
--- the place of a file that is still to be placed
-pub placing_rests : (place : Place) (line : ℕ) (name bytes : List ℕ) → place ≡ Placing line name bytes → Rests (Some ran.Memory) place
-placing_rests place line name bytes e = let P : Place → Type 0 = λ p. Rests (Some ran.Memory) p in subst P (sym e) (refl, tt)
-
-pub placing_waits : (place : Place) (line : ℕ) (name bytes : List ℕ) (started : ℕ) → place ≡ Placing line name bytes → WaitsBelow started place
-placing_waits place line name bytes started e = let P : Place → Type 0 = λ p. WaitsBelow started p in subst P (sym e) tt
-
--- before the next line what is left comes
 pub ready_walk : (place : Place) (rest : Rest) (known : Known) (more : List Settled) → place ≡ Ready → rest known more ≡ place_walk place rest known more
 ready_walk place rest known more e = sym (ap (λ p. place_walk p rest known more) e)
 

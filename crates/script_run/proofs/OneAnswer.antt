@@ -1,8 +1,9 @@
 -- Where no look fails and memory lasts, a text has one answer in a world. Other crates may cite these lemmas.
 use Rattle.std.proofs.Common.{◌≡◌, ◌≢◌, ℕ, Bool, true, false, List, [], ◌∷◌, Option, Some, refl, sym, ap, subst, ◌∙◌, inl, inr, arith}
+use Rattle.rel_value.specs.Plain.{boolean, words, booleans}
 use Rattle.bf_world.specs.declared.key.Key.{Key}
 use Rattle.bf_world.specs.Worlds.{WorldState}
-use Rattle.rel_value.specs.Plain.{boolean, words, booleans}
+use Rattle.bf_machine.specs.Views.{MachineView}
 use Rattle.rel_sources.specs.declared.scene.Scene.{Scene}
 use Rattle.rel_types.specs.Plans.{PlainNode, is_plural, kind_of}
 use Rattle.rel_types.specs.Alike.{same_kind}
@@ -19,7 +20,6 @@ use Rattle.rel_eval.specs.Questions.{Reading, question, refused, undefined}
 use Rattle.rel_eval.specs.Singles.{one_text_of, truth_of, TellsText, TellsTruth}
 use Rattle.rel_eval.proofs.OnePlan.{reading_is_one}
 use Rattle.script_run.specs.Walks.{said, judged, fault_in}
-use Rattle.script_run.specs.Machines.{MachineView}
 use Rattle.script_run.specs.Asking.{SaysQuestion, SaysReading, SaysText, SaysOn, JudgesKind, JudgesQuestion, JudgesReading, JudgesText, JudgesOn}
 
 -- ---- traces

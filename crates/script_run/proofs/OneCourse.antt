@@ -1,7 +1,5 @@
 -- Where nothing fails and memory lasts, a run's course is one.
-use Rattle.std.proofs.Common.{◌≡◌, ◌≢◌, ℕ, ◌+◌, ℤ, true, false, List, [], ◌∷◌, ◌++◌, Option, Some, None, refl, sym, ap, subst, ◌∙◌, append_assoc, arith}
-use Rattle.rel_sources.specs.declared.pair.Pair.{Pair}
-use Rattle.rel_eval.specs.declared.told.Truth.TheVariants as truth
+use Rattle.std.proofs.Common.{◌≡◌, ◌≢◌, ℕ, ◌+◌, ℤ, true, false, List, [], ◌∷◌, ◌++◌, Option, Some, None, refl, sym, ap, subst, ◌∙◌, arith}
 use Rattle.bf_world.specs.declared.command.Command.{Command}
 use Rattle.bf_world.specs.declared.command.Acted.{Acted}
 use Rattle.bf_world.specs.declared.command.Acted.TheVariants as of_act
@@ -13,12 +11,16 @@ use Rattle.bf_world.specs.Polled.{PollOutcome, polled as poll_of}
 use Rattle.bf_machine.specs.Told.{Told}
 use Rattle.bf_machine.specs.Acts.{Acts}
 use Rattle.bf_machine.specs.Polls.{Polls as PollAnswers}
+use Rattle.bf_machine.specs.Views.{MachineView}
+use Rattle.bf_machine.specs.Acts.{ActsOn}
+use Rattle.bf_machine.specs.Polls.{PollsOn}
+use Rattle.rel_sources.specs.declared.pair.Pair.{Pair}
+use Rattle.rel_eval.specs.declared.told.Truth.TheVariants as truth
 use Rattle.script_text.specs.Scripts.{PlainScript}
 use Rattle.script_run.specs.declared.ran.Ran.{Ran}
 use Rattle.script_run.specs.declared.ran.Ran.TheVariants as of_run
 use Rattle.script_run.specs.Walks.{Known, Settled, supplied, said, judged, acted, polled, fault_in, faults_in, Next, Wants, Says, Tests, Pauses, Does, Polls, Ends, Fails, Walk}
-use Rattle.script_run.specs.ScriptWalks.{standing, after}
-use Rattle.script_run.specs.Machines.{MachineView, ActsOn, PollsOn}
+use Rattle.script_run.specs.ScriptWalks.{after}
 use Rattle.script_run.specs.Asking.{When, scene_of}
 use Rattle.script_run.specs.RunSteps.{Settles, Comes, Any, Holds, Stops}
 use Rattle.script_run.specs.Advances.{wanted_by}
@@ -73,13 +75,13 @@ polls_once w process old past a b new other is is' p q none none' =
 settles_once : (at : When) (known : Known) (next : Next) (w : WorldState) (old past : MachineView) (r s : Settled) (new other : MachineView) → old.world ≡ Some w → past.world ≡ Some w →
     Settles at known next old r new → Settles at known next past s other → fault_in r ≡ 0 → fault_in s ≡ 0 → SameEnd r s new other
 settles_once at known (Says n midway text) w old past (said a) (said b) new other is is' p q none none' =
-    (ap said (says_once w (scene_of at known) text old past a b new other is is' p.1 q.1 none none' p.0 q.0), (w, p.1.world ∙ is, q.1.world ∙ is'))
+    (ap said (says_once w (scene_of at known) text old past a b new other is is' p.1 q.1 none none' p.0 q.0), (w, p.1.only.world ∙ is, q.1.only.world ∙ is'))
 settles_once at known (Says n midway text) w old past (said a) s new other is is' p q none none' = absurd q
 settles_once at known (Tests n text) w old past (judged a) (judged b) new other is is' p q none none' =
-    (ap judged (judges_once w (scene_of at known) text old past a b new other is is' p.1 q.1 none none' p.0 q.0), (w, p.1.world ∙ is, q.1.world ∙ is'))
+    (ap judged (judges_once w (scene_of at known) text old past a b new other is is' p.1 q.1 none none' p.0 q.0), (w, p.1.only.world ∙ is, q.1.only.world ∙ is'))
 settles_once at known (Tests n text) w old past (judged a) s new other is is' p q none none' = absurd q
 settles_once at known (Pauses n text) w old past (judged a) (judged b) new other is is' p q none none' =
-    (ap judged (judges_once w (scene_of at known) text old past a b new other is is' p.2 q.2 none none' p.0 q.0), (w, p.2.world ∙ is, q.2.world ∙ is'))
+    (ap judged (judges_once w (scene_of at known) text old past a b new other is is' p.2 q.2 none none' p.0 q.0), (w, p.2.only.world ∙ is, q.2.only.world ∙ is'))
 settles_once at known (Pauses n text) w old past (judged a) s new other is is' p q none none' = absurd q
 settles_once at known (Does n midway command) w old past (acted a) (acted b) new other is is' p q none none' =
     acts_once w command at.moment old past a b new other is is' p.1 q.1 p.0 q.0 none none'
@@ -169,11 +171,7 @@ goes_once : (at : When) (w : WorldState) (script : PlainScript) (given : List Pa
 goes_once at w script given old a b x y p q none none' ample ample' =
     let first : faults_in (old.settled ++ p.results) ≡ 0 = sym (ap (λ (z : Point). faults_in z.settled) p.point) ∙ none in
     let second : faults_in (old.settled ++ q.results) ≡ 0 = sym (ap (λ (z : Point). faults_in z.settled) q.point) ∙ none' in
-    let S : Walk → Type 0 = λ f. Stops at p.between f a p.left in
-    let T : Walk → Type 0 = λ f. Stops at q.between f b q.left in
-    let one = comes_once at w (after script given old.settled) p.before q.before p.results q.results p.between q.between a b p.left q.left p.told q.told p.comes q.comes
-    (subst S (λ i more. ap (standing script given) (append_assoc old.settled p.results more) i) p.stops)
-    (subst T (λ i more. ap (standing script given) (append_assoc old.settled q.results more) i) q.stops)
+    let one = comes_once at w (after script given old.settled) p.before q.before p.results q.results p.between q.between a b p.left q.left p.told q.told p.comes q.comes p.stops q.stops
     (none_later old.settled p.results first) (none_later old.settled q.results second) ample ample' in
     let P : List Settled → Ran → Point = λ l r. record { settled = old.settled ++ l; wanted = wanted_by r } in
     (ap ran one.1, p.point ∙ ap (λ l. P l a) one.0 ∙ ap (λ r. P q.results r) one.1 ∙ sym q.point)

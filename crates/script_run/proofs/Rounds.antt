@@ -1,9 +1,5 @@
 -- How steps make an advance, and what its results leave on the machine.
-use Rattle.std.proofs.Common.{◌≡◌, ℕ, ◌+◌, ◌-◌, ◌≤◌, ℤ, false, List, [], ◌∷◌, ◌++◌, refl, sym, ap, subst, ◌∙◌, append_assoc, ◌⊎◌, inl, inr, Option, Some, None, arith}
-use Rattle.desk_base.specs.Moments.{IsMoment}
-use Rattle.line_forms.specs.Numbers.{IsOffset}
-use Rattle.rel_sources.specs.declared.pair.Pair.{Pair}
-use Rattle.rel_sources.specs.declared.scene.Scene.{Scene}
+use Rattle.std.proofs.Common.{◌≡◌, ℕ, ◌+◌, ◌≤◌, ℤ, false, List, [], ◌∷◌, refl, sym, ap, subst, ◌∙◌, append_assoc, ◌⊎◌, inl, inr, Option, Some, None, arith}
 use Rattle.bf_world.specs.declared.command.Command.{Command}
 use Rattle.bf_world.specs.declared.command.Acted.{Acted}
 use Rattle.bf_world.specs.declared.command.Acted.TheVariants as of_act
@@ -12,60 +8,46 @@ use Rattle.bf_world.specs.declared.command.Polled.TheVariants as of_poll
 use Rattle.bf_machine.specs.Told.{Grows}
 use Rattle.bf_machine.specs.Rises.{RoseBy}
 use Rattle.bf_machine.proofs.Telling.{Grows-nil, Grows-trans, RoseBy-more, RoseBy-none, later-RoseBy}
+use Rattle.bf_machine.specs.Views.{MachineView}
+use Rattle.bf_machine.specs.Acts.{ActsOn}
+use Rattle.bf_machine.specs.Polls.{PollsOn}
+use Rattle.rel_sources.specs.declared.pair.Pair.{Pair}
+use Rattle.rel_sources.specs.declared.scene.Scene.{Scene}
 use Rattle.rel_eval.specs.declared.told.OneText.{OneText}
 use Rattle.rel_eval.specs.declared.told.OneText.TheVariants as one_text
 use Rattle.rel_eval.specs.declared.told.Truth.{Truth}
 use Rattle.rel_eval.specs.declared.told.Truth.TheVariants as truth
-use Rattle.script_text.specs.declared.prefetch.Prefetch.{Prefetch}
 use Rattle.script_text.specs.Scripts.{PlainScript}
 use Rattle.script_run.specs.declared.ran.Ran.{Ran}
 use Rattle.script_run.specs.declared.ran.Ran.TheVariants as ran
 use Rattle.script_run.specs.declared.place.Place.{Place}
-use Rattle.script_run.specs.declared.place.Place.TheVariants.{Wanting}
 use Rattle.script_run.specs.declared.run.Run.{Run}
-use Rattle.script_run.specs.Walks.{Known, Settled, said, judged, acted, polled, fault_in, faults_in, Next, is_midway, Says, Tests, Pauses, Does, Polls, Stop, Walk, Rest}
-use Rattle.script_run.specs.LineWalks.{fetching}
+use Rattle.script_run.specs.Walks.{Known, Settled, said, judged, acted, polled, fault_in, faults_in, Next, is_midway, Says, Tests, Pauses, Does, Polls, Walk, Rest}
 use Rattle.script_run.specs.ScriptWalks.{standing, after, command_of, commands_in}
-use Rattle.script_run.specs.Machines.{MachineView, ActsOn, PollsOn}
 use Rattle.script_run.specs.Asking.{When, when_of, known_in, SaysOn, JudgesOn}
 use Rattle.script_run.specs.RunSteps.{Settles, Comes, Any, IsTextOf, StarvesAsking, Starves, Holds, Stops}
-use Rattle.script_run.specs.RunPlaces.{MemoryLeaves, WaitsBelow, place_walk, from, wanted_at}
-use Rattle.script_run.specs.Weights.{place_weight}
-use Rattle.script_run.specs.Advances.{GoesOn, WantsAgain}
-use Rattle.script_run.specs.Fills.{Again, Falls, Reaches, StepsTo, Unmoved}
-use Rattle.script_run.proofs.Chains.{comes_along, reach_then}
+use Rattle.script_run.specs.RunPlaces.{MemoryLeaves, place_walk, from, wanted_at}
+use Rattle.script_run.specs.Advances.{Advances, GoesOn, WantsAgain}
+use Rattle.script_run.specs.Fills.{Reaches}
+use Rattle.script_run.specs.OneStep.{Again, StepsTo, StepsFrom, Unmoved}
+use Rattle.script_run.proofs.Chains.{reach_then, reach_from}
 use Rattle.script_run.proofs.Fresh.{fresh_from}
 
 -- ---- steps
 -- the same step, seen from the place by its name
-pub step_at : (at : When) (old : MachineView) (x y : Place) (rest : Rest) (known : Known) (result : Option Ran) (new : MachineView) (left : Walk) →
-    x ≡ y → StepsTo at old (λ more. place_walk y rest known more) result new left → StepsTo at old (λ more. place_walk x rest known more) result new left
-step_at at old x y rest known result new left e h =
-    let P : Place → Type 0 = λ p. StepsTo at old (λ more. place_walk p rest known more) result new left in
-    subst P (sym e) h
-
-pub falls_at : (x y : Place) (around new : ℕ) (result : Option Ran) → x ≡ y → Falls result (place_weight y + around) new → Falls result (place_weight x + around) new
-falls_at x y around new result e h =
-    let P : Place → Type 0 = λ p. Falls result (place_weight p + around) new in
-    subst P (sym e) h
-
--- a file that is wanted, seen from the place by its name
-pub again_at : (old : MachineView) (x : Place) (fetch : Prefetch) (rest : Rest) (known : Known) (result : Option Ran) (new : MachineView) (left : Walk) →
-    x ≡ Wanting fetch → Again (Some fetch.sha256) old (fetching fetch rest known) result new left → Again (wanted_at x) old (λ more. place_walk x rest known more) result new left
-again_at old x fetch rest known result new left e h =
-    let P : Place → Type 0 = λ p. Again (wanted_at p) old (λ more. place_walk p rest known more) result new left in
-    subst P (sym e) h
-
--- elsewhere no file is wanted
-pub none_again : (wanted : Option (List ℕ)) (old : MachineView) (f : Walk) (result : Option Ran) (new : MachineView) (left : Walk) → wanted ≡ None → Again wanted old f result new left
-none_again wanted old f result new left e = let P : Option (List ℕ) → Type 0 = λ w. Again w old f result new left in subst P (sym e) tt
+pub steps_at : (x y : Place) (old : Run) (other : Place) (before : MachineView) (result : Option Ran) (after : MachineView) (new : Run) → x ≡ y →
+    StepsFrom y (record old { place = other }) before result after new → StepsFrom x old before result after new
+steps_at x y old other before result after new e h =
+    let own : StepsFrom y old before result after new = record { step = h.step; again = h.again } in
+    let P : Place → Type 0 = λ p. StepsFrom p old before result after new in
+    subst P (sym e) own
 
 -- ---- what results leave
 settled_grows : (at : When) (known : Known) (next : Next) (old : MachineView) (result : Settled) (new : MachineView) →
     Settles at known next old result new → Grows old.acted new.acted (command_of next result)
-settled_grows at known (Says line midway text) old (said answer) new h = let P : Option (List Command) → Type 0 = λ l. Grows old.acted l [] in subst P (sym h.1.acted) (Grows-nil old.acted)
-settled_grows at known (Tests line text) old (judged answer) new h = let P : Option (List Command) → Type 0 = λ l. Grows old.acted l [] in subst P (sym h.1.acted) (Grows-nil old.acted)
-settled_grows at known (Pauses line text) old (judged answer) new h = let P : Option (List Command) → Type 0 = λ l. Grows old.acted l [] in subst P (sym h.2.acted) (Grows-nil old.acted)
+settled_grows at known (Says line midway text) old (said answer) new h = let P : Option (List Command) → Type 0 = λ l. Grows old.acted l [] in subst P (sym h.1.only.acted) (Grows-nil old.acted)
+settled_grows at known (Tests line text) old (judged answer) new h = let P : Option (List Command) → Type 0 = λ l. Grows old.acted l [] in subst P (sym h.1.only.acted) (Grows-nil old.acted)
+settled_grows at known (Pauses line text) old (judged answer) new h = let P : Option (List Command) → Type 0 = λ l. Grows old.acted l [] in subst P (sym h.2.only.acted) (Grows-nil old.acted)
 settled_grows at known (Does line midway command) old (acted answer) new h = h.1.acted
 settled_grows at known (Polls line process) old (polled answer) new h = let P : Option (List Command) → Type 0 = λ l. Grows old.acted l [] in subst P (sym h.1.acted) (Grows-nil old.acted)
 settled_grows at known next old result new h = absurd h
@@ -78,37 +60,37 @@ come_grows P at old f (result ∷ results) new (p, (between, s, rest)) =
     (settled_grows at (f []).known (f []).next old result between s)
     (come_grows P at between (λ more. f (result ∷ more)) results new rest)
 
-said_rose : (x y : ℕ) (answer : OneText) (scene : Scene) (text : List ℕ) (old new : MachineView) → SaysOn scene text old answer new → RoseBy (fault_in (said answer)) old.faults new.faults
-said_rose x y (one_text.Text t) scene text old new h = RoseBy-none old.faults new.faults h.later
-said_rose x y (one_text.Error kind place) scene text old new h = RoseBy-none old.faults new.faults h.later
-said_rose x y (one_text.Failed place) scene text old new h = h.cause
-said_rose x y one_text.Memory scene text old new h = RoseBy-none old.faults new.faults h.later
+said_rose : (answer : OneText) (scene : Scene) (text : List ℕ) (old new : MachineView) → SaysOn scene text old answer new → RoseBy (fault_in (said answer)) old.faults new.faults
+said_rose (one_text.Text t) scene text old new h = RoseBy-none old.faults new.faults h.only.later
+said_rose (one_text.Error kind place) scene text old new h = RoseBy-none old.faults new.faults h.only.later
+said_rose (one_text.Failed place) scene text old new h = h.cause
+said_rose one_text.Memory scene text old new h = RoseBy-none old.faults new.faults h.only.later
 
 judged_rose : (answer : Truth) (scene : Scene) (text : List ℕ) (old new : MachineView) → JudgesOn scene text old answer new → RoseBy (fault_in (judged answer)) old.faults new.faults
-judged_rose truth.True scene text old new h = RoseBy-none old.faults new.faults h.later
-judged_rose truth.False scene text old new h = RoseBy-none old.faults new.faults h.later
-judged_rose (truth.Error kind place) scene text old new h = RoseBy-none old.faults new.faults h.later
+judged_rose truth.True scene text old new h = RoseBy-none old.faults new.faults h.only.later
+judged_rose truth.False scene text old new h = RoseBy-none old.faults new.faults h.only.later
+judged_rose (truth.Error kind place) scene text old new h = RoseBy-none old.faults new.faults h.only.later
 judged_rose (truth.Failed place) scene text old new h = h.cause
-judged_rose truth.Memory scene text old new h = RoseBy-none old.faults new.faults h.later
+judged_rose truth.Memory scene text old new h = RoseBy-none old.faults new.faults h.only.later
 
 steady_rose : (old new : ℕ) → new ≡ old → RoseBy 0 old new
 steady_rose old new e = RoseBy-none old new (omega arith)
 
 acted_rose : (answer : Acted) (moment : ℤ) (command : Command) (old new : MachineView) → ActsOn moment command old answer new → RoseBy (fault_in (acted answer)) old.faults new.faults
-acted_rose of_act.Done moment command old new h = steady_rose old.faults new.faults (h.faults.steady (λ e. absurd (cc)))
-acted_rose (of_act.Started process) moment command old new h = steady_rose old.faults new.faults (h.faults.steady (λ e. absurd (cc)))
-acted_rose (of_act.Refused reason) moment command old new h = steady_rose old.faults new.faults (h.faults.steady (λ e. absurd (cc)))
-acted_rose of_act.Failed moment command old new h = h.faults.rose refl
-acted_rose of_act.Memory moment command old new h = steady_rose old.faults new.faults (h.faults.steady (λ e. absurd (cc)))
+acted_rose of_act.Done moment command old new h = steady_rose old.faults new.faults (h.counts.steady (λ e. absurd (cc)))
+acted_rose (of_act.Started process) moment command old new h = steady_rose old.faults new.faults (h.counts.steady (λ e. absurd (cc)))
+acted_rose (of_act.Refused reason) moment command old new h = steady_rose old.faults new.faults (h.counts.steady (λ e. absurd (cc)))
+acted_rose of_act.Failed moment command old new h = h.counts.rose refl
+acted_rose of_act.Memory moment command old new h = steady_rose old.faults new.faults (h.counts.steady (λ e. absurd (cc)))
 
 polled_rose : (answer : Polled) (process : ℕ) (old new : MachineView) → PollsOn process old answer new → RoseBy (fault_in (polled answer)) old.faults new.faults
-polled_rose of_poll.Running process old new h = steady_rose old.faults new.faults (h.faults.steady (λ e. absurd (cc)))
-polled_rose (of_poll.Exited code) process old new h = steady_rose old.faults new.faults (h.faults.steady (λ e. absurd (cc)))
-polled_rose of_poll.Failed process old new h = h.faults.rose refl
+polled_rose of_poll.Running process old new h = steady_rose old.faults new.faults (h.counts.steady (λ e. absurd (cc)))
+polled_rose (of_poll.Exited code) process old new h = steady_rose old.faults new.faults (h.counts.steady (λ e. absurd (cc)))
+polled_rose of_poll.Failed process old new h = h.counts.rose refl
 
 settled_rose : (at : When) (known : Known) (next : Next) (old : MachineView) (result : Settled) (new : MachineView) →
     Settles at known next old result new → RoseBy (fault_in result) old.faults new.faults
-settled_rose at known (Says line midway text) old (said answer) new h = said_rose 0 0 answer _ text old new h.1
+settled_rose at known (Says line midway text) old (said answer) new h = said_rose answer _ text old new h.1
 settled_rose at known (Tests line text) old (judged answer) new h = judged_rose answer _ text old new h.1
 settled_rose at known (Pauses line text) old (judged answer) new h = judged_rose answer _ text old new h.2
 settled_rose at known (Does line midway command) old (acted answer) new h = acted_rose answer at.moment command old new h.1
@@ -126,7 +108,7 @@ come_rose P at old f (result ∷ results) new (p, (between, s, rest)) =
 -- texts alone leave what was done
 text_keeps : (at : When) (line : ℕ) (known : Known) (next : Next) (old : MachineView) (result : Settled) (new : MachineView) →
     IsTextOf line next result → Settles at known next old result new → (new.acted ≡ old.acted) × RoseBy 0 old.faults new.faults
-text_keeps at line known (Says own midway text) old (said (one_text.Text words)) new p h = (h.1.acted, RoseBy-none old.faults new.faults h.1.later)
+text_keeps at line known (Says own midway text) old (said (one_text.Text words)) new p h = (h.1.only.acted, RoseBy-none old.faults new.faults h.1.only.later)
 text_keeps at line known next old result new p h = absurd p
 
 texts_keep : (at : When) (line : ℕ) (old : MachineView) (f : Walk) (results : List Settled) (new : MachineView) →
@@ -138,9 +120,9 @@ texts_keep at line old f (result ∷ results) new (p, (between, s, rest)) =
     (b.0 ∙ a.0, RoseBy-more 0 0 old.faults between.faults new.faults a.1 b.1)
 
 starving_keeps : (at : When) (line : ℕ) (known : Known) (next : Next) (old new : MachineView) → StarvesAsking at line known next old new → (new.acted ≡ old.acted) × RoseBy 0 old.faults new.faults
-starving_keeps at line known (Says own midway text) old new h = (h.1.acted, RoseBy-none old.faults new.faults h.1.later)
-starving_keeps at line known (Tests own text) old new h = (h.1.acted, RoseBy-none old.faults new.faults h.1.later)
-starving_keeps at line known (Pauses own text) old new h = (h.1.acted, RoseBy-none old.faults new.faults h.1.later)
+starving_keeps at line known (Says own midway text) old new h = (h.1.only.acted, RoseBy-none old.faults new.faults h.1.only.later)
+starving_keeps at line known (Tests own text) old new h = (h.1.only.acted, RoseBy-none old.faults new.faults h.1.only.later)
+starving_keeps at line known (Pauses own text) old new h = (h.1.only.acted, RoseBy-none old.faults new.faults h.1.only.later)
 starving_keeps at line known next old new h = absurd h
 
 breaks_keep : (at : When) (line : ℕ) (known : Known) (next : Next) (old new : MachineView) → (new ≡ old) ⊎ StarvesAsking at line known next old new → (new.acted ≡ old.acted) × RoseBy 0 old.faults new.faults
@@ -154,8 +136,8 @@ starve_keeps at line old f new h =
     (b.0 ∙ a.0, RoseBy-more 0 0 old.faults h.between.faults new.faults a.1 b.1)
 
 held_keeps : (at : When) (known : Known) (next : Next) (line : ℕ) (old new : MachineView) → Holds at known next line old new → (new.acted ≡ old.acted) × RoseBy 0 old.faults new.faults
-held_keeps at known (Pauses own text) line old new h = (h.1.acted, RoseBy-none old.faults new.faults h.1.later)
-held_keeps at known (Polls own process) line old new h = (h.1.acted, steady_rose old.faults new.faults (h.1.faults.steady (λ e. absurd (cc))))
+held_keeps at known (Pauses own text) line old new h = (h.1.only.acted, RoseBy-none old.faults new.faults h.1.only.later)
+held_keeps at known (Polls own process) line old new h = (h.1.acted, steady_rose old.faults new.faults (h.1.counts.steady (λ e. absurd (cc))))
 held_keeps at known next line old new h = absurd h
 
 same_keeps : (old new : MachineView) → new ≡ old → (new.acted ≡ old.acted) × RoseBy 0 old.faults new.faults
@@ -168,9 +150,6 @@ stop_keeps at old f ran.Done new h = same_keeps old new h.1
 stop_keeps at old f (ran.Failed line cause) new h = same_keeps old new h.1
 stop_keeps at old f ran.Memory new h = starve_keeps at h.0 old f new h.1
 
-pub waits_at : (started : ℕ) (x y : Place) → x ≡ y → WaitsBelow started x → WaitsBelow started y
-waits_at started x y e h = let P : Place → Type 0 = λ p. WaitsBelow started p in subst P e h
-
 -- ---- rounds
 pub round_goes : (at own : When) (old : MachineView) (f : Walk) (mid : MachineView) (g : Walk) (result : Option Ran) (new : MachineView) (left : Walk) →
     own ≡ at → result ≡ None → Reaches Any at old f mid g → StepsTo own mid g result new left → Reaches Any at old f new left
@@ -178,13 +157,6 @@ round_goes at own old f mid g result new left e none a h =
     let P : When → Option Ran → Type 0 = λ w r. StepsTo w mid g r new left in
     let k : StepsTo at mid g None new left = subst (λ (r : Option Ran). P at r) none (subst (λ (w : When). P w result) e h) in
     reach_then Any at old f mid g new left a k
-
-pub round_stops : (at own : When) (old : MachineView) (f : Walk) (mid : MachineView) (g : Walk) (result : Option Ran) (r : Ran) (new : MachineView) (left : Walk) →
-    own ≡ at → result ≡ Some r → Reaches Any at old f mid g → StepsTo own mid g result new left → StepsTo at old f (Some r) new left
-round_stops at own old f mid g result r new left e some a h =
-    let P : When → Option Ran → Type 0 = λ w q. StepsTo w mid g q new left in
-    let k : StepsTo at mid g (Some r) new left = subst (λ (q : Option Ran). P at q) some (subst (λ (w : When). P w result) e h) in
-    (k.0, reach_then Any at old f mid g k.0 left a k.1, k.2)
 
 -- before the first step nothing is moved
 pub unmoved_first : (wanted : Option (List ℕ)) (old : MachineView) (f : Walk) → Unmoved wanted old f wanted old f
@@ -200,19 +172,34 @@ unmoved_goes (Some digest) wanted later old f mid g result new left none a h =
     let k : ⊥ = subst (λ (r : Option Ran). P (Some digest) r) none (subst (λ (w : Option (List ℕ)). P w result) a.0 h) in
     absurd k
 
-pub again_stops : (first wanted : Option (List ℕ)) (old : MachineView) (f : Walk) (mid : MachineView) (g : Walk) (result : Option Ran) (r : Ran) (new : MachineView) (left : Walk) →
-    result ≡ Some r → Unmoved first old f wanted mid g → Again wanted mid g result new left → Again first old f (Some r) new left
-again_stops None wanted old f mid g result r new left some a h = tt
-again_stops (Some digest) wanted old f mid g result r new left some a h =
-    let P : Option (List ℕ) → Option Ran → Type 0 = λ w q. Again w mid g q new left in
-    let k : WantsAgain digest mid g r new left = subst (λ (q : Option Ran). P (Some digest) q) some (subst (λ (w : Option (List ℕ)). P w result) a.0 h) in
+again_stops : (first wanted : Option (List ℕ)) (old : MachineView) (f : Walk) (mid : MachineView) (g : Walk) (r : Ran) (new : MachineView) (left : Walk) →
+    Unmoved first old f wanted mid g → Again wanted mid g (Some r) new left → Again first old f (Some r) new left
+again_stops None wanted old f mid g r new left a h = tt
+again_stops (Some digest) wanted old f mid g r new left a h =
+    let P : Option (List ℕ) → Type 0 = λ w. Again w mid g (Some r) new left in
+    let k : WantsAgain digest mid g r new left = subst P a.0 h in
     record { wants = k.wants; machine = k.machine ∙ a.1; same = k.same ∙ a.2 }
 
-pub moment_along : (a b : When) → a ≡ b → IsMoment b.moment → IsMoment a.moment
-moment_along a b e h = let P : When → Type 0 = λ w. IsMoment w.moment in subst P (sym e) h
-
-pub offset_along : (a b : When) → a ≡ b → IsOffset b.offset → IsOffset a.offset
-offset_along a b e h = let P : When → Type 0 = λ w. IsOffset w.offset in subst P (sym e) h
+-- the steps before one that stops, and that one
+pub round_stops : (old mid new : Run) (before between after : MachineView) (result : Option Ran) (r : Ran) → result ≡ Some r → when_of mid.kept.scene ≡ when_of old.kept.scene → before.started ≤ between.started →
+    Reaches Any (when_of old.kept.scene) before (from old) between (from mid) → Unmoved (wanted_at old.place) before (from old) (wanted_at mid.place) between (from mid) →
+    StepsFrom mid.place mid between result after new → StepsFrom old.place old before (Some r) after new
+round_stops old mid new before between after result r some time started a unmoved h =
+    let P : Option Ran → Type 0 = λ q. StepsFrom mid.place mid between q after new in
+    let k : StepsFrom mid.place mid between (Some r) after new = subst P some h in
+    let S : When → Type 0 = λ w. StepsTo w between (from mid) (Some r) after (from new) in
+    let s : StepsTo (when_of old.kept.scene) between (from mid) (Some r) after (from new) = subst S time k.step.steps in
+    record {
+      step = record {
+        steps = (s.0, reach_then Any (when_of old.kept.scene) before (from old) between (from mid) s.0 (from new) a s.1, s.2);
+        falls = tt;
+        time = k.step.time ∙ time;
+        waits = k.step.waits;
+        started = omega (arith, started, k.step.started);
+        rests = k.step.rests;
+      };
+      again = again_stops (wanted_at old.place) (wanted_at mid.place) before (from old) between (from mid) r after (from new) unmoved k.again;
+    }
 
 -- ---- the whole
 -- the count of faults never falls
@@ -226,30 +213,33 @@ stop_later at old f r new left h =
 memory_before : (r : Ran) (run : Run) → MemoryLeaves r run.place → r ≡ ran.Memory → is_midway (from run []).next ≡ false
 memory_before r run leaves e = let P : Ran → Type 0 = λ q. MemoryLeaves q run.place in fresh_from run (subst P e leaves)
 
+-- what a step that stops is to the walk before it
+advances_by : (at : When) (old : MachineView) (e f : Walk) (r : Ran) (new : MachineView) (g : Walk) →
+    ((more : List Settled) → e more ≡ f more) → StepsTo at old f (Some r) new g → (r ≡ ran.Memory → is_midway (g []).next ≡ false) → Advances at old e r new g
+advances_by at old e f r new g stood h before =
+    let reach : Reaches Any at old e h.0 g = reach_from Any at old e f h.0 g stood h.1 in
+    let S : Walk → Type 0 = λ w. Stops at h.0 w r new in
+    let kept = stop_keeps at h.0 g r new h.2 in
+    let G : Option (List Command) → Type 0 = λ l. Grows old.acted l (commands_in e reach.results) in
+    let R : ℕ → Type 0 = λ n. RoseBy n old.faults new.faults in
+    let none : faults_in reach.results + 0 ≡ faults_in reach.results = omega arith in
+    record {
+      results = reach.results;
+      between = h.0;
+      comes = reach.comes;
+      stops = subst S (λ i more. sym (reach.same more) i) h.2;
+      same = λ more. sym (reach.same more);
+      faults = subst R none (RoseBy-more (faults_in reach.results) 0 old.faults h.0.faults new.faults (come_rose Any at old e reach.results h.0 reach.comes) kept.1);
+      before = before;
+      commands = subst G (sym kept.0) (come_grows Any at old e reach.results h.0 reach.comes);
+    }
+
 -- a run that stood for results goes on from there
 pub goes_on : (at : When) (script : PlainScript) (given : List Pair) (settled : List Settled) (old : MachineView) (r : Ran) (new : MachineView) (f : Walk) (run : Run) →
     ((more : List Settled) → after script given settled more ≡ f more) → StepsTo at old f (Some r) new (from run) → MemoryLeaves r run.place → GoesOn at script given settled old r new run
 goes_on at script given settled old r new f run stood h leaves =
-    let reach = h.1 in
-    let all : (more : List Settled) → after script given (settled ++ reach.results) more ≡ from run more =
-    (λ more. ap (standing script given) (append_assoc settled reach.results more) ∙ stood (reach.results ++ more) ∙ reach.same more) in
-    let comes = comes_along Any at old (after script given settled) f reach.results h.0 stood reach.comes in
-    let S : Walk → Type 0 = λ w. Stops at h.0 w r new in
-    let stops : Stops at h.0 (after script given (settled ++ reach.results)) r new = subst S (λ i more. sym (all more) i) h.2 in
-    let kept = stop_keeps at h.0 (from run) r new h.2 in
-    let G : Option (List Command) → Type 0 = λ l. Grows old.acted l (commands_in (after script given settled) reach.results) in
-    let R : ℕ → Type 0 = λ n. RoseBy n old.faults new.faults in
-    let e : faults_in reach.results + 0 ≡ faults_in reach.results = omega arith in
-    record {
-      results = reach.results;
-      between = h.0;
-      comes = comes;
-      stops = stops;
-      stands = all;
-      before = λ m. ap (λ (s : Stop). is_midway s.next) (all []) ∙ memory_before r run leaves m;
-      faults = subst R e (RoseBy-more (faults_in reach.results) 0 old.faults h.0.faults new.faults (come_rose Any at old (after script given settled) reach.results h.0 comes) kept.1);
-      commands = subst G (sym kept.0) (come_grows Any at old (after script given settled) reach.results h.0 comes);
-    }
+    let a = advances_by at old (after script given settled) f r new (from run) stood h (memory_before r run leaves) in
+    record { left = from run; advances = a; stands = λ more. ap (standing script given) (append_assoc settled a.results more) ∙ sym (a.same more) }
 
 -- the same where the time was set before
 pub advances : (at : When) (script : PlainScript) (given : List Pair) (settled : List Settled) (old : MachineView) (r : Ran) (new : MachineView) (place : Place) (rest : Rest) (before now : Scene) (run : Run) →

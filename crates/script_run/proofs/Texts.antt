@@ -1,21 +1,19 @@
 -- What the answer of an expression or of a test is to a line.
-use Rattle.std.proofs.Common.{◌≡◌, ℕ, Bool, true, ◌+◌, ◌<◌, ◌≤◌, List, [], ◌∷◌, ◌++◌, length, get_or, drop, refl, sym, ap, subst, ◌∙◌}
-use Rattle.std.proofs.lemmas.List.{drop_more, drop_all}
+use Rattle.std.proofs.Common.{◌≡◌, ℕ, Bool, true, List, [], ◌∷◌, ◌++◌, refl, sym, subst}
 use Rattle.std.specs.Prelude.{Result, Ok, Err, MatchResult}
 use Rattle.rel_lexer.specs.declared.place.Place.{Place}
-use Rattle.rel_trace.specs.declared.kind.RelKind.{RelKind}
+use Rattle.bf_machine.specs.Views.{MachineView}
 use Rattle.rel_sources.specs.declared.scene.Scene.{Scene}
+use Rattle.rel_trace.specs.declared.kind.RelKind.{RelKind}
 use Rattle.rel_eval.specs.declared.told.OneText.TheVariants as one_text
 use Rattle.rel_eval.specs.declared.told.Truth.TheVariants as truth
 use Rattle.script_text.specs.declared.template.Part2.{Part2}
 use Rattle.script_text.specs.declared.template.Part2.TheVariants.{Plain, Expression}
-use Rattle.script_text.specs.declared.template.Template.{Template}
 use Rattle.script_run.specs.declared.broken.Broken.{Broken}
 use Rattle.script_run.specs.declared.broken.Broken.TheVariants as broken
 use Rattle.script_run.specs.declared.cause.Cause.TheVariants.{Relevance, MachineFault}
 use Rattle.script_run.specs.Walks.{Known, said, judged, Walk, Rest, failing, saying, testing, pausing}
-use Rattle.script_run.specs.LineWalks.{filling, lining}
-use Rattle.script_run.specs.Machines.{MachineView}
+use Rattle.script_run.specs.LineWalks.{filling}
 use Rattle.script_run.specs.Asking.{When, when_of, known_in, SaysOn, JudgesOn}
 use Rattle.script_run.specs.RunSteps.{Any, IsTextOf, Starves, Holds}
 use Rattle.script_run.specs.Fills.{Reaches, Fills, Breaks}
@@ -115,38 +113,3 @@ pub part_broken : (at : When) (line : ℕ) (midway : Bool) (known : Known) (old 
 part_broken at line midway known old part e out b new parts rest is h =
     let P : Part2 → Type 0 = λ p. Breaks at line known old (filling line midway (p ∷ parts) out rest known) b new in
     subst P (sym is) h
-
--- ---- one after another
--- the next part of what is left
-pub next_part : (at : When) (line : ℕ) (midway : Bool) (known : Known) (old : MachineView) (f : Walk) (mid : MachineView) (parts : List Part2) (i : ℕ) (part : Part2) (out : List ℕ) (rest : Bool → List ℕ → Rest) →
-    i < length parts → part ≡ get_or parts i part → Reaches (IsTextOf line) at old f mid (filling line midway (drop i parts) out rest known) →
-    Reaches (IsTextOf line) at old f mid (filling line midway (part ∷ drop (i + 1) parts) out rest known)
-next_part at line midway known old f mid parts i part out rest below is a =
-    let e : drop i parts ≡ part ∷ drop (i + 1) parts = drop_more parts i part below ∙ ap (λ p. p ∷ drop (i + 1) parts) (sym is) in
-    let P : List Part2 → Type 0 = λ ps. Reaches (IsTextOf line) at old f mid (filling line midway ps out rest known) in
-    subst P e a
-
-pub next_template : (at : When) (line : ℕ) (midway : Bool) (known : Known) (old : MachineView) (f : Walk) (mid : MachineView) (templates : List Template) (i : ℕ) (template : Template) (out : List ℕ) (rest : Bool → List ℕ → Rest) →
-    i < length templates → template ≡ get_or templates i template → Reaches (IsTextOf line) at old f mid (lining line midway (drop i templates) out rest known) →
-    Reaches (IsTextOf line) at old f mid (lining line midway (template ∷ drop (i + 1) templates) out rest known)
-next_template at line midway known old f mid templates i template out rest below is a =
-    let e : drop i templates ≡ template ∷ drop (i + 1) templates = drop_more templates i template below ∙ ap (λ p. p ∷ drop (i + 1) templates) (sym is) in
-    let P : List Template → Type 0 = λ ps. Reaches (IsTextOf line) at old f mid (lining line midway ps out rest known) in
-    subst P e a
-
--- all parts, and all templates, are gone through
-pub all_parts : (at : When) (line : ℕ) (midway : Bool) (known : Known) (old mid : MachineView) (parts items : List Part2) (i : ℕ) (out text : List ℕ) (rest : Bool → List ℕ → Rest) →
-    items ≡ parts → length items ≤ i → (later : Bool) × Reaches (IsTextOf line) at old (filling line midway items out rest known) mid (filling line later (drop i items) text rest known) →
-    (later : Bool) × Reaches (IsTextOf line) at old (filling line midway parts out rest known) mid (rest later text known)
-all_parts at line midway known old mid parts items i out text rest same end a =
-    let P : List Part2 → Type 0 = λ ps. Reaches (IsTextOf line) at old (filling line midway items out rest known) mid (filling line a.0 ps text rest known) in
-    let Q : List Part2 → Type 0 = λ ps. Reaches (IsTextOf line) at old (filling line midway ps out rest known) mid (rest a.0 text known) in
-    (a.0, subst Q same (subst P (drop_all i items end) a.1))
-
-pub all_templates : (at : When) (line : ℕ) (midway : Bool) (known : Known) (old mid : MachineView) (templates items : List Template) (i : ℕ) (out text : List ℕ) (rest : Bool → List ℕ → Rest) →
-    items ≡ templates → length items ≤ i → (later : Bool) × Reaches (IsTextOf line) at old (lining line midway items out rest known) mid (lining line later (drop i items) text rest known) →
-    (later : Bool) × Reaches (IsTextOf line) at old (lining line midway templates out rest known) mid (rest later text known)
-all_templates at line midway known old mid templates items i out text rest same end a =
-    let P : List Template → Type 0 = λ ts. Reaches (IsTextOf line) at old (lining line midway items out rest known) mid (lining line a.0 ts text rest known) in
-    let Q : List Template → Type 0 = λ ts. Reaches (IsTextOf line) at old (lining line midway ts out rest known) mid (rest a.0 text known) in
-    (a.0, subst Q same (subst P (drop_all i items end) a.1))

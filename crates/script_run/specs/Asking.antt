@@ -1,10 +1,11 @@
 -- What an expression and a test of a script are answered, and the looks that are made for it.
-use Rattle.std.specs.Prelude.{◌≡◌, ◌⊎◌, ◌≤◌, ℕ, ℤ, Bool, true, false, List, Some}
+use Rattle.std.specs.Prelude.{◌≡◌, ◌⊎◌, ℕ, ℤ, Bool, true, false, List, Some}
 use Rattle.std.specs.declared.option.Option.{Option}
+use Rattle.rel_value.specs.Plain.{booleans}
 use Rattle.bf_world.specs.declared.key.Key.{Key}
 use Rattle.bf_world.specs.Worlds.{WorldState}
+use Rattle.bf_machine.specs.Views.{MachineView, OnlyLooks}
 use Rattle.rel_sources.specs.declared.scene.Scene.{Scene}
-use Rattle.rel_value.specs.Plain.{booleans}
 use Rattle.rel_types.specs.Plans.{PlainNode, is_plural, kind_of}
 use Rattle.rel_types.specs.Alike.{same_kind}
 use Rattle.rel_trace.specs.declared.kind.RelKind.TheVariants.{NotDefined, NotSingular, Incompatible}
@@ -17,7 +18,6 @@ use Rattle.rel_eval.specs.Cuts.{meaning}
 use Rattle.rel_eval.specs.Questions.{Reading, question, refused, undefined, Reads}
 use Rattle.rel_eval.specs.Singles.{Words, Judges, one_text_of, truth_of, TextHasCause, TruthHasCause}
 use Rattle.script_run.specs.Walks.{Known}
-use Rattle.script_run.specs.Machines.{MachineView}
 
 -- when a run goes on: the moment, and the offset in minutes east of UTC
 pub record When : Type 0 where
@@ -58,10 +58,7 @@ SaysText world scene text old answer new =
 -- An expression was asked for its text, with exactly the looks of its question, and nothing was done.
 pub record SaysOn (scene : Scene) (text : List ℕ) (old : MachineView) (answer : OneText) (new : MachineView) : Type 0 where
   pub says : SaysText old.world scene text old.looked answer new.looked
-  pub world : new.world ≡ old.world
-  pub acted : new.acted ≡ old.acted
-  pub polled : new.polled ≡ old.polled
-  pub later : old.faults ≤ new.faults
+  pub only : OnlyLooks old new
   pub cause : TextHasCause old.faults new.faults answer
 
 -- ---- tests
@@ -91,8 +88,5 @@ JudgesText world scene text old answer new =
 -- A test was asked for its truth, likewise.
 pub record JudgesOn (scene : Scene) (text : List ℕ) (old : MachineView) (answer : Truth) (new : MachineView) : Type 0 where
   pub judges : JudgesText old.world scene text old.looked answer new.looked
-  pub world : new.world ≡ old.world
-  pub acted : new.acted ≡ old.acted
-  pub polled : new.polled ≡ old.polled
-  pub later : old.faults ≤ new.faults
+  pub only : OnlyLooks old new
   pub cause : TruthHasCause old.faults new.faults answer

@@ -1,6 +1,7 @@
 -- What calls from outside make of a run: what each is answered, and the results that the run then stands for.
 use Rattle.std.specs.Prelude.{◌≡◌, ◌≢◌, ⊤, ℕ, Bool, true, false, List, [], ◌∷◌, ◌++◌, Option, Some, None}
 use Rattle.bf_world.specs.Worlds.{WorldState}
+use Rattle.bf_machine.specs.Views.{MachineView}
 use Rattle.rel_sources.specs.declared.pair.Pair.{Pair}
 use Rattle.script_text.specs.Scripts.{PlainScript}
 use Rattle.script_run.specs.declared.ran.Ran.{Ran}
@@ -8,7 +9,6 @@ use Rattle.script_run.specs.declared.ran.Ran.TheVariants as of_run
 use Rattle.script_run.specs.declared.run.Run.{Run}
 use Rattle.script_run.specs.Walks.{Settled, supplied}
 use Rattle.script_run.specs.ScriptWalks.{after}
-use Rattle.script_run.specs.Machines.{MachineView}
 use Rattle.script_run.specs.Asking.{When}
 use Rattle.script_run.specs.RunSteps.{Comes, Any, Stops}
 use Rattle.script_run.specs.RunPlaces.{Stands, wanted_at}
@@ -38,14 +38,15 @@ abbrev pub beginning : Point
 beginning = record { settled = []; wanted = None }
 
 -- On a machine of this world the script goes on to this answer.
-pub record Goes (at : When) (world : WorldState) (script : PlainScript) (given : List Pair) (old : Point) (answer : Ran) (new : Point) : Type 0 where
+pub record Goes (at : When) (world : WorldState) (script : PlainScript) (given : List Pair) (old : Point) (answer : Ran) (new : Point)
+    : Type 0 where
   pub before : MachineView
   pub told : before.world ≡ Some world
   pub results : List Settled
   pub between : MachineView
   pub comes : Comes Any at before (after script given old.settled) results between
   pub left : MachineView
-  pub stops : Stops at between (after script given (old.settled ++ results)) answer left
+  pub stops : Stops at between (λ more. after script given old.settled (results ++ more)) answer left
   pub point : new ≡ record { settled = old.settled ++ results; wanted = wanted_by answer }
 
 -- A call is answered so. What is supplied is taken where it is wanted, and only there.

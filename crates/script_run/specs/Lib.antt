@@ -2,7 +2,6 @@ pub mod Causes
 pub mod Walks
 pub mod LineWalks
 pub mod ScriptWalks
-pub mod Machines
 pub mod Asking
 pub mod RunSteps
 pub mod RunPlaces
@@ -11,4 +10,4 @@ pub mod Courses
 pub mod Weights
 pub mod Parameters
 pub mod Fills
-pub mod ArmAnswers
+pub mod OneStep

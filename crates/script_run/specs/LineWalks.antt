@@ -5,8 +5,8 @@ use Rattle.hex.specs.Hex.{encode_lower}
 use Rattle.sha1.specs.Sha1.{sha1}
 use Rattle.sha2.specs.Sha256.{sha256}
 use Rattle.rel_value.specs.TimesRead.{time_of}
-use Rattle.rel_sources.specs.Scenes.{value_of}
 use Rattle.bf_world.specs.declared.command.Command.TheVariants.{Write, Append, Delete, Copy, Move, MakeFolder, DropFolder, Start, Put, Drop, Place}
+use Rattle.rel_sources.specs.Scenes.{value_of}
 use Rattle.script_text.specs.declared.line.Line.{Line}
 use Rattle.script_text.specs.declared.line.Line.TheVariants as line
 use Rattle.script_text.specs.declared.prefetch.Prefetch.{Prefetch}
@@ -59,11 +59,15 @@ abbrev pub line_walk : ℕ → Line → Rest → Rest
 line_walk n (line.Parameter name value) rest = filled n false value (λ midway text. setting n name text rest)
 line_walk n (line.ContinueIf test) rest = testing n test rest (failing n NotContinued)
 line_walk n (line.PauseWhile test) rest = pausing n test rest
-line_walk n (line.Create templates) rest = lining n false templates [] (λ midway text. doing n midway (Write (codes "__createfile") text) rest)
-line_walk n (line.Append template) rest = filled n false template (λ midway text. doing n midway (Append (codes "__appendfile") (ended text)) rest)
+line_walk n (line.Create templates) rest =
+    lining n false templates [] (λ midway text. doing n midway (Write (codes "__createfile") text) rest)
+line_walk n (line.Append template) rest =
+    filled n false template (λ midway text. doing n midway (Append (codes "__appendfile") (ended text)) rest)
 line_walk n (line.Delete path) rest = filled n false path (λ midway path. doing n midway (Delete path) rest)
-line_walk n (line.Copy from to) rest = filled n false from (λ midway from. filled n midway to (λ midway to. doing n midway (Copy from to) rest))
-line_walk n (line.Move from to) rest = filled n false from (λ midway from. filled n midway to (λ midway to. doing n midway (Move from to) rest))
+line_walk n (line.Copy from to) rest =
+    filled n false from (λ midway from. filled n midway to (λ midway to. doing n midway (Copy from to) rest))
+line_walk n (line.Move from to) rest =
+    filled n false from (λ midway from. filled n midway to (λ midway to. doing n midway (Move from to) rest))
 line_walk n (line.FolderCreate path) rest = filled n false path (λ midway path. doing n midway (MakeFolder path) rest)
 line_walk n (line.FolderDelete path) rest = filled n false path (λ midway path. doing n midway (DropFolder path) rest)
 line_walk n (line.Run command) rest = filled n false command (λ midway text. doing n midway (Start text false) rest)
@@ -73,7 +77,8 @@ line_walk n (line.WaitHidden command) rest = filled n false command (λ midway t
 line_walk n (line.Setting name value date) rest =
     filled n false name (λ midway name. filled n midway value (λ midway value.
     dated n midway date (λ midway moment. doing n midway (Put name value moment) rest)))
-line_walk n (line.SettingDelete name date) rest = filled n false name (λ midway name. dated n midway date (λ midway moment. doing n midway (Drop name moment) rest))
+line_walk n (line.SettingDelete name date) rest =
+    filled n false name (λ midway name. dated n midway date (λ midway moment. doing n midway (Drop name moment) rest))
 
 -- bytes that came for a file are placed where they have its size, and then its digests
 abbrev pub placing : Prefetch → List ℕ → Rest → Rest

@@ -1,7 +1,7 @@
 -- Where a run stands, and what it does from there.
-use Rattle.std.specs.Prelude.{◌≡◌, ◌<◌, ⊤, ℕ, false, List, [], ◌∷◌, Option, Some, None}
-use Rattle.rel_sources.specs.declared.pair.Pair.{Pair}
+use Rattle.std.specs.Prelude.{◌≡◌, ◌<◌, ⊤, ℕ, false, List, [], ◌∷◌, length, Option, Some, None}
 use Rattle.bf_world.specs.declared.command.Command.TheVariants as command
+use Rattle.rel_sources.specs.declared.pair.Pair.{Pair}
 use Rattle.script_text.specs.declared.tree.Statement.{Statement}
 use Rattle.script_text.specs.declared.tree.Arm.{Arm, out-Arm}
 use Rattle.script_text.specs.Views.{shown_statement, shown_statements}
@@ -80,9 +80,11 @@ abbrev pub wanted_at : Place → Option (List ℕ)
 wanted_at (Wanting fetch) = Some fetch.sha256
 wanted_at _ = None
 
--- Memory can run out there: nothing of the line at the place is settled, or the cause of its failure has texts that are to be told again.
+-- Memory can run out there: nothing of the line at the place is settled, or its file has the right size; or the line failed for a digest,
+-- which is told in texts.
 abbrev pub IsBeforeLine : Place → Type 0
 IsBeforeLine (Wanting fetch) = ⊥
+IsBeforeLine (Supplied fetch bytes) = length bytes ≡ fetch.size
 IsBeforeLine (Waiting line process) = ⊥
 IsBeforeLine Done = ⊥
 IsBeforeLine (Failed line cause) = HasTexts cause

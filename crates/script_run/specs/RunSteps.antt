@@ -1,13 +1,15 @@
 -- How what comes next comes to results on a machine, one after another, and how it stops.
 use Rattle.std.specs.Prelude.{◌≡◌, ◌≢◌, ◌⊎◌, ⊤, ℕ, List, [], ◌∷◌}
-use Rattle.rel_eval.specs.declared.told.OneText.TheVariants as one_text
-use Rattle.rel_eval.specs.declared.told.Truth.TheVariants as truth
 use Rattle.bf_world.specs.declared.command.Acted.TheVariants as of_act
 use Rattle.bf_world.specs.declared.command.Polled.TheVariants as of_poll
+use Rattle.bf_machine.specs.Views.{MachineView}
+use Rattle.bf_machine.specs.Acts.{ActsOn}
+use Rattle.bf_machine.specs.Polls.{PollsOn}
+use Rattle.rel_eval.specs.declared.told.OneText.TheVariants as one_text
+use Rattle.rel_eval.specs.declared.told.Truth.TheVariants as truth
 use Rattle.script_run.specs.declared.ran.Ran.{Ran}
 use Rattle.script_run.specs.declared.ran.Ran.TheVariants as ran
 use Rattle.script_run.specs.Walks.{Known, Settled, said, judged, acted, polled, Next, Wants, Says, Tests, Pauses, Does, Polls, Ends, Fails, Walk}
-use Rattle.script_run.specs.Machines.{MachineView, ActsOn, PollsOn}
 use Rattle.script_run.specs.Asking.{When, scene_of, SaysOn, JudgesOn}
 
 -- What comes next came to a result on a machine: a question was asked, a command done or a program polled, once.

@@ -1,8 +1,8 @@
 -- What a script does: prefetch lines first, in their order, and then its statements.
 use Rattle.std.specs.Prelude.{ℤ, List, [], ◌∷◌, ◌++◌, Option, None}
-use Rattle.rel_sources.specs.declared.pair.Pair.{Pair}
 use Rattle.bf_world.specs.declared.command.Command.{Command}
 use Rattle.bf_machine.specs.Acts.{commands_added}
+use Rattle.rel_sources.specs.declared.pair.Pair.{Pair}
 use Rattle.script_text.specs.declared.prefetch.Prefetch.{Prefetch}
 use Rattle.script_text.specs.Trees.{PlainStatement, act, choice, Statements, no_statements, more_statements, Arms, no_arms, more_arms}
 use Rattle.script_text.specs.Scripts.{PlainScript}

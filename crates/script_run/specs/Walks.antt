@@ -1,17 +1,17 @@
 -- What lines of a script came to, and what comes next after that.
 use Rattle.std.specs.Prelude.{ℕ, ◌+◌, ℤ, Bool, true, false, List, [], ◌∷◌, Option, Some}
-use Rattle.rel_sources.specs.declared.pair.Pair.{Pair}
-use Rattle.rel_eval.specs.declared.told.OneText.{OneText}
-use Rattle.rel_eval.specs.declared.told.OneText.TheVariants as one_text
-use Rattle.rel_eval.specs.declared.told.Truth.{Truth}
-use Rattle.rel_eval.specs.declared.told.Truth.TheVariants as truth
 use Rattle.bf_world.specs.declared.command.Command.{Command}
 use Rattle.bf_world.specs.declared.command.Acted.{Acted}
 use Rattle.bf_world.specs.declared.command.Acted.TheVariants as of_act
 use Rattle.bf_world.specs.declared.command.Polled.{Polled}
 use Rattle.bf_world.specs.declared.command.Polled.TheVariants as of_poll
+use Rattle.rel_sources.specs.declared.pair.Pair.{Pair}
+use Rattle.rel_eval.specs.declared.told.OneText.{OneText}
+use Rattle.rel_eval.specs.declared.told.OneText.TheVariants as one_text
+use Rattle.rel_eval.specs.declared.told.Truth.{Truth}
+use Rattle.rel_eval.specs.declared.told.Truth.TheVariants as truth
 use Rattle.script_run.specs.declared.cause.Cause.{Cause}
-use Rattle.script_run.specs.declared.cause.Cause.TheVariants.{Relevance, Refused, MachineFault}
+use Rattle.script_run.specs.declared.cause.Cause.TheVariants.{Relevance, Refused, MachineFault, ParameterTwice, WrongDigest, BadDate}
 
 -- the parameters so far, and the exit code of the last program that was waited for
 pub record Known : Type 0 where
@@ -58,11 +58,20 @@ pub data Next : Type 0 where
   -- nothing, since the line failed
   Fails : (line : ℕ) (cause : Cause) → Next
 
--- whether something of its line is settled already
+-- A cause that comes of a result alone. A parameter that was set before and a bad date may stand in a line of which nothing is asked, and
+-- the digests of a wrong file are told in texts.
+abbrev pub is_of_result : Cause → Bool
+is_of_result ParameterTwice = false
+is_of_result BadDate = false
+is_of_result (WrongDigest stated found) = false
+is_of_result _ = true
+
+-- whether something of its line is settled already, or it has failed for a cause that comes of a result alone
 abbrev pub is_midway : Next → Bool
 is_midway (Says line midway expression) = midway
 is_midway (Does line midway command) = midway
 is_midway (Polls line process) = true
+is_midway (Fails line cause) = is_of_result cause
 is_midway _ = false
 
 -- where a script stands: what is known there, and what comes next

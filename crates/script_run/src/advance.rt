@@ -5,12 +5,9 @@ ghost use Rattle.line_forms.specs.Numbers.{IsOffset};
 ghost use Rattle.rel_sources.specs.declared.pair.Pair.{Pair};
 ghost use Rattle.script_text.specs.Scripts.{PlainScript};
 ghost use Rattle.script_run.specs.Walks.{Settled};
-ghost use Rattle.script_run.specs.Machines.{view};
-ghost use Rattle.script_run.specs.Asking.{when_of};
 ghost use Rattle.script_run.specs.RunPlaces.{MemoryLeaves, Stands, WaitsBelow, from, wanted_at};
-ghost use Rattle.script_run.specs.Weights.{run_weight};
 ghost use Rattle.script_run.specs.Advances.{GoesOn, WantsAgain, wanted_by};
-ghost use Rattle.script_run.specs.Fills.{Again, StepsTo, Falls, Rests};
+ghost use Rattle.script_run.specs.OneStep.{StepsFrom};
 
 use crate::place::Place;
 use crate::{Ran, Run};
@@ -31,40 +28,27 @@ impl Run {
     ) -> Ran
         requires moment { IsMoment moment }
         requires offset { IsOffset offset }
-        requires waits { WaitsBelow (M.started machine.old) self.old.place }
+        requires waits { WaitsBelow (M.told machine.old).started self.old.place }
         // A run that stood for settled results goes on from there and stands for these and those of this call.
         ensures goes_on { (script : PlainScript) (given : List Pair) (settled : List Settled) → Stands script given self.old settled
             → GoesOn (record { moment = moment; offset = offset }) script given settled
-            (view (M.world machine.old) (M.looked machine.old) (M.acted machine.old) (M.polled machine.old) (M.faults machine.old)) result
-            (view (M.world machine.new) (M.looked machine.new) (M.acted machine.new) (M.polled machine.new) (M.faults machine.new)) self.new }
-        ensures waits { WaitsBelow (M.started machine.new) self.new.place }
-        ensures started { M.started machine.old ≤ M.started machine.new }
+            (M.told machine.old) result (M.told machine.new) self.new }
+        ensures waits { WaitsBelow (M.told machine.new).started self.new.place }
+        ensures started { (M.told machine.old).started ≤ (M.told machine.new).started }
         // What is wanted is what was answered, until it is supplied, and memory runs out before a line of which nothing is done.
         ensures wanted { wanted_at self.new.place ≡ wanted_by result }
         ensures memory { MemoryLeaves result self.new.place }
         ensures again { (digest : List ℕ) → wanted_at self.old.place ≡ Some digest → WantsAgain digest
-            (view (M.world machine.old) (M.looked machine.old) (M.acted machine.old) (M.polled machine.old) (M.faults machine.old)) (from self.old) result
-            (view (M.world machine.new) (M.looked machine.new) (M.acted machine.new) (M.polled machine.new) (M.faults machine.new)) (from self.new) }
-        ensures later { M.faults machine.old ≤ M.faults machine.new }
+            (M.told machine.old) (from self.old) result (M.told machine.new) (from self.new) }
+        ensures later { (M.told machine.old).faults ≤ (M.told machine.new).faults }
     {
         self.kept.set_time(moment, offset);
         self.rounds(alloc, machine)
     }
 
     fn rounds<M: Machine>(&mut self, alloc: Global, machine: &mut M) -> Ran
-        requires moment { IsMoment self.old.kept.scene.moment }
-        requires offset { IsOffset self.old.kept.scene.offset }
-        requires waits { WaitsBelow (M.started machine.old) self.old.place }
-        ensures steps { StepsTo (when_of self.old.kept.scene)
-            (view (M.world machine.old) (M.looked machine.old) (M.acted machine.old) (M.polled machine.old) (M.faults machine.old))
-            (from self.old) (Some result)
-            (view (M.world machine.new) (M.looked machine.new) (M.acted machine.new) (M.polled machine.new) (M.faults machine.new)) (from self.new) }
-        ensures waits { WaitsBelow (M.started machine.new) self.new.place }
-        ensures started { M.started machine.old ≤ M.started machine.new }
-        ensures rests { Rests (Some result) self.new.place }
-        ensures again { Again (wanted_at self.old.place)
-            (view (M.world machine.old) (M.looked machine.old) (M.acted machine.old) (M.polled machine.old) (M.faults machine.old)) (from self.old) (Some result)
-            (view (M.world machine.new) (M.looked machine.new) (M.acted machine.new) (M.polled machine.new) (M.faults machine.new)) (from self.new) }
+        requires { WaitsBelow (M.told machine.old).started self.old.place }
+        ensures { StepsFrom self.old.place self.old (M.told machine.old) (Some result) (M.told machine.new) self.new }
     {
         'rounds: loop {
             match self.step(alloc, machine) {
@@ -76,21 +60,8 @@ impl Run {
 
     /// One step from where the run stands: an answer where it stops there.
     fn step<M: Machine>(&mut self, alloc: Global, machine: &mut M) -> Option<Ran>
-        requires moment { IsMoment self.old.kept.scene.moment }
-        requires offset { IsOffset self.old.kept.scene.offset }
-        requires waits { WaitsBelow (M.started machine.old) self.old.place }
-        ensures steps { StepsTo (when_of self.old.kept.scene)
-            (view (M.world machine.old) (M.looked machine.old) (M.acted machine.old) (M.polled machine.old) (M.faults machine.old))
-            (from self.old) result
-            (view (M.world machine.new) (M.looked machine.new) (M.acted machine.new) (M.polled machine.new) (M.faults machine.new)) (from self.new) }
-        ensures waits { WaitsBelow (M.started machine.new) self.new.place }
-        ensures started { M.started machine.old ≤ M.started machine.new }
-        ensures rests { Rests result self.new.place }
-        ensures again { Again (wanted_at self.old.place)
-            (view (M.world machine.old) (M.looked machine.old) (M.acted machine.old) (M.polled machine.old) (M.faults machine.old)) (from self.old) result
-            (view (M.world machine.new) (M.looked machine.new) (M.acted machine.new) (M.polled machine.new) (M.faults machine.new)) (from self.new) }
-        ensures falls { Falls result (run_weight self.old) (run_weight self.new) }
-        ensures time { when_of self.new.kept.scene ≡ when_of self.old.kept.scene }
+        requires { WaitsBelow (M.told machine.old).started self.old.place }
+        ensures { StepsFrom self.old.place self.old (M.told machine.old) result (M.told machine.new) self.new }
     {
         match mem::replace(&mut self.place, Place::Ready) {
             Place::Ready => self.begin(),

@@ -1,18 +1,10 @@
 // The steps of an `if`.
-ghost use Rattle.std.specs.Prelude.{◌≡◌, ◌+◌, ◌<◌, ◌≤◌, ℕ, List, None};
+ghost use Rattle.std.specs.Prelude.{◌≡◌, ◌<◌, None};
 ghost use Rattle.std.specs.VecDeque.{deque_capacity, deque_len};
-ghost use Rattle.desk_base.specs.Moments.{IsMoment};
-ghost use Rattle.line_forms.specs.Numbers.{IsOffset};
-ghost use Rattle.script_text.specs.Views.{shown_statements};
+ghost use Rattle.bf_machine.specs.Views.{MachineView};
 ghost use Rattle.script_text.specs.declared.tree.Arm.{out-Arm};
-ghost use Rattle.script_run.specs.Walks.{Settled, Rest};
-ghost use Rattle.script_run.specs.ScriptWalks.{walk_all};
-ghost use Rattle.script_run.specs.Machines.{MachineView, view};
-ghost use Rattle.script_run.specs.Asking.{When, when_of, known_in};
-ghost use Rattle.script_run.specs.RunPlaces.{WaitsBelow, around, arm_walk, arms_walk, from};
-ghost use Rattle.script_run.specs.Weights.{all_weight, arm_weight, arm_list_weight, around_weight, run_weight};
-ghost use Rattle.script_run.specs.ArmAnswers.{after_arm, AnswersArm};
-ghost use Rattle.script_run.specs.Fills.{StepsTo, Falls, Rests};
+ghost use Rattle.script_run.specs.Asking.{JudgesOn};
+ghost use Rattle.script_run.specs.OneStep.{StepsFrom, MovesTo, Enters};
 
 use crate::asking::judge;
 use crate::place::Place;
@@ -29,11 +21,7 @@ impl Run {
     /// The first arm is at hand; without an arm the other statements come.
     pub(crate) fn choose(&mut self, mut arms: VecDeque<Arm>, other: StatementList) -> Option<Ran>
         requires ready { self.old.place ≡ Place.Ready }
-        ensures steps { (at : When) (machine : MachineView) → StepsTo at machine (arms_walk arms.items (around self.old) (walk_all (shown_statements other) (around self.old)) (known_in self.old.kept.scene)) result machine (from self.new) }
-        ensures falls { Falls result (3 + (arm_list_weight arms.items + all_weight (shown_statements other)) + around_weight self.old) (run_weight self.new) }
-        ensures time { when_of self.new.kept.scene ≡ when_of self.old.kept.scene }
-        ensures waits { (started : ℕ) → WaitsBelow started self.new.place }
-        ensures rests { Rests result self.new.place }
+        ensures { (machine : MachineView) → StepsFrom (Place.Testing arms other) self.old machine result machine self.new }
     {
         // room for what is left of the list at hand
         if self.later.reserve(1).is_err() {
@@ -62,24 +50,14 @@ impl Run {
         other: StatementList,
     ) -> Option<Ran>
         requires ready { self.old.place ≡ Place.Ready }
-        requires moment { IsMoment self.old.kept.scene.moment }
-        requires offset { IsOffset self.old.kept.scene.offset }
-        ensures steps { StepsTo (when_of self.old.kept.scene)
-            (view (M.world machine.old) (M.looked machine.old) (M.acted machine.old) (M.polled machine.old) (M.faults machine.old))
-            (arm_walk arm (around self.old) (arms_walk arms.items (around self.old) (walk_all (shown_statements other) (around self.old))) (known_in self.old.kept.scene)) result
-            (view (M.world machine.new) (M.looked machine.new) (M.acted machine.new) (M.polled machine.new) (M.faults machine.new)) (from self.new) }
-        ensures falls { Falls result (2 + (arm_weight arm + (arm_list_weight arms.items + all_weight (shown_statements other))) + around_weight self.old) (run_weight self.new) }
-        ensures time { when_of self.new.kept.scene ≡ when_of self.old.kept.scene }
-        ensures waits { WaitsBelow (M.started machine.new) self.new.place }
-        ensures started { M.started machine.old ≤ M.started machine.new }
-        ensures rests { Rests result self.new.place }
+        ensures { StepsFrom (Place.Asking arm arms other) self.old (M.told machine.old) result (M.told machine.new) self.new }
     {
         // room for what is left of the list at hand
         if self.later.reserve(1).is_err() {
             self.stand(Place::Asking { arm, arms, other });
             return Some(Ran::Memory);
         }
-        let truth = judge(alloc, machine, &self.kept.scene, &arm.test);
+        let truth = judge(alloc, machine, &self.kept, &arm.test);
         self.asked(arm, arms, other, truth)
     }
 
@@ -93,14 +71,8 @@ impl Run {
     ) -> Option<Ran>
         requires ready { self.old.place ≡ Place.Ready }
         requires room { deque_len self.old.later < deque_capacity self.old.later }
-        ensures steps { AnswersArm truth
-            (arm_walk arm (around self.old) (arms_walk arms.items (around self.old) (walk_all (shown_statements other) (around self.old))) (known_in self.old.kept.scene))
-            (after_arm arm (around self.old) (arms_walk arms.items (around self.old) (walk_all (shown_statements other) (around self.old))) truth (known_in self.old.kept.scene))
-            result (from self.new) }
-        ensures falls { Falls result (2 + (arm_weight arm + (arm_list_weight arms.items + all_weight (shown_statements other))) + around_weight self.old) (run_weight self.new) }
-        ensures time { when_of self.new.kept.scene ≡ when_of self.old.kept.scene }
-        ensures waits { (started : ℕ) → WaitsBelow started self.new.place }
-        ensures rests { Rests result self.new.place }
+        ensures { (before after : MachineView) → JudgesOn self.old.kept.scene (out-Arm arm).test before truth after
+            → StepsFrom (Place.Asking arm arms other) self.old before result after self.new }
     {
         match truth {
             Truth::True => self.go_in(arm, arms, other),
@@ -121,10 +93,7 @@ impl Run {
         requires ready { self.old.place ≡ Place.Ready }
         requires room { deque_len self.old.later < deque_capacity self.old.later }
         ensures goes_on { result ≡ None }
-        ensures walk { (other : Rest) (more : List Settled) → after_arm arm (around self.old) other Truth.True (known_in self.old.kept.scene) more ≡ from self.new more }
-        ensures weight { run_weight self.new ≡ arm_weight arm + around_weight self.old }
-        ensures ready { self.new.place ≡ Place.Ready }
-        ensures kept { self.new.kept ≡ self.old.kept }
+        ensures enters { Enters (out-Arm arm).body self.old self.new }
     {
         self.enter(arm.body);
         None
@@ -132,8 +101,7 @@ impl Run {
 
     /// The arms behind an arm come.
     fn pass_by(&mut self, _arm: Arm, arms: VecDeque<Arm>, other: StatementList) -> Option<Ran>
-        ensures goes_on { result ≡ None }
-        ensures place { self.new ≡ record self.old { place = Place.Testing arms other } }
+        ensures { MovesTo (Place.Testing arms other) self.old result self.new }
     {
         self.stand(Place::Testing { arms, other });
         None
@@ -147,8 +115,7 @@ impl Run {
         _other: StatementList,
         cause: Cause,
     ) -> Option<Ran>
-        ensures goes_on { result ≡ None }
-        ensures place { self.new ≡ record self.old { place = Place.Failed (out-Arm arm).line cause } }
+        ensures { MovesTo (Place.Failed (out-Arm arm).line cause) self.old result self.new }
     {
         self.fail(arm.line, cause)
     }
@@ -157,10 +124,7 @@ impl Run {
     fn enter(&mut self, body: StatementList)
         requires ready { self.old.place ≡ Place.Ready }
         requires room { deque_len self.old.later < deque_capacity self.old.later }
-        ensures walk { (more : List Settled) → walk_all (shown_statements body) (around self.old) (known_in self.old.kept.scene) more ≡ from self.new more }
-        ensures weight { run_weight self.new ≡ 2 + (all_weight (shown_statements body) + around_weight self.old) }
-        ensures ready { self.new.place ≡ Place.Ready }
-        ensures kept { self.new.kept ≡ self.old.kept }
+        ensures { Enters body self.old self.new }
     {
         // Proof: statements that were taken out of their list are walked through as the list is.
         statements_show_each();

@@ -1,7 +1,7 @@
 // Comparing the bytes that came for a file with what its line states.
-ghost use Rattle.std.specs.Prelude.{◌≡◌, IfOk};
+ghost use Rattle.std.specs.Prelude.{◌≡◌, length, IfOk, MatchResult};
 ghost use Rattle.hex.specs.Hex.{encode_lower};
-ghost use Rattle.script_run.specs.Fills.{Compares};
+ghost use Rattle.script_run.specs.OneStep.{Compares};
 
 use crate::Cause;
 use rel_lexer::Text;
@@ -11,13 +11,13 @@ use sha2::{Digest, Sha256};
 use std::alloc::{AllocError, Global};
 
 /// Why bytes aren't those of a file, if they aren't: their size is compared first, then their SHA-1 and then their SHA-256. The error
-/// is want of memory.
+/// is want of memory, which only digests take.
 pub(crate) fn mismatch(
     alloc: Global,
     fetch: &Prefetch,
     bytes: &[u8],
 ) -> Result<Option<Cause>, AllocError>
-    ensures { IfOk result (λ cause. Compares fetch.now bytes.now cause) }
+    ensures { MatchResult result (λ cause. Compares fetch.now bytes.now cause) (λ _. length bytes.now ≡ fetch.now.size) }
 {
     if bytes.len() as u64 != fetch.size {
         return Ok(Some(Cause::WrongSize {

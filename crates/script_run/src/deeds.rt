@@ -1,15 +1,11 @@
 // The steps of a line: its command is done, and its program is waited for.
-ghost use Rattle.std.specs.Prelude.{◌≡◌, ◌+◌, ◌<◌, ◌≤◌, ℕ, Bool, List, None, OnSome, Ok};
-ghost use Rattle.desk_base.specs.Moments.{IsMoment};
-ghost use Rattle.line_forms.specs.Numbers.{IsOffset};
+ghost use Rattle.std.specs.Prelude.{◌≡◌, ◌<◌, Ok, Err};
 ghost use Rattle.bf_world.specs.Answers.{HasMoment};
-ghost use Rattle.script_run.specs.Walks.{Settled, doing, awaiting, polling, after_act};
-ghost use Rattle.script_run.specs.LineWalks.{line_walk, setting};
-ghost use Rattle.script_run.specs.Machines.{MachineView, view};
-ghost use Rattle.script_run.specs.Asking.{When, when_of, known_in};
-ghost use Rattle.script_run.specs.RunPlaces.{WaitsBelow, around, from};
-ghost use Rattle.script_run.specs.Weights.{place_weight, around_weight, run_weight};
-ghost use Rattle.script_run.specs.Fills.{Breaks, Prepares, IsDated, StepsTo, Falls, Rests, LineSteps, StartsBelow, IsRestored};
+ghost use Rattle.bf_machine.specs.Views.{MachineView};
+ghost use Rattle.script_run.specs.Walks.{polling};
+ghost use Rattle.script_run.specs.RunPlaces.{around};
+ghost use Rattle.script_run.specs.Fills.{IsDated};
+ghost use Rattle.script_run.specs.OneStep.{StepsFrom, CarriesOut, FollowsAct};
 
 use crate::broken::Broken;
 use crate::lines::{Prepared, prepare_line};
@@ -30,19 +26,9 @@ impl Run {
         what: Line,
     ) -> Option<Ran>
         requires ready { self.old.place ≡ Place.Ready }
-        requires moment { IsMoment self.old.kept.scene.moment }
-        requires offset { IsOffset self.old.kept.scene.offset }
-        ensures steps { StepsTo (when_of self.old.kept.scene)
-            (view (M.world machine.old) (M.looked machine.old) (M.acted machine.old) (M.polled machine.old) (M.faults machine.old))
-            (line_walk line what (around self.old) (known_in self.old.kept.scene)) result
-            (view (M.world machine.new) (M.looked machine.new) (M.acted machine.new) (M.polled machine.new) (M.faults machine.new)) (from self.new) }
-        ensures falls { Falls result (3 + around_weight self.old) (run_weight self.new) }
-        ensures time { when_of self.new.kept.scene ≡ when_of self.old.kept.scene }
-        ensures waits { WaitsBelow (M.started machine.new) self.new.place }
-        ensures started { M.started machine.old ≤ M.started machine.new }
-        ensures rests { Rests result self.new.place }
+        ensures { StepsFrom (Place.Doing line what) self.old (M.told machine.old) result (M.told machine.new) self.new }
     {
-        match prepare_line(alloc, machine, &self.kept.scene, &what) {
+        match prepare_line(alloc, machine, &self.kept, &what) {
             Ok(prepared) => self.carry_out(alloc, machine, line, what, prepared),
             Err(broken) => self.break_off(line, what, broken),
         }
@@ -58,18 +44,8 @@ impl Run {
         prepared: Prepared,
     ) -> Option<Ran>
         requires ready { self.old.place ≡ Place.Ready }
-        requires moment { IsMoment self.old.kept.scene.moment }
         requires date { IsDated (Ok prepared) }
-        ensures steps { (before : MachineView) → Prepares (when_of self.old.kept.scene) line (known_in self.old.kept.scene) (around self.old) before
-            (line_walk line what (around self.old) (known_in self.old.kept.scene)) (Ok prepared)
-            (view (M.world machine.old) (M.looked machine.old) (M.acted machine.old) (M.polled machine.old) (M.faults machine.old))
-            → StepsTo (when_of self.old.kept.scene) before (line_walk line what (around self.old) (known_in self.old.kept.scene)) result
-            (view (M.world machine.new) (M.looked machine.new) (M.acted machine.new) (M.polled machine.new) (M.faults machine.new)) (from self.new) }
-        ensures falls { Falls result (3 + around_weight self.old) (run_weight self.new) }
-        ensures time { when_of self.new.kept.scene ≡ when_of self.old.kept.scene }
-        ensures waits { WaitsBelow (M.started machine.new) self.new.place }
-        ensures started { M.started machine.old ≤ M.started machine.new }
-        ensures rests { Rests result self.new.place }
+        ensures { CarriesOut line what self.old (Ok prepared) (M.told machine.old) result (M.told machine.new) self.new }
     {
         match prepared {
             Prepared::Passes => {
@@ -89,13 +65,7 @@ impl Run {
     /// A line isn't gone through.
     fn break_off(&mut self, line: u32, what: Line, broken: Broken) -> Option<Ran>
         requires ready { self.old.place ≡ Place.Ready }
-        ensures steps { (at : When) (before now : MachineView) → Breaks at line (known_in self.old.kept.scene) before
-            (line_walk line what (around self.old) (known_in self.old.kept.scene)) broken now
-            → StepsTo at before (line_walk line what (around self.old) (known_in self.old.kept.scene)) result now (from self.new) }
-        ensures falls { Falls result (3 + around_weight self.old) (run_weight self.new) }
-        ensures time { when_of self.new.kept.scene ≡ when_of self.old.kept.scene }
-        ensures waits { (started : ℕ) → WaitsBelow started self.new.place }
-        ensures rests { Rests result self.new.place }
+        ensures { (now : MachineView) → CarriesOut line what self.old (Err broken) now result now self.new }
     {
         match broken {
             Broken::Failed(cause) => {
@@ -112,12 +82,7 @@ impl Run {
     /// A parameter is set, unless it was set before.
     fn set(&mut self, alloc: Global, line: u32, what: Line, name: Text, value: Text) -> Option<Ran>
         requires ready { self.old.place ≡ Place.Ready }
-        ensures steps { (at : When) (machine : MachineView)
-            → LineSteps at machine (setting line name value (around self.old) (known_in self.old.kept.scene)) result machine (from self.new) }
-        ensures restored { OnSome result (IsRestored line what self.old self.new) }
-        ensures falls { Falls result (3 + around_weight self.old) (run_weight self.new) }
-        ensures time { when_of self.new.kept.scene ≡ when_of self.old.kept.scene }
-        ensures waits { (started : ℕ) → WaitsBelow started self.new.place }
+        ensures { (now : MachineView) → CarriesOut line what self.old (Ok (Prepared.Sets name value)) now result now self.new }
     {
         if self.kept.has(name.as_str()) {
             return self.fail(line, Cause::ParameterTwice);
@@ -140,17 +105,9 @@ impl Run {
         command: Command,
     ) -> Option<Ran>
         requires ready { self.old.place ≡ Place.Ready }
-        requires moment { IsMoment self.old.kept.scene.moment }
         requires date { HasMoment command }
-        ensures steps { (midway : Bool) → LineSteps (when_of self.old.kept.scene)
-            (view (M.world machine.old) (M.looked machine.old) (M.acted machine.old) (M.polled machine.old) (M.faults machine.old))
-            (doing line midway command (around self.old) (known_in self.old.kept.scene)) result
-            (view (M.world machine.new) (M.looked machine.new) (M.acted machine.new) (M.polled machine.new) (M.faults machine.new)) (from self.new) }
-        ensures restored { OnSome result (IsRestored line what self.old self.new) }
-        ensures falls { Falls result (3 + around_weight self.old) (run_weight self.new) }
-        ensures time { when_of self.new.kept.scene ≡ when_of self.old.kept.scene }
-        ensures waits { WaitsBelow (M.started machine.new) self.new.place }
-        ensures started { M.started machine.old ≤ M.started machine.new }
+        ensures { CarriesOut line what self.old (Ok (Prepared.Does command))
+            (M.told machine.old) result (M.told machine.new) self.new }
     {
         match machine.act(&command, self.kept.scene.moment) {
             Acted::Memory => {
@@ -164,11 +121,7 @@ impl Run {
     /// What a command was answered.
     pub(crate) fn acted(&mut self, line: u32, answer: Acted) -> Option<Ran>
         requires ready { self.old.place ≡ Place.Ready }
-        ensures goes_on { result ≡ None }
-        ensures walk { (more : List Settled) → after_act line (around self.old) (λ process. (around self.old)) answer (known_in self.old.kept.scene) more ≡ from self.new more }
-        ensures rest { self.new ≡ record self.old { place = self.new.place } }
-        ensures weight { place_weight self.new.place < 2 }
-        ensures waits { (started : ℕ) → WaitsBelow started self.new.place }
+        ensures { FollowsAct line 2 (λ process. around self.old) self.old answer result self.new }
     {
         match answer {
             Acted::Done | Acted::Started(_) => None,
@@ -187,17 +140,9 @@ impl Run {
         command: Command,
     ) -> Option<Ran>
         requires ready { self.old.place ≡ Place.Ready }
-        requires moment { IsMoment self.old.kept.scene.moment }
         requires date { HasMoment command }
-        ensures steps { (midway : Bool) → LineSteps (when_of self.old.kept.scene)
-            (view (M.world machine.old) (M.looked machine.old) (M.acted machine.old) (M.polled machine.old) (M.faults machine.old))
-            (awaiting line midway command (around self.old) (known_in self.old.kept.scene)) result
-            (view (M.world machine.new) (M.looked machine.new) (M.acted machine.new) (M.polled machine.new) (M.faults machine.new)) (from self.new) }
-        ensures restored { OnSome result (IsRestored line what self.old self.new) }
-        ensures falls { Falls result (3 + around_weight self.old) (run_weight self.new) }
-        ensures time { when_of self.new.kept.scene ≡ when_of self.old.kept.scene }
-        ensures waits { WaitsBelow (M.started machine.new) self.new.place }
-        ensures started { M.started machine.old ≤ M.started machine.new }
+        ensures { CarriesOut line what self.old (Ok (Prepared.Awaits command))
+            (M.told machine.old) result (M.told machine.new) self.new }
     {
         match machine.act(&command, self.kept.scene.moment) {
             Acted::Memory => {
@@ -211,12 +156,7 @@ impl Run {
     /// What a command was answered whose program is waited for.
     fn started(&mut self, line: u32, answer: Acted) -> Option<Ran>
         requires ready { self.old.place ≡ Place.Ready }
-        ensures goes_on { result ≡ None }
-        ensures walk { (more : List Settled)
-            → after_act line (around self.old) (λ process. polling line process (around self.old)) answer (known_in self.old.kept.scene) more ≡ from self.new more }
-        ensures rest { self.new ≡ record self.old { place = self.new.place } }
-        ensures weight { place_weight self.new.place < 3 }
-        ensures waits { (started : ℕ) → StartsBelow started answer → WaitsBelow started self.new.place }
+        ensures { FollowsAct line 3 (λ process. polling line process (around self.old)) self.old answer result self.new }
     {
         match answer {
             Acted::Done => None,
@@ -238,18 +178,8 @@ impl Run {
         process: ProcessNo,
     ) -> Option<Ran>
         requires ready { self.old.place ≡ Place.Ready }
-        requires moment { IsMoment self.old.kept.scene.moment }
-        requires offset { IsOffset self.old.kept.scene.offset }
-        requires started { process.0 < M.started machine.old }
-        ensures steps { StepsTo (when_of self.old.kept.scene)
-            (view (M.world machine.old) (M.looked machine.old) (M.acted machine.old) (M.polled machine.old) (M.faults machine.old))
-            (polling line process.0 (around self.old) (known_in self.old.kept.scene)) result
-            (view (M.world machine.new) (M.looked machine.new) (M.acted machine.new) (M.polled machine.new) (M.faults machine.new)) (from self.new) }
-        ensures falls { Falls result (2 + around_weight self.old) (run_weight self.new) }
-        ensures time { when_of self.new.kept.scene ≡ when_of self.old.kept.scene }
-        ensures waits { WaitsBelow (M.started machine.new) self.new.place }
-        ensures started { M.started machine.old ≤ M.started machine.new }
-        ensures rests { Rests result self.new.place }
+        requires started { process.0 < (M.told machine.old).started }
+        ensures { StepsFrom (Place.Waiting line process) self.old (M.told machine.old) result (M.told machine.new) self.new }
     {
         match machine.poll(process) {
             Polled::Running => {

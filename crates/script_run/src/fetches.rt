@@ -1,14 +1,7 @@
 // The steps of a prefetch line: its file is wanted, compared and placed.
-ghost use Rattle.std.specs.Prelude.{◌≡◌, ◌+◌, ◌≤◌, ℕ, false, List, Some, None};
-ghost use Rattle.desk_base.specs.Moments.{IsMoment};
-ghost use Rattle.line_forms.specs.Numbers.{IsOffset};
-ghost use Rattle.script_run.specs.Walks.{doing};
-ghost use Rattle.script_run.specs.LineWalks.{fetching, placing};
-ghost use Rattle.script_run.specs.Machines.{MachineView, view};
-ghost use Rattle.script_run.specs.Asking.{When, when_of, known_in};
-ghost use Rattle.script_run.specs.RunPlaces.{WaitsBelow, around, from};
-ghost use Rattle.script_run.specs.Weights.{around_weight, run_weight};
-ghost use Rattle.script_run.specs.Fills.{Again, StepsTo, Falls, Rests};
+ghost use Rattle.std.specs.Prelude.{◌≡◌, ℕ, List};
+ghost use Rattle.bf_machine.specs.Views.{MachineView};
+ghost use Rattle.script_run.specs.OneStep.{StepsFrom, MovesTo};
 
 use crate::compare::mismatch;
 use crate::place::Place;
@@ -23,12 +16,7 @@ impl Run {
     /// A file is wanted.
     pub(crate) fn want(&mut self, fetch: Prefetch) -> Option<Ran>
         requires ready { self.old.place ≡ Place.Ready }
-        ensures steps { (at : When) (machine : MachineView) → StepsTo at machine (fetching fetch (around self.old) (known_in self.old.kept.scene)) result machine (from self.new) }
-        ensures falls { Falls result (3 + around_weight self.old) (run_weight self.new) }
-        ensures time { when_of self.new.kept.scene ≡ when_of self.old.kept.scene }
-        ensures waits { (started : ℕ) → WaitsBelow started self.new.place }
-        ensures rests { Rests result self.new.place }
-        ensures again { (machine : MachineView) → Again (Some fetch.sha256) machine (fetching fetch (around self.old) (known_in self.old.kept.scene)) result machine (from self.new) }
+        ensures { (machine : MachineView) → StepsFrom (Place.Wanting fetch) self.old machine result machine self.new }
     {
         let ran = Ran::Wants(fetch.line, fetch.sha256);
         self.place = Place::Wanting { fetch };
@@ -38,11 +26,7 @@ impl Run {
     /// The bytes that came for a file are compared with what its line states.
     pub(crate) fn compare(&mut self, alloc: Global, fetch: Prefetch, bytes: Bytes) -> Option<Ran>
         requires ready { self.old.place ≡ Place.Ready }
-        ensures steps { (at : When) (machine : MachineView) → StepsTo at machine (placing fetch bytes (around self.old) (known_in self.old.kept.scene)) result machine (from self.new) }
-        ensures falls { Falls result (3 + around_weight self.old) (run_weight self.new) }
-        ensures time { when_of self.new.kept.scene ≡ when_of self.old.kept.scene }
-        ensures waits { (started : ℕ) → WaitsBelow started self.new.place }
-        ensures rests { Rests result self.new.place }
+        ensures { (machine : MachineView) → StepsFrom (Place.Supplied fetch bytes) self.old machine result machine self.new }
     {
         match mismatch(alloc, &fetch, bytes.as_slice()) {
             Ok(None) => self.matches(fetch, bytes),
@@ -56,8 +40,7 @@ impl Run {
 
     /// The bytes are those of the file.
     fn matches(&mut self, fetch: Prefetch, bytes: Bytes) -> Option<Ran>
-        ensures goes_on { result ≡ None }
-        ensures place { self.new ≡ record self.old { place = Place.Placing fetch.line fetch.name bytes } }
+        ensures { MovesTo (Place.Placing fetch.line fetch.name bytes) self.old result self.new }
     {
         self.stand(Place::Placing {
             line: fetch.line,
@@ -69,8 +52,7 @@ impl Run {
 
     /// They aren't, for this cause.
     fn differs(&mut self, fetch: Prefetch, _bytes: Bytes, cause: Cause) -> Option<Ran>
-        ensures goes_on { result ≡ None }
-        ensures place { self.new ≡ record self.old { place = Place.Failed fetch.line cause } }
+        ensures { MovesTo (Place.Failed fetch.line cause) self.old result self.new }
     {
         self.fail(fetch.line, cause)
     }
@@ -84,17 +66,7 @@ impl Run {
         bytes: Bytes,
     ) -> Option<Ran>
         requires ready { self.old.place ≡ Place.Ready }
-        requires moment { IsMoment self.old.kept.scene.moment }
-        requires offset { IsOffset self.old.kept.scene.offset }
-        ensures steps { StepsTo (when_of self.old.kept.scene)
-            (view (M.world machine.old) (M.looked machine.old) (M.acted machine.old) (M.polled machine.old) (M.faults machine.old))
-            (doing line false (Command.Place name bytes) (around self.old) (known_in self.old.kept.scene)) result
-            (view (M.world machine.new) (M.looked machine.new) (M.acted machine.new) (M.polled machine.new) (M.faults machine.new)) (from self.new) }
-        ensures falls { Falls result (2 + around_weight self.old) (run_weight self.new) }
-        ensures time { when_of self.new.kept.scene ≡ when_of self.old.kept.scene }
-        ensures waits { WaitsBelow (M.started machine.new) self.new.place }
-        ensures started { M.started machine.old ≤ M.started machine.new }
-        ensures rests { Rests result self.new.place }
+        ensures { StepsFrom (Place.Placing line name bytes) self.old (M.told machine.old) result (M.told machine.new) self.new }
     {
         let command = Command::Place(name, bytes);
         match machine.act(&command, self.kept.scene.moment) {

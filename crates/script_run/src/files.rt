@@ -1,20 +1,13 @@
 // What a line on files is to do, once its expressions are asked.
-ghost use Rattle.std.specs.Prelude.{◌≡◌, ℕ};
-ghost use Rattle.desk_base.specs.Moments.{IsMoment};
-ghost use Rattle.line_forms.specs.Numbers.{IsOffset};
 ghost use Rattle.script_text.specs.declared.line.Line.TheVariants as Line;
-ghost use Rattle.script_run.specs.Walks.{Rest};
-ghost use Rattle.script_run.specs.LineWalks.{line_walk};
-ghost use Rattle.script_run.specs.Machines.{view};
-ghost use Rattle.script_run.specs.Asking.{when_of, known_in};
-ghost use Rattle.script_run.specs.Fills.{Prepares, IsDated};
+ghost use Rattle.script_run.specs.Fills.{PreparesLine};
 
 use crate::broken::Broken;
 use crate::filling::{filled, lined, two};
+use crate::kept::Kept;
 use crate::lines::{Prepared, does};
 use bf_machine::{Command, Machine};
 use desk_base::Bytes;
-use rel_inspect::Scene;
 use rel_lexer::Text;
 use script_text::{Template, TemplateList};
 use std::alloc::Global;
@@ -23,20 +16,12 @@ use std::alloc::Global;
 pub(crate) fn creates<M: Machine>(
     alloc: Global,
     machine: &mut M,
-    scene: &Scene,
+    kept: &Kept,
     lines: &TemplateList,
 ) -> Result<Prepared, Broken>
-    requires moment { IsMoment scene.now.moment }
-    requires offset { IsOffset scene.now.offset }
-    ensures prepares { (line : ℕ) (rest : Rest)
-        → Prepares (when_of scene.now) line (known_in scene.now) rest
-        (view (M.world machine.old) (M.looked machine.old) (M.acted machine.old) (M.polled machine.old) (M.faults machine.old))
-        (line_walk line (Line.Create lines.now) rest (known_in scene.now)) result
-        (view (M.world machine.new) (M.looked machine.new) (M.acted machine.new) (M.polled machine.new) (M.faults machine.new)) }
-    ensures date { IsDated result }
-    ensures started { M.started machine.new ≡ M.started machine.old }
+    ensures { PreparesLine kept.now.scene (Line.Create lines.now) (M.told machine.old) result (M.told machine.new) }
 {
-    let text = lined(alloc, machine, scene, lines)?;
+    let text = lined(alloc, machine, kept, lines)?;
     let path = Text::from_str(alloc, "__createfile")?;
     let content = Bytes::from_slice(alloc, text.as_str().as_bytes())?;
     Ok(does(Command::Write(path, content)))
@@ -46,20 +31,12 @@ pub(crate) fn creates<M: Machine>(
 pub(crate) fn appends<M: Machine>(
     alloc: Global,
     machine: &mut M,
-    scene: &Scene,
+    kept: &Kept,
     template: &Template,
 ) -> Result<Prepared, Broken>
-    requires moment { IsMoment scene.now.moment }
-    requires offset { IsOffset scene.now.offset }
-    ensures prepares { (line : ℕ) (rest : Rest)
-        → Prepares (when_of scene.now) line (known_in scene.now) rest
-        (view (M.world machine.old) (M.looked machine.old) (M.acted machine.old) (M.polled machine.old) (M.faults machine.old))
-        (line_walk line (Line.Append template.now) rest (known_in scene.now)) result
-        (view (M.world machine.new) (M.looked machine.new) (M.acted machine.new) (M.polled machine.new) (M.faults machine.new)) }
-    ensures date { IsDated result }
-    ensures started { M.started machine.new ≡ M.started machine.old }
+    ensures { PreparesLine kept.now.scene (Line.Append template.now) (M.told machine.old) result (M.told machine.new) }
 {
-    let mut text = filled(alloc, machine, scene, template)?;
+    let mut text = filled(alloc, machine, kept, template)?;
     text.push("\n")?;
     let path = Text::from_str(alloc, "__appendfile")?;
     let content = Bytes::from_slice(alloc, text.as_str().as_bytes())?;
@@ -70,20 +47,12 @@ pub(crate) fn appends<M: Machine>(
 pub(crate) fn deletes<M: Machine>(
     alloc: Global,
     machine: &mut M,
-    scene: &Scene,
+    kept: &Kept,
     path: &Template,
 ) -> Result<Prepared, Broken>
-    requires moment { IsMoment scene.now.moment }
-    requires offset { IsOffset scene.now.offset }
-    ensures prepares { (line : ℕ) (rest : Rest)
-        → Prepares (when_of scene.now) line (known_in scene.now) rest
-        (view (M.world machine.old) (M.looked machine.old) (M.acted machine.old) (M.polled machine.old) (M.faults machine.old))
-        (line_walk line (Line.Delete path.now) rest (known_in scene.now)) result
-        (view (M.world machine.new) (M.looked machine.new) (M.acted machine.new) (M.polled machine.new) (M.faults machine.new)) }
-    ensures date { IsDated result }
-    ensures started { M.started machine.new ≡ M.started machine.old }
+    ensures { PreparesLine kept.now.scene (Line.Delete path.now) (M.told machine.old) result (M.told machine.new) }
 {
-    let path = filled(alloc, machine, scene, path)?;
+    let path = filled(alloc, machine, kept, path)?;
     Ok(does(Command::Delete(path)))
 }
 
@@ -91,20 +60,12 @@ pub(crate) fn deletes<M: Machine>(
 pub(crate) fn makes<M: Machine>(
     alloc: Global,
     machine: &mut M,
-    scene: &Scene,
+    kept: &Kept,
     path: &Template,
 ) -> Result<Prepared, Broken>
-    requires moment { IsMoment scene.now.moment }
-    requires offset { IsOffset scene.now.offset }
-    ensures prepares { (line : ℕ) (rest : Rest)
-        → Prepares (when_of scene.now) line (known_in scene.now) rest
-        (view (M.world machine.old) (M.looked machine.old) (M.acted machine.old) (M.polled machine.old) (M.faults machine.old))
-        (line_walk line (Line.FolderCreate path.now) rest (known_in scene.now)) result
-        (view (M.world machine.new) (M.looked machine.new) (M.acted machine.new) (M.polled machine.new) (M.faults machine.new)) }
-    ensures date { IsDated result }
-    ensures started { M.started machine.new ≡ M.started machine.old }
+    ensures { PreparesLine kept.now.scene (Line.FolderCreate path.now) (M.told machine.old) result (M.told machine.new) }
 {
-    let path = filled(alloc, machine, scene, path)?;
+    let path = filled(alloc, machine, kept, path)?;
     Ok(does(Command::MakeFolder(path)))
 }
 
@@ -112,20 +73,12 @@ pub(crate) fn makes<M: Machine>(
 pub(crate) fn removes<M: Machine>(
     alloc: Global,
     machine: &mut M,
-    scene: &Scene,
+    kept: &Kept,
     path: &Template,
 ) -> Result<Prepared, Broken>
-    requires moment { IsMoment scene.now.moment }
-    requires offset { IsOffset scene.now.offset }
-    ensures prepares { (line : ℕ) (rest : Rest)
-        → Prepares (when_of scene.now) line (known_in scene.now) rest
-        (view (M.world machine.old) (M.looked machine.old) (M.acted machine.old) (M.polled machine.old) (M.faults machine.old))
-        (line_walk line (Line.FolderDelete path.now) rest (known_in scene.now)) result
-        (view (M.world machine.new) (M.looked machine.new) (M.acted machine.new) (M.polled machine.new) (M.faults machine.new)) }
-    ensures date { IsDated result }
-    ensures started { M.started machine.new ≡ M.started machine.old }
+    ensures { PreparesLine kept.now.scene (Line.FolderDelete path.now) (M.told machine.old) result (M.told machine.new) }
 {
-    let path = filled(alloc, machine, scene, path)?;
+    let path = filled(alloc, machine, kept, path)?;
     Ok(does(Command::DropFolder(path)))
 }
 
@@ -133,21 +86,13 @@ pub(crate) fn removes<M: Machine>(
 pub(crate) fn copies<M: Machine>(
     alloc: Global,
     machine: &mut M,
-    scene: &Scene,
+    kept: &Kept,
     from: &Template,
     to: &Template,
 ) -> Result<Prepared, Broken>
-    requires moment { IsMoment scene.now.moment }
-    requires offset { IsOffset scene.now.offset }
-    ensures prepares { (line : ℕ) (rest : Rest)
-        → Prepares (when_of scene.now) line (known_in scene.now) rest
-        (view (M.world machine.old) (M.looked machine.old) (M.acted machine.old) (M.polled machine.old) (M.faults machine.old))
-        (line_walk line (Line.Copy from.now to.now) rest (known_in scene.now)) result
-        (view (M.world machine.new) (M.looked machine.new) (M.acted machine.new) (M.polled machine.new) (M.faults machine.new)) }
-    ensures date { IsDated result }
-    ensures started { M.started machine.new ≡ M.started machine.old }
+    ensures { PreparesLine kept.now.scene (Line.Copy from.now to.now) (M.told machine.old) result (M.told machine.new) }
 {
-    let both = two(alloc, machine, scene, from, to)?;
+    let both = two(alloc, machine, kept, from, to)?;
     Ok(does(Command::Copy(both.first, both.second)))
 }
 
@@ -155,20 +100,12 @@ pub(crate) fn copies<M: Machine>(
 pub(crate) fn moves<M: Machine>(
     alloc: Global,
     machine: &mut M,
-    scene: &Scene,
+    kept: &Kept,
     from: &Template,
     to: &Template,
 ) -> Result<Prepared, Broken>
-    requires moment { IsMoment scene.now.moment }
-    requires offset { IsOffset scene.now.offset }
-    ensures prepares { (line : ℕ) (rest : Rest)
-        → Prepares (when_of scene.now) line (known_in scene.now) rest
-        (view (M.world machine.old) (M.looked machine.old) (M.acted machine.old) (M.polled machine.old) (M.faults machine.old))
-        (line_walk line (Line.Move from.now to.now) rest (known_in scene.now)) result
-        (view (M.world machine.new) (M.looked machine.new) (M.acted machine.new) (M.polled machine.new) (M.faults machine.new)) }
-    ensures date { IsDated result }
-    ensures started { M.started machine.new ≡ M.started machine.old }
+    ensures { PreparesLine kept.now.scene (Line.Move from.now to.now) (M.told machine.old) result (M.told machine.new) }
 {
-    let both = two(alloc, machine, scene, from, to)?;
+    let both = two(alloc, machine, kept, from, to)?;
     Ok(does(Command::Move(both.first, both.second)))
 }

@@ -1,22 +1,17 @@
 // Filling the templates of a line.
-ghost use Rattle.std.specs.Prelude.{◌≡◌, ℕ, Bool, ℤ, List, [], ◌∷◌, ◌++◌, IfOk, MatchResult};
+ghost use Rattle.std.specs.Prelude.{◌≡◌, List, [], ◌∷◌, ◌++◌, IfOk, MatchResult};
 ghost use Rattle.desk_base.specs.Moments.{IsMoment};
-ghost use Rattle.line_forms.specs.Numbers.{IsOffset};
 ghost use Rattle.script_text.specs.declared.template.Part2.{Part2};
 ghost use Rattle.script_text.specs.declared.template.Template.{Template};
-ghost use Rattle.script_run.specs.Walks.{Rest, saying};
-ghost use Rattle.script_run.specs.LineWalks.{filling, filled, lining, dated};
-ghost use Rattle.script_run.specs.Machines.{view};
-ghost use Rattle.script_run.specs.Asking.{when_of, known_in};
-ghost use Rattle.script_run.specs.Fills.{Fills};
+ghost use Rattle.script_run.specs.Fills.{AsksText, FillsParts, FillsTemplate, FillsTwo, FillsLines, FillsFile, FillsDate};
 
 use crate::Cause;
 use crate::asking::say;
 use crate::broken::Broken;
+use crate::kept::Kept;
 use crate::times::time_of;
 use bf_machine::Machine;
 use rel_eval::OneText;
-use rel_inspect::Scene;
 use rel_lexer::Text;
 use script_text::{Part2, Template, TemplateList};
 use std::alloc::Global;
@@ -25,20 +20,12 @@ use std::alloc::Global;
 fn said<M: Machine>(
     alloc: Global,
     machine: &mut M,
-    scene: &Scene,
+    kept: &Kept,
     expression: &Text,
 ) -> Result<Text, Broken>
-    requires moment { IsMoment scene.now.moment }
-    requires offset { IsOffset scene.now.offset }
-    ensures fills { (line : ℕ) (midway : Bool) (rest : List ℕ → Rest)
-        → Fills (when_of scene.now) line (known_in scene.now)
-        (view (M.world machine.old) (M.looked machine.old) (M.acted machine.old) (M.polled machine.old) (M.faults machine.old))
-        (saying line midway expression.now rest (known_in scene.now)) result
-        (view (M.world machine.new) (M.looked machine.new) (M.acted machine.new) (M.polled machine.new) (M.faults machine.new))
-        (λ _ text. rest text (known_in scene.now)) }
-    ensures started { M.started machine.new ≡ M.started machine.old }
+    ensures { AsksText kept.now.scene expression.now (M.told machine.old) result (M.told machine.new) }
 {
-    match say(alloc, machine, scene, expression) {
+    match say(alloc, machine, kept, expression) {
         OneText::Text(text) => Ok(text),
         OneText::Error(kind, place) => Err(Broken::Failed(Cause::Relevance(kind, place))),
         OneText::Failed(_) => Err(Broken::Failed(Cause::MachineFault)),
@@ -50,24 +37,17 @@ fn said<M: Machine>(
 fn fill_part<M: Machine>(
     alloc: Global,
     machine: &mut M,
-    scene: &Scene,
+    kept: &Kept,
     part: &Part2,
     out: &mut Text,
 ) -> Result<(), Broken>
-    requires moment { IsMoment scene.now.moment }
-    requires offset { IsOffset scene.now.offset }
-    ensures fills { (line : ℕ) (midway : Bool) (parts : List Part2) (rest : Bool → List ℕ → Rest)
-        → Fills (when_of scene.now) line (known_in scene.now)
-        (view (M.world machine.old) (M.looked machine.old) (M.acted machine.old) (M.polled machine.old) (M.faults machine.old))
-        (filling line midway (part.now ∷ parts) out.old rest (known_in scene.now)) result
-        (view (M.world machine.new) (M.looked machine.new) (M.acted machine.new) (M.polled machine.new) (M.faults machine.new))
-        (λ midway _. filling line midway parts out.new rest (known_in scene.now)) }
-    ensures started { M.started machine.new ≡ M.started machine.old }
+    ensures { (parts : List Part2) → FillsParts kept.now.scene (part.now ∷ parts) parts out.old
+        (M.told machine.old) result (M.told machine.new) out.new }
 {
     match part {
         Part2::Plain(plain) => append(out, plain.as_str()),
         Part2::Expression(expression) => {
-            let text = said(alloc, machine, scene, expression)?;
+            let text = said(alloc, machine, kept, expression)?;
             append(out, text.as_str())
         }
     }
@@ -84,22 +64,14 @@ fn append(out: &mut Text, more: &str) -> Result<(), Broken>
 fn fill<M: Machine>(
     alloc: Global,
     machine: &mut M,
-    scene: &Scene,
+    kept: &Kept,
     template: &Template,
     out: &mut Text,
 ) -> Result<(), Broken>
-    requires moment { IsMoment scene.now.moment }
-    requires offset { IsOffset scene.now.offset }
-    ensures fills { (line : ℕ) (midway : Bool) (rest : Bool → List ℕ → Rest)
-        → Fills (when_of scene.now) line (known_in scene.now)
-        (view (M.world machine.old) (M.looked machine.old) (M.acted machine.old) (M.polled machine.old) (M.faults machine.old))
-        (filling line midway template.now.parts out.old rest (known_in scene.now)) result
-        (view (M.world machine.new) (M.looked machine.new) (M.acted machine.new) (M.polled machine.new) (M.faults machine.new))
-        (λ midway _. rest midway out.new (known_in scene.now)) }
-    ensures started { M.started machine.new ≡ M.started machine.old }
+    ensures { FillsParts kept.now.scene template.now.parts [] out.old (M.told machine.old) result (M.told machine.new) out.new }
 {
     for part in template.parts.as_slice() {
-        fill_part(alloc, machine, scene, part, out)?;
+        fill_part(alloc, machine, kept, part, out)?;
     }
     Ok(())
 }
@@ -108,21 +80,13 @@ fn fill<M: Machine>(
 pub(crate) fn filled<M: Machine>(
     alloc: Global,
     machine: &mut M,
-    scene: &Scene,
+    kept: &Kept,
     template: &Template,
 ) -> Result<Text, Broken>
-    requires moment { IsMoment scene.now.moment }
-    requires offset { IsOffset scene.now.offset }
-    ensures fills { (line : ℕ) (midway : Bool) (rest : Bool → List ℕ → Rest)
-        → Fills (when_of scene.now) line (known_in scene.now)
-        (view (M.world machine.old) (M.looked machine.old) (M.acted machine.old) (M.polled machine.old) (M.faults machine.old))
-        (filled line midway template.now rest (known_in scene.now)) result
-        (view (M.world machine.new) (M.looked machine.new) (M.acted machine.new) (M.polled machine.new) (M.faults machine.new))
-        (λ midway text. rest midway text (known_in scene.now)) }
-    ensures started { M.started machine.new ≡ M.started machine.old }
+    ensures { FillsTemplate kept.now.scene template.now (M.told machine.old) result (M.told machine.new) }
 {
     let mut text = Text::from_str(alloc, "")?;
-    fill(alloc, machine, scene, template, &mut text)?;
+    fill(alloc, machine, kept, template, &mut text)?;
     Ok(text)
 }
 
@@ -137,22 +101,14 @@ pub struct Both {
 pub(crate) fn two<M: Machine>(
     alloc: Global,
     machine: &mut M,
-    scene: &Scene,
+    kept: &Kept,
     first: &Template,
     second: &Template,
 ) -> Result<Both, Broken>
-    requires moment { IsMoment scene.now.moment }
-    requires offset { IsOffset scene.now.offset }
-    ensures fills { (line : ℕ) (midway : Bool) (rest : Bool → List ℕ → List ℕ → Rest)
-        → Fills (when_of scene.now) line (known_in scene.now)
-        (view (M.world machine.old) (M.looked machine.old) (M.acted machine.old) (M.polled machine.old) (M.faults machine.old))
-        (filled line midway first.now (λ midway first. filled line midway second.now (λ midway. rest midway first)) (known_in scene.now)) result
-        (view (M.world machine.new) (M.looked machine.new) (M.acted machine.new) (M.polled machine.new) (M.faults machine.new))
-        (λ midway both. rest midway both.first both.second (known_in scene.now)) }
-    ensures started { M.started machine.new ≡ M.started machine.old }
+    ensures { FillsTwo kept.now.scene first.now second.now (M.told machine.old) result (M.told machine.new) }
 {
-    let first = filled(alloc, machine, scene, first)?;
-    let second = filled(alloc, machine, scene, second)?;
+    let first = filled(alloc, machine, kept, first)?;
+    let second = filled(alloc, machine, kept, second)?;
     Ok(Both { first, second })
 }
 
@@ -160,21 +116,14 @@ pub(crate) fn two<M: Machine>(
 fn fill_line<M: Machine>(
     alloc: Global,
     machine: &mut M,
-    scene: &Scene,
+    kept: &Kept,
     template: &Template,
     out: &mut Text,
 ) -> Result<(), Broken>
-    requires moment { IsMoment scene.now.moment }
-    requires offset { IsOffset scene.now.offset }
-    ensures fills { (line : ℕ) (midway : Bool) (templates : List Template) (rest : Bool → List ℕ → Rest)
-        → Fills (when_of scene.now) line (known_in scene.now)
-        (view (M.world machine.old) (M.looked machine.old) (M.acted machine.old) (M.polled machine.old) (M.faults machine.old))
-        (lining line midway (template.now ∷ templates) out.old rest (known_in scene.now)) result
-        (view (M.world machine.new) (M.looked machine.new) (M.acted machine.new) (M.polled machine.new) (M.faults machine.new))
-        (λ midway _. lining line midway templates out.new rest (known_in scene.now)) }
-    ensures started { M.started machine.new ≡ M.started machine.old }
+    ensures { (templates : List Template) → FillsLines kept.now.scene (template.now ∷ templates) templates out.old
+        (M.told machine.old) result (M.told machine.new) out.new }
 {
-    fill(alloc, machine, scene, template, out)?;
+    fill(alloc, machine, kept, template, out)?;
     append(out, "\n")
 }
 
@@ -182,22 +131,14 @@ fn fill_line<M: Machine>(
 pub(crate) fn lined<M: Machine>(
     alloc: Global,
     machine: &mut M,
-    scene: &Scene,
+    kept: &Kept,
     templates: &TemplateList,
 ) -> Result<Text, Broken>
-    requires moment { IsMoment scene.now.moment }
-    requires offset { IsOffset scene.now.offset }
-    ensures fills { (line : ℕ) (midway : Bool) (rest : Bool → List ℕ → Rest)
-        → Fills (when_of scene.now) line (known_in scene.now)
-        (view (M.world machine.old) (M.looked machine.old) (M.acted machine.old) (M.polled machine.old) (M.faults machine.old))
-        (lining line midway templates.now [] rest (known_in scene.now)) result
-        (view (M.world machine.new) (M.looked machine.new) (M.acted machine.new) (M.polled machine.new) (M.faults machine.new))
-        (λ midway text. rest midway text (known_in scene.now)) }
-    ensures started { M.started machine.new ≡ M.started machine.old }
+    ensures { FillsFile kept.now.scene templates.now (M.told machine.old) result (M.told machine.new) }
 {
     let mut text = Text::from_str(alloc, "")?;
     for template in templates.as_slice() {
-        fill_line(alloc, machine, scene, template, &mut text)?;
+        fill_line(alloc, machine, kept, template, &mut text)?;
     }
     Ok(text)
 }
@@ -206,20 +147,12 @@ pub(crate) fn lined<M: Machine>(
 pub(crate) fn dated<M: Machine>(
     alloc: Global,
     machine: &mut M,
-    scene: &Scene,
+    kept: &Kept,
     template: &Template,
 ) -> Result<i64, Broken>
-    requires moment { IsMoment scene.now.moment }
-    requires offset { IsOffset scene.now.offset }
-    ensures fills { (line : ℕ) (midway : Bool) (rest : Bool → ℤ → Rest)
-        → Fills (when_of scene.now) line (known_in scene.now)
-        (view (M.world machine.old) (M.looked machine.old) (M.acted machine.old) (M.polled machine.old) (M.faults machine.old))
-        (dated line midway template.now rest (known_in scene.now)) result
-        (view (M.world machine.new) (M.looked machine.new) (M.acted machine.new) (M.polled machine.new) (M.faults machine.new))
-        (λ midway moment. rest midway moment (known_in scene.now)) }
+    ensures dates { FillsDate kept.now.scene template.now (M.told machine.old) result (M.told machine.new) }
     ensures moment { IfOk result IsMoment }
-    ensures started { M.started machine.new ≡ M.started machine.old }
 {
-    let text = filled(alloc, machine, scene, template)?;
+    let text = filled(alloc, machine, kept, template)?;
     time_of(alloc, text)
 }

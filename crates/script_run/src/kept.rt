@@ -1,4 +1,6 @@
 ghost use Rattle.std.specs.Prelude.{◌≡◌, pos, [], ◌∷◌, ◌++◌, None, Some, is_some, IfOk, OnOk, OnErr};
+ghost use Rattle.desk_base.specs.Moments.{IsMoment};
+ghost use Rattle.line_forms.specs.Numbers.{IsOffset};
 ghost use Rattle.rel_sources.specs.Scenes.{value_of};
 ghost use Rattle.script_run.specs.Parameters.{Names};
 
@@ -14,12 +16,15 @@ pub struct Kept {
     /// The names of the parameters.
     names: BTreeSet<String>,
     ghost named: { Names names scene.parameters },
+    ghost moment: { IsMoment scene.moment },
+    ghost offset: { IsOffset scene.offset },
 }
 
 impl Kept {
     /// These parameters and no exit code. The error is want of memory.
     pub(crate) fn new(alloc: Global, parameters: Pairs) -> Result<Kept, AllocError>
-        ensures { IfOk result (λ kept. kept.scene ≡ record { moment = pos 0; offset = pos 0; parameters = parameters; exit = None }) }
+        ensures { IfOk result (λ kept. kept.scene
+            ≡ record { moment = pos 0; offset = pos 0; parameters = parameters; exit = None }) }
     {
         let names = names_of(alloc, &parameters)?;
         let scene = Scene {
@@ -40,6 +45,8 @@ impl Kept {
 
     /// When the script goes on: the moment, and the offset in minutes east of UTC.
     pub(crate) fn set_time(&mut self, moment: i64, offset: i64)
+        requires moment { IsMoment moment }
+        requires offset { IsOffset offset }
         ensures { self.new.scene ≡ record self.old.scene { moment = moment; offset = offset } }
     {
         self.scene.moment = moment;
@@ -56,7 +63,8 @@ impl Kept {
     /// A parameter has this value from then on. The error is want of memory, and nothing is changed.
     pub(crate) fn add(&mut self, alloc: Global, name: Text, value: Text) -> Result<(), AllocError>
         requires { value_of name self.old.scene.parameters ≡ None }
-        ensures ok { OnOk result (self.new.scene ≡ record self.old.scene { parameters = self.old.scene.parameters ++ record { name = name; value = value } ∷ [] }) }
+        ensures ok { OnOk result (self.new.scene
+            ≡ record self.old.scene { parameters = self.old.scene.parameters ++ record { name = name; value = value } ∷ [] }) }
         ensures err { OnErr result (self.new.scene ≡ self.old.scene) }
     {
         let kept = name.copy()?;

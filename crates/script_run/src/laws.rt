@@ -1,7 +1,8 @@
 // What holds of every run.
 ghost use Rattle.std.specs.Prelude.{◌≡◌, ◌++◌, ◌∷◌, ◌⊎◌, ◌↔◌, ℕ, Bool, true, false, IsTrue, List, [], Option, Some, None};
-ghost use Rattle.bf_world.specs.Worlds.{WorldState};
 ghost use Rattle.desk_base.specs.Counts.{Rose};
+ghost use Rattle.bf_world.specs.Worlds.{WorldState};
+ghost use Rattle.bf_machine.specs.Views.{MachineView};
 ghost use Rattle.rel_sources.specs.declared.pair.Pair.{Pair};
 ghost use Rattle.script_text.specs.Scripts.{PlainScript};
 ghost use Rattle.script_run.specs.declared.cause.Cause.TheVariants.{MachineFault};
@@ -10,7 +11,6 @@ ghost use Rattle.script_run.specs.declared.ran.Ran.TheVariants as of_run;
 ghost use Rattle.script_run.specs.declared.run.Run.{Run};
 ghost use Rattle.script_run.specs.Walks.{Settled, supplied, faults_in, Fails};
 ghost use Rattle.script_run.specs.ScriptWalks.{next, after, commands, commands_in};
-ghost use Rattle.script_run.specs.Machines.{MachineView};
 ghost use Rattle.script_run.specs.Asking.{When};
 ghost use Rattle.script_run.specs.RunPlaces.{Stands, wanted_at};
 ghost use Rattle.script_run.specs.Advances.{GoesOn, wanted_by};

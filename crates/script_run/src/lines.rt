@@ -1,21 +1,15 @@
 // What one line is to do, once its expressions or its test are asked.
-ghost use Rattle.std.specs.Prelude.{◌≡◌, ℕ};
-ghost use Rattle.desk_base.specs.Moments.{IsMoment};
-ghost use Rattle.line_forms.specs.Numbers.{IsOffset};
-ghost use Rattle.script_run.specs.Walks.{Rest};
-ghost use Rattle.script_run.specs.LineWalks.{line_walk};
-ghost use Rattle.script_run.specs.Machines.{view};
-ghost use Rattle.script_run.specs.Asking.{when_of, known_in};
-ghost use Rattle.script_run.specs.Fills.{Prepares, IsDated, start_line, await_line};
+ghost use Rattle.std.specs.Prelude.{◌≡◌};
+ghost use Rattle.script_run.specs.Fills.{PreparesLine, start_line, await_line};
 
 use crate::Cause;
 use crate::asking::judge;
 use crate::broken::Broken;
 use crate::files::{appends, copies, creates, deletes, makes, moves, removes};
 use crate::filling::{dated, filled, two};
+use crate::kept::Kept;
 use bf_machine::{Command, Machine};
 use rel_eval::Truth;
-use rel_inspect::Scene;
 use rel_lexer::Text;
 use script_text::{Line, Template};
 use std::alloc::Global;
@@ -39,36 +33,28 @@ pub enum Prepared {
 pub(crate) fn prepare_line<M: Machine>(
     alloc: Global,
     machine: &mut M,
-    scene: &Scene,
+    kept: &Kept,
     what: &Line,
 ) -> Result<Prepared, Broken>
-    requires moment { IsMoment scene.now.moment }
-    requires offset { IsOffset scene.now.offset }
-    ensures prepares { (line : ℕ) (rest : Rest)
-        → Prepares (when_of scene.now) line (known_in scene.now) rest
-        (view (M.world machine.old) (M.looked machine.old) (M.acted machine.old) (M.polled machine.old) (M.faults machine.old))
-        (line_walk line what.now rest (known_in scene.now)) result
-        (view (M.world machine.new) (M.looked machine.new) (M.acted machine.new) (M.polled machine.new) (M.faults machine.new)) }
-    ensures date { IsDated result }
-    ensures started { M.started machine.new ≡ M.started machine.old }
+    ensures { PreparesLine kept.now.scene what.now (M.told machine.old) result (M.told machine.new) }
 {
     match what {
-        Line::Parameter(name, value) => sets(alloc, machine, scene, name, value),
-        Line::ContinueIf(test) => continues(alloc, machine, scene, test),
-        Line::PauseWhile(test) => pauses(alloc, machine, scene, test),
-        Line::Create(lines) => creates(alloc, machine, scene, lines),
-        Line::Append(text) => appends(alloc, machine, scene, text),
-        Line::Delete(path) => deletes(alloc, machine, scene, path),
-        Line::Copy(from, to) => copies(alloc, machine, scene, from, to),
-        Line::Move(from, to) => moves(alloc, machine, scene, from, to),
-        Line::FolderCreate(path) => makes(alloc, machine, scene, path),
-        Line::FolderDelete(path) => removes(alloc, machine, scene, path),
-        Line::Run(line) => starts(alloc, machine, scene, line, false),
-        Line::Wait(line) => awaits(alloc, machine, scene, line, false),
-        Line::RunHidden(line) => starts(alloc, machine, scene, line, true),
-        Line::WaitHidden(line) => awaits(alloc, machine, scene, line, true),
-        Line::Setting(name, value, date) => puts(alloc, machine, scene, name, value, date),
-        Line::SettingDelete(name, date) => drops(alloc, machine, scene, name, date),
+        Line::Parameter(name, value) => sets(alloc, machine, kept, name, value),
+        Line::ContinueIf(test) => continues(alloc, machine, kept, test),
+        Line::PauseWhile(test) => pauses(alloc, machine, kept, test),
+        Line::Create(lines) => creates(alloc, machine, kept, lines),
+        Line::Append(text) => appends(alloc, machine, kept, text),
+        Line::Delete(path) => deletes(alloc, machine, kept, path),
+        Line::Copy(from, to) => copies(alloc, machine, kept, from, to),
+        Line::Move(from, to) => moves(alloc, machine, kept, from, to),
+        Line::FolderCreate(path) => makes(alloc, machine, kept, path),
+        Line::FolderDelete(path) => removes(alloc, machine, kept, path),
+        Line::Run(line) => starts(alloc, machine, kept, line, false),
+        Line::Wait(line) => awaits(alloc, machine, kept, line, false),
+        Line::RunHidden(line) => starts(alloc, machine, kept, line, true),
+        Line::WaitHidden(line) => awaits(alloc, machine, kept, line, true),
+        Line::Setting(name, value, date) => puts(alloc, machine, kept, name, value, date),
+        Line::SettingDelete(name, date) => drops(alloc, machine, kept, name, date),
     }
 }
 
@@ -76,21 +62,13 @@ pub(crate) fn prepare_line<M: Machine>(
 fn sets<M: Machine>(
     alloc: Global,
     machine: &mut M,
-    scene: &Scene,
+    kept: &Kept,
     name: &Text,
     value: &Template,
 ) -> Result<Prepared, Broken>
-    requires moment { IsMoment scene.now.moment }
-    requires offset { IsOffset scene.now.offset }
-    ensures prepares { (line : ℕ) (rest : Rest)
-        → Prepares (when_of scene.now) line (known_in scene.now) rest
-        (view (M.world machine.old) (M.looked machine.old) (M.acted machine.old) (M.polled machine.old) (M.faults machine.old))
-        (line_walk line (Line.Parameter name.now value.now) rest (known_in scene.now)) result
-        (view (M.world machine.new) (M.looked machine.new) (M.acted machine.new) (M.polled machine.new) (M.faults machine.new)) }
-    ensures date { IsDated result }
-    ensures started { M.started machine.new ≡ M.started machine.old }
+    ensures { PreparesLine kept.now.scene (Line.Parameter name.now value.now) (M.told machine.old) result (M.told machine.new) }
 {
-    let value = filled(alloc, machine, scene, value)?;
+    let value = filled(alloc, machine, kept, value)?;
     let name = name.copy()?;
     Ok(Prepared::Sets { name, value })
 }
@@ -99,20 +77,12 @@ fn sets<M: Machine>(
 fn continues<M: Machine>(
     alloc: Global,
     machine: &mut M,
-    scene: &Scene,
+    kept: &Kept,
     test: &Text,
 ) -> Result<Prepared, Broken>
-    requires moment { IsMoment scene.now.moment }
-    requires offset { IsOffset scene.now.offset }
-    ensures prepares { (line : ℕ) (rest : Rest)
-        → Prepares (when_of scene.now) line (known_in scene.now) rest
-        (view (M.world machine.old) (M.looked machine.old) (M.acted machine.old) (M.polled machine.old) (M.faults machine.old))
-        (line_walk line (Line.ContinueIf test.now) rest (known_in scene.now)) result
-        (view (M.world machine.new) (M.looked machine.new) (M.acted machine.new) (M.polled machine.new) (M.faults machine.new)) }
-    ensures date { IsDated result }
-    ensures started { M.started machine.new ≡ M.started machine.old }
+    ensures { PreparesLine kept.now.scene (Line.ContinueIf test.now) (M.told machine.old) result (M.told machine.new) }
 {
-    match judge(alloc, machine, scene, test) {
+    match judge(alloc, machine, kept, test) {
         Truth::True => Ok(Prepared::Passes),
         Truth::False => Err(Broken::Failed(Cause::NotContinued)),
         Truth::Error(kind, place) => Err(Broken::Failed(Cause::Relevance(kind, place))),
@@ -125,20 +95,12 @@ fn continues<M: Machine>(
 fn pauses<M: Machine>(
     alloc: Global,
     machine: &mut M,
-    scene: &Scene,
+    kept: &Kept,
     test: &Text,
 ) -> Result<Prepared, Broken>
-    requires moment { IsMoment scene.now.moment }
-    requires offset { IsOffset scene.now.offset }
-    ensures prepares { (line : ℕ) (rest : Rest)
-        → Prepares (when_of scene.now) line (known_in scene.now) rest
-        (view (M.world machine.old) (M.looked machine.old) (M.acted machine.old) (M.polled machine.old) (M.faults machine.old))
-        (line_walk line (Line.PauseWhile test.now) rest (known_in scene.now)) result
-        (view (M.world machine.new) (M.looked machine.new) (M.acted machine.new) (M.polled machine.new) (M.faults machine.new)) }
-    ensures date { IsDated result }
-    ensures started { M.started machine.new ≡ M.started machine.old }
+    ensures { PreparesLine kept.now.scene (Line.PauseWhile test.now) (M.told machine.old) result (M.told machine.new) }
 {
-    match judge(alloc, machine, scene, test) {
+    match judge(alloc, machine, kept, test) {
         Truth::True => Ok(Prepared::Held),
         Truth::False => Ok(Prepared::Passes),
         Truth::Error(kind, place) => Err(Broken::Failed(Cause::Relevance(kind, place))),
@@ -151,21 +113,13 @@ fn pauses<M: Machine>(
 fn starts<M: Machine>(
     alloc: Global,
     machine: &mut M,
-    scene: &Scene,
+    kept: &Kept,
     command: &Template,
     hidden: bool,
 ) -> Result<Prepared, Broken>
-    requires moment { IsMoment scene.now.moment }
-    requires offset { IsOffset scene.now.offset }
-    ensures prepares { (line : ℕ) (rest : Rest)
-        → Prepares (when_of scene.now) line (known_in scene.now) rest
-        (view (M.world machine.old) (M.looked machine.old) (M.acted machine.old) (M.polled machine.old) (M.faults machine.old))
-        (line_walk line (start_line hidden command.now) rest (known_in scene.now)) result
-        (view (M.world machine.new) (M.looked machine.new) (M.acted machine.new) (M.polled machine.new) (M.faults machine.new)) }
-    ensures date { IsDated result }
-    ensures started { M.started machine.new ≡ M.started machine.old }
+    ensures { PreparesLine kept.now.scene (start_line hidden command.now) (M.told machine.old) result (M.told machine.new) }
 {
-    let line = filled(alloc, machine, scene, command)?;
+    let line = filled(alloc, machine, kept, command)?;
     Ok(does(Command::Start { line, hidden }))
 }
 
@@ -173,21 +127,13 @@ fn starts<M: Machine>(
 fn awaits<M: Machine>(
     alloc: Global,
     machine: &mut M,
-    scene: &Scene,
+    kept: &Kept,
     command: &Template,
     hidden: bool,
 ) -> Result<Prepared, Broken>
-    requires moment { IsMoment scene.now.moment }
-    requires offset { IsOffset scene.now.offset }
-    ensures prepares { (line : ℕ) (rest : Rest)
-        → Prepares (when_of scene.now) line (known_in scene.now) rest
-        (view (M.world machine.old) (M.looked machine.old) (M.acted machine.old) (M.polled machine.old) (M.faults machine.old))
-        (line_walk line (await_line hidden command.now) rest (known_in scene.now)) result
-        (view (M.world machine.new) (M.looked machine.new) (M.acted machine.new) (M.polled machine.new) (M.faults machine.new)) }
-    ensures date { IsDated result }
-    ensures started { M.started machine.new ≡ M.started machine.old }
+    ensures { PreparesLine kept.now.scene (await_line hidden command.now) (M.told machine.old) result (M.told machine.new) }
 {
-    let line = filled(alloc, machine, scene, command)?;
+    let line = filled(alloc, machine, kept, command)?;
     Ok(Prepared::Awaits {
         command: Command::Start { line, hidden },
     })
@@ -197,23 +143,16 @@ fn awaits<M: Machine>(
 fn puts<M: Machine>(
     alloc: Global,
     machine: &mut M,
-    scene: &Scene,
+    kept: &Kept,
     name: &Template,
     value: &Template,
     date: &Template,
 ) -> Result<Prepared, Broken>
-    requires moment { IsMoment scene.now.moment }
-    requires offset { IsOffset scene.now.offset }
-    ensures prepares { (line : ℕ) (rest : Rest)
-        → Prepares (when_of scene.now) line (known_in scene.now) rest
-        (view (M.world machine.old) (M.looked machine.old) (M.acted machine.old) (M.polled machine.old) (M.faults machine.old))
-        (line_walk line (Line.Setting name.now value.now date.now) rest (known_in scene.now)) result
-        (view (M.world machine.new) (M.looked machine.new) (M.acted machine.new) (M.polled machine.new) (M.faults machine.new)) }
-    ensures date { IsDated result }
-    ensures started { M.started machine.new ≡ M.started machine.old }
+    ensures { PreparesLine kept.now.scene (Line.Setting name.now value.now date.now)
+        (M.told machine.old) result (M.told machine.new) }
 {
-    let both = two(alloc, machine, scene, name, value)?;
-    let date = dated(alloc, machine, scene, date)?;
+    let both = two(alloc, machine, kept, name, value)?;
+    let date = dated(alloc, machine, kept, date)?;
     Ok(does(Command::Put {
         name: both.first,
         value: both.second,
@@ -225,22 +164,15 @@ fn puts<M: Machine>(
 fn drops<M: Machine>(
     alloc: Global,
     machine: &mut M,
-    scene: &Scene,
+    kept: &Kept,
     name: &Template,
     date: &Template,
 ) -> Result<Prepared, Broken>
-    requires moment { IsMoment scene.now.moment }
-    requires offset { IsOffset scene.now.offset }
-    ensures prepares { (line : ℕ) (rest : Rest)
-        → Prepares (when_of scene.now) line (known_in scene.now) rest
-        (view (M.world machine.old) (M.looked machine.old) (M.acted machine.old) (M.polled machine.old) (M.faults machine.old))
-        (line_walk line (Line.SettingDelete name.now date.now) rest (known_in scene.now)) result
-        (view (M.world machine.new) (M.looked machine.new) (M.acted machine.new) (M.polled machine.new) (M.faults machine.new)) }
-    ensures date { IsDated result }
-    ensures started { M.started machine.new ≡ M.started machine.old }
+    ensures { PreparesLine kept.now.scene (Line.SettingDelete name.now date.now)
+        (M.told machine.old) result (M.told machine.new) }
 {
-    let name = filled(alloc, machine, scene, name)?;
-    let date = dated(alloc, machine, scene, date)?;
+    let name = filled(alloc, machine, kept, name)?;
+    let date = dated(alloc, machine, kept, date)?;
     Ok(does(Command::Drop { name, date }))
 }
 

@@ -1,11 +1,10 @@
 // The steps of a run between its lines, and at its end.
-ghost use Rattle.std.specs.Prelude.{◌≡◌, ◌+◌, ℕ, None};
-ghost use Rattle.script_run.specs.Walks.{ending, failing};
-ghost use Rattle.script_run.specs.Machines.{MachineView};
-ghost use Rattle.script_run.specs.Asking.{When, when_of, known_in};
-ghost use Rattle.script_run.specs.RunPlaces.{WaitsBelow, around, todos_walk, from};
-ghost use Rattle.script_run.specs.Weights.{around_weight, run_weight};
-ghost use Rattle.script_run.specs.Fills.{StepsTo, Falls, Rests};
+ghost use Rattle.std.specs.Prelude.{◌≡◌, ◌+◌};
+ghost use Rattle.bf_machine.specs.Views.{MachineView};
+ghost use Rattle.script_run.specs.Asking.{when_of, known_in};
+ghost use Rattle.script_run.specs.RunPlaces.{todos_walk};
+ghost use Rattle.script_run.specs.Weights.{around_weight};
+ghost use Rattle.script_run.specs.OneStep.{Steps, StepsFrom, MovesTo};
 
 use crate::place::Place;
 use crate::{Cause, Ran, Run};
@@ -14,11 +13,7 @@ impl Run {
     /// The next prefetch line or statement begins; behind the last of a list the list around it goes on.
     pub(crate) fn begin(&mut self) -> Option<Ran>
         requires ready { self.old.place ≡ Place.Ready }
-        ensures steps { (at : When) (machine : MachineView) → StepsTo at machine ((around self.old) (known_in self.old.kept.scene)) result machine (from self.new) }
-        ensures falls { Falls result (1 + around_weight self.old) (run_weight self.new) }
-        ensures time { when_of self.new.kept.scene ≡ when_of self.old.kept.scene }
-        ensures waits { (started : ℕ) → WaitsBelow started self.new.place }
-        ensures rests { Rests result self.new.place }
+        ensures { (machine : MachineView) → StepsFrom Place.Ready self.old machine result machine self.new }
     {
         match self.current.begin() {
             Some(place) => {
@@ -32,12 +27,8 @@ impl Run {
     /// The list around the one at hand goes on.
     fn go_out(&mut self) -> Option<Ran>
         requires ready { self.old.place ≡ Place.Ready }
-        ensures steps { (at : When) (machine : MachineView)
-            → StepsTo at machine (todos_walk self.old.later.items (known_in self.old.kept.scene)) result machine (from self.new) }
-        ensures falls { Falls result (1 + around_weight self.old) (run_weight self.new) }
-        ensures time { when_of self.new.kept.scene ≡ when_of self.old.kept.scene }
-        ensures waits { (started : ℕ) → WaitsBelow started self.new.place }
-        ensures rests { Rests result self.new.place }
+        ensures { (machine : MachineView) → Steps (when_of self.old.kept.scene) machine
+            (todos_walk self.old.later.items (known_in self.old.kept.scene)) (1 + around_weight self.old) result machine self.new }
     {
         match self.later.pop_front() {
             Some(todo) => {
@@ -54,11 +45,7 @@ impl Run {
     /// All lines are done.
     pub(crate) fn end(&mut self) -> Option<Ran>
         requires ready { self.old.place ≡ Place.Ready }
-        ensures steps { (at : When) (machine : MachineView) → StepsTo at machine (ending (known_in self.old.kept.scene)) result machine (from self.new) }
-        ensures falls { Falls result (0 + around_weight self.old) (run_weight self.new) }
-        ensures time { when_of self.new.kept.scene ≡ when_of self.old.kept.scene }
-        ensures waits { (started : ℕ) → WaitsBelow started self.new.place }
-        ensures rests { Rests result self.new.place }
+        ensures { (machine : MachineView) → StepsFrom Place.Done self.old machine result machine self.new }
     {
         self.place = Place::Done;
         Some(Ran::Done)
@@ -73,8 +60,7 @@ impl Run {
 
     /// The line has failed.
     pub(crate) fn fail(&mut self, line: u32, cause: Cause) -> Option<Ran>
-        ensures goes_on { result ≡ None }
-        ensures place { self.new ≡ record self.old { place = Place.Failed line cause } }
+        ensures { MovesTo (Place.Failed line cause) self.old result self.new }
     {
         self.place = Place::Failed { line, cause };
         None
@@ -83,11 +69,7 @@ impl Run {
     /// The line has failed, and that is answered.
     pub(crate) fn tell(&mut self, line: u32, cause: Cause) -> Option<Ran>
         requires ready { self.old.place ≡ Place.Ready }
-        ensures steps { (at : When) (machine : MachineView) → StepsTo at machine (failing line cause (known_in self.old.kept.scene)) result machine (from self.new) }
-        ensures falls { Falls result (0 + around_weight self.old) (run_weight self.new) }
-        ensures time { when_of self.new.kept.scene ≡ when_of self.old.kept.scene }
-        ensures waits { (started : ℕ) → WaitsBelow started self.new.place }
-        ensures rests { Rests result self.new.place }
+        ensures { (machine : MachineView) → StepsFrom (Place.Failed line cause) self.old machine result machine self.new }
     {
         let told = cause.copy();
         self.place = Place::Failed { line, cause };

@@ -4,7 +4,7 @@ ghost use Rattle.script_run.specs.Walks.{Known, Settled, Rest};
 ghost use Rattle.script_run.specs.ScriptWalks.{walk};
 ghost use Rattle.script_run.specs.RunPlaces.{WaitsBelow, place_walk};
 ghost use Rattle.script_run.specs.Weights.{place_weight, weight};
-ghost use Rattle.script_run.specs.Fills.{BeginsAt};
+ghost use Rattle.script_run.specs.OneStep.{BeginsAt};
 
 use crate::place::Place;
 use script_text::{Prefetch, Statement, a_statement_shows_its_parts, arms_show_each};

@@ -1,6 +1,8 @@
 // The rows of scripts: what they answer, do and look up. Commands stand before looks.
 use crate::played::{long_is_done, machine, played};
+use crate::said::answer;
 use rel_lexer::Text;
+use script_run::{Cause, Ran};
 use std::alloc::Global;
 use std::mem::drop;
 
@@ -439,4 +441,27 @@ fn scripts_do_their_lines(rt: HostRuntime) {
 #[test]
 fn a_long_script_is_done_at_once(rt: HostRuntime) {
     assert_eq!(rt; long_script(rt.alloc()), Some((true, 10_000)));
+}
+
+/// Whether a copy of an answer says this.
+fn copy_says(alloc: Global, ran: &Ran, wanted: &str) -> Option<bool> {
+    let copy = ran.copy().ok()?;
+    let mut said = Text::from_str(alloc, "").ok()?;
+    let done = answer(alloc, &copy, &mut said);
+    drop(copy);
+    done.ok()?;
+    Some(said.as_str() == wanted)
+}
+
+#[test]
+fn an_answer_is_copied(rt: HostRuntime) {
+    let rows = [
+        (Ran::Done, "done "),
+        (Ran::Memory, "memory "),
+        (Ran::Held(3), "held 3 "),
+        (Ran::Failed(4, Cause::ParameterTwice), "failed 4 44 "),
+    ];
+    for (ran, wanted) in &rows {
+        assert_eq!(rt; copy_says(rt.alloc(), ran, *wanted), Some(true));
+    }
 }

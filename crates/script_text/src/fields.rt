@@ -22,7 +22,8 @@ pub(crate) fn field(text: &str) -> Result<(&str, &str), Refusal>
 
 /// What follows this word, in any ASCII case, where it is the field that the text begins with.
 pub(crate) fn word<'a>(word: &str, text: &'a str) -> Result<&'a str, Refusal>
-    ensures { MatchResult result (λ r. (item.word word.now).Takes text.now tt r.now) (λ e. NotTaken (item.word word.now) text.now e) }
+    ensures { MatchResult result (λ r. (item.word word.now).Takes text.now tt r.now)
+        (λ e. NotTaken (item.word word.now) text.now e) }
 {
     let (field, rest) = field(text)?;
     if !field.eq_ignore_ascii_case(word) {
@@ -63,7 +64,8 @@ pub(crate) fn equals(text: &str) -> Result<&str, Refusal>
 
 /// A name between double quotes, without braces and quotes, and what follows it.
 pub(crate) fn quoted_name(text: &str) -> Result<(&str, &str), Refusal>
-    ensures { MatchResult result (λ r. item.quoted_name.Takes text.now r.0.now r.1.now) (λ e. NotTaken item.quoted_name text.now e) }
+    ensures { MatchResult result (λ r. item.quoted_name.Takes text.now r.0.now r.1.now)
+        (λ e. NotTaken item.quoted_name text.now e) }
 {
     let Some(inner) = after(b'"', text) else {
         return Err(Refusal::NoCommand);
@@ -100,7 +102,8 @@ pub(crate) fn ended(text: &str) -> Result<(), Refusal>
 
 /// A field that is a name.
 pub(crate) fn name_field(text: &str) -> Result<(&str, &str), Refusal>
-    ensures { MatchResult result (λ r. item.name_field.Takes text.now r.0.now r.1.now) (λ e. NotTaken item.name_field text.now e) }
+    ensures { MatchResult result (λ r. item.name_field.Takes text.now r.0.now r.1.now)
+        (λ e. NotTaken item.name_field text.now e) }
 {
     let (field, rest) = field(text)?;
     match read_name(field.as_bytes()) {

@@ -75,7 +75,8 @@ fn read_bare(command: Command, text: &str) -> Result<Command, Refusal>
 
 /// ` {E}`
 fn read_test(alloc: Global, text: &str) -> Result<Text, Refusal>
-    ensures { (make : List ℕ → Command) → MatchResult result (λ r. test_form make text.now (reads (make r))) (λ e. NotOfForm (test_form make) text.now e) }
+    ensures { (make : List ℕ → Command) → MatchResult result (λ r. test_form make text.now (reads (make r)))
+        (λ e. NotOfForm (test_form make) text.now e) }
 {
     let (test, rest) = braced(gap(text)?)?;
     ended(rest)?;
@@ -84,21 +85,24 @@ fn read_test(alloc: Global, text: &str) -> Result<Text, Refusal>
 
 /// ` REST`
 fn read_rest(alloc: Global, text: &str) -> Result<Template, Refusal>
-    ensures { (make : Template → Command) → MatchResult result (λ r. rest_form make text.now (reads (make r))) (λ e. NotOfForm (rest_form make) text.now e) }
+    ensures { (make : Template → Command) → MatchResult result (λ r. rest_form make text.now (reads (make r)))
+        (λ e. NotOfForm (rest_form make) text.now e) }
 {
     rest_of_line(alloc, gap(text)?)
 }
 
 /// ` P`
 fn read_path(alloc: Global, text: &str) -> Result<Template, Refusal>
-    ensures { (make : Template → Command) → MatchResult result (λ r. path_form make text.now (reads (make r))) (λ e. NotOfForm (path_form make) text.now e) }
+    ensures { (make : Template → Command) → MatchResult result (λ r. path_form make text.now (reads (make r)))
+        (λ e. NotOfForm (path_form make) text.now e) }
 {
     path_of_line(alloc, gap(text)?)
 }
 
 /// ` Q Q`
 fn read_pair(alloc: Global, text: &str) -> Result<(Template, Template), Refusal>
-    ensures { (make : Template → Template → Command) → MatchResult result (λ r. pair_form make text.now (reads (make r.0 r.1))) (λ e. NotOfForm (pair_form make) text.now e) }
+    ensures { (make : Template → Template → Command)
+        → MatchResult result (λ r. pair_form make text.now (reads (make r.0 r.1))) (λ e. NotOfForm (pair_form make) text.now e) }
 {
     let (first, rest) = quoted(alloc, gap(text)?)?;
     let (second, rest) = quoted(alloc, gap(rest)?)?;
@@ -108,7 +112,8 @@ fn read_pair(alloc: Global, text: &str) -> Result<(Template, Template), Refusal>
 
 /// ` WORD`
 fn read_until(alloc: Global, text: &str) -> Result<Text, Refusal>
-    ensures { (make : List ℕ → Command) → MatchResult result (λ r. until_form make text.now (reads (make r))) (λ e. NotOfForm (until_form make) text.now e) }
+    ensures { (make : List ℕ → Command) → MatchResult result (λ r. until_form make text.now (reads (make r)))
+        (λ e. NotOfForm (until_form make) text.now e) }
 {
     let (word, rest) = field(gap(text)?)?;
     ended(rest)?;
@@ -139,7 +144,8 @@ fn read_setting(alloc: Global, text: &str) -> Result<Command, Refusal>
 
 /// ` Q on Q for client`
 fn read_setting_delete(alloc: Global, text: &str) -> Result<Command, Refusal>
-    ensures { MatchResult result (λ c. form the.SettingDelete text.now (reads c)) (λ e. NotOfForm (form the.SettingDelete) text.now e) }
+    ensures { MatchResult result (λ c. form the.SettingDelete text.now (reads c))
+        (λ e. NotOfForm (form the.SettingDelete) text.now e) }
 {
     let (name, rest) = quoted(alloc, gap(text)?)?;
     let date = read_date(alloc, rest)?;
@@ -161,7 +167,8 @@ fn read_date(alloc: Global, text: &str) -> Result<Template, Refusal>
 
 /// ` NAME sha1:HEX size:N URL sha256:HEX`
 fn read_prefetch(alloc: Global, text: &str) -> Result<Source, Refusal>
-    ensures { (make : Source → Command) → MatchResult result (λ r. prefetch_form make text.now (reads (make r))) (λ e. NotOfForm (prefetch_form make) text.now e) }
+    ensures { (make : Source → Command) → MatchResult result (λ r. prefetch_form make text.now (reads (make r)))
+        (λ e. NotOfForm (prefetch_form make) text.now e) }
 {
     let (name, rest) = name_field(gap(text)?)?;
     let (sha1, rest) = sha1_field(gap(rest)?)?;

@@ -124,7 +124,8 @@ impl Reader {
         command: Command,
     ) -> Result<Reader, ScriptError>
         ensures { (a : Around) (b : Block) → Stands (inside a b) self →
-            MatchResult result (λ r. ExtendsBy (inside a b) (at number (is_command command)) r) (λ e. Misplaces a number command e) }
+            MatchResult result (λ r. ExtendsBy (inside a b) (at number (is_command command)) r)
+            (λ e. Misplaces a number command e) }
     {
         match command {
             Command::Nothing => Ok(self),
@@ -157,7 +158,8 @@ impl Reader {
 
     fn with_if(self, alloc: Global, number: u32, test: Text) -> Result<Reader, ScriptError>
         ensures { (a : Around) (b : Block) → Stands (inside a b) self →
-            MatchResult result (λ r. ExtendsBy (inside a b) (at number (is_command (If test))) r) (λ e. Misplaces a number (If test) e) }
+            MatchResult result (λ r. ExtendsBy (inside a b) (at number (is_command (If test))) r)
+            (λ e. Misplaces a number (If test) e) }
     {
         let Reader {
             prefetches,

@@ -104,7 +104,8 @@ impl StatementList {
     }
 
     pub(crate) fn push(&mut self, statement: Statement) -> Result<(), AllocError>
-        ensures { IfOk result (λ _. shown_statements self.new ≡ more_statements (shown_statements self.old) (shown_statement statement)) }
+        ensures { IfOk result (λ _. shown_statements self.new
+            ≡ more_statements (shown_statements self.old) (shown_statement statement)) }
     {
         self.items.push(statement)?;
         Ok(())
@@ -153,7 +154,8 @@ impl ArmList {
     }
 
     pub(crate) fn push(&mut self, arm: Arm) -> Result<(), AllocError>
-        ensures { IfOk result (λ _. shown_arms self.new ≡ more_arms (shown_arms self.old) (shown_arm arm).line (shown_arm arm).test (shown_arm arm).body) }
+        ensures { IfOk result (λ _. shown_arms self.new
+            ≡ more_arms (shown_arms self.old) (shown_arm arm).line (shown_arm arm).test (shown_arm arm).body) }
     {
         self.items.push(arm)?;
         Ok(())

@@ -1,11 +1,12 @@
 -- A request and its reply.
-use Rattle.std.proofs.Common.{◌≡◌, ℕ, List, [], ◌∷◌, Bool, true, false, cond, Some, refl, sym, ap, ◌∙◌, subst}
+use Rattle.std.proofs.Common.{◌≡◌, ℕ, List, ◌∷◌, Bool, true, false, cond, Some, refl, sym, ap, ◌∙◌, subst, arith}
 use Rattle.std.specs.Prelude.{Ok, Err, IfOk}
 use Rattle.std.specs.declared.result.Result.{Result}
 use Rattle.std.specs.declared.option.Option.{Option}
 use Rattle.fix_site.specs.declared.site.Site.{Site}
 use Rattle.fix_site.specs.declared.action.Action.{Action}
 use Rattle.report_text.specs.declared.report.Report.{Report}
+use Rattle.desk_base.specs.Counts.{CountsFaults}
 use Rattle.desk_keep.specs.declared.change.Change.{Change}
 use Rattle.server_core.specs.declared.limits.Limits.{Limits}
 use Rattle.server_text.specs.declared.reply.Reply.{Reply}
@@ -15,10 +16,10 @@ use Rattle.server_text.specs.declared.request.Request.TheVariants as request
 use Rattle.server_core.specs.declared.stop.Stop.{Stop}
 use Rattle.server_text.specs.declared.text_error.TextError.{TextError}
 use Rattle.server_text.specs.declared.text_error.TextError.TheVariants as text
-use Rattle.desk_keep.specs.Calls.{IfTold}
+use Rattle.desk_keep.specs.Views.{KeeperView}
 use Rattle.server_core.specs.CallAnswers.{Answers, AreTables, TellsBad, after, is_accepted, is_fault}
 use Rattle.server_text.specs.Entries.{Asked, Bad, Enters, Entry, Issued, Published, Reported}
-use Rattle.server_core.specs.ServerParts.{AnswersEntry, AnswersRequest, IsUnread, is_plain}
+use Rattle.server_core.specs.ServerParts.{AnswersEntry, AnswersRequest, AnswersSoundly, IsUnread, Learns, Takes, is_plain}
 use Rattle.server_text.specs.RequestTexts.{Asks, ReadsIssued, ReadsPublished, ReadsReported, Tells}
 use Rattle.server_core.specs.Replies.{reply}
 use Rattle.server_core.specs.AcceptedTables.{view}
@@ -99,45 +100,56 @@ good_report text report reads = (Ok report, reads, refl)
 
 -- ---- results
 
-pub entry_result : (limits : Limits) (asked : Request) (entry : Entry) (result : Result Reply Stop) (old new : Option (List Change)) → Asks asked (Enters entry)
-    → IfOk result (λ reply. IfTold old (λ rows. AnswersEntry limits rows entry reply new)) → IfOk result (λ reply. AnswersRequest limits asked reply old new)
-entry_result limits asked entry (Ok reply) old new asks h = entry_answered limits asked entry reply old new asks h
-entry_result limits asked entry (Err stop) old new asks h = tt
+-- nothing failed
+pub none_failed : {failed : Type 0} (count : ℕ) → ¬ failed → CountsFaults failed count count
+none_failed count none = record { rose = λ is. absurd (none is); steady = λ _. refl; later = omega arith }
 
--- what is answered to a text that isn't read
-pub unread_answers : (limits : Limits) (asked : Request) (error : TextError) (result : Result Reply Stop) (old : Option (List Change)) → ((line : ℕ) → error ≡ text.BadText line → Asks asked (Bad line))
-    → IsUnread error result → IfOk result (λ reply. AnswersRequest limits asked reply old old)
+-- what came was taken
+pub takes_answers : (limits : Limits) (asked : Request) (entry : Entry) (old : KeeperView) (result : Result Reply Stop) (new : KeeperView) → Asks asked (Enters entry)
+    → Takes limits entry old result new → AnswersSoundly limits asked old result new
+takes_answers limits asked entry old (Ok reply) new asks takes = record {
+  sound = plain_sound reply takes.plain;
+  bad = plain_tells asked reply takes.plain;
+  answers = entry_answered limits asked entry reply old.rows new.rows asks takes.answers;
+  ends = takes.ends;
+}
+takes_answers limits asked entry old (Err stop) new asks takes = record { sound = tt; bad = tt; answers = tt; ends = takes.ends }
+
+-- a question, of which this is the reply over the rows
+pub learns_answers : (limits : Limits) (asked : Request) (question : Asked) (over : List Change → Reply) (old : KeeperView) (result : Result Reply Stop) (new : KeeperView) → Asks asked question
+    → ((accepted : List Entry) → after accepted limits question ≡ accepted) → ((accepted : List Entry) → over (view accepted) ≡ reply accepted limits question)
+    → IfOk result (λ reply. is_plain reply ≡ true) → Learns over old result new → AnswersSoundly limits asked old result new
+learns_answers limits asked question over old (Ok reply) new asks same is plain learns = record {
+  sound = plain_sound reply plain;
+  bad = plain_tells asked reply plain;
+  answers = question_answered limits asked question reply old.rows new.rows asks same learns.only.rows (λ accepted told. learns.is (view accepted) told ∙ is accepted);
+  ends = record { err = tt; counts = learns.only.counts };
+}
+learns_answers limits asked question over old (Err stop) new asks same is plain learns = record {
+  sound = tt;
+  bad = tt;
+  answers = tt;
+  ends = record { err = learns.only.rows; counts = learns.only.counts };
+}
+
+-- a text that isn't read
+pub unread_answers : (limits : Limits) (asked : Request) (error : TextError) (result : Result Reply Stop) (old : KeeperView) → ((line : ℕ) → error ≡ text.BadText line → Asks asked (Bad line))
+    → IsUnread error result → AnswersSoundly limits asked old result old
 unread_answers limits asked (text.BadText line) result old asks is =
-    let P : Result Reply Stop → Type 0 = λ r. IfOk r (λ reply. AnswersRequest limits asked reply old old) in
-    subst P (sym is) (question_answered limits asked (Bad line) (told.BadText line) old old (asks line refl) (λ accepted. refl) refl (λ accepted told. refl))
+    let P : Result Reply Stop → Type 0 = λ r. AnswersSoundly limits asked old r old in
+    subst P (sym is) (record {
+      sound = refl;
+      bad = asks line refl;
+      answers = question_answered limits asked (Bad line) (told.BadText line) old.rows old.rows (asks line refl) (λ accepted. refl) refl (λ accepted told. refl);
+      ends = record { err = tt; counts = none_failed old.faults (λ is. cc) };
+    })
 unread_answers limits asked text.Memory result old asks is =
-    let P : Result Reply Stop → Type 0 = λ r. IfOk r (λ reply. AnswersRequest limits asked reply old old) in
-    subst P (sym is) tt
-
-pub unread_tells : (asked : Request) (error : TextError) (result : Result Reply Stop) → ((line : ℕ) → error ≡ text.BadText line → Asks asked (Bad line)) → IsUnread error result → IfOk result (TellsBad asked)
-unread_tells asked (text.BadText line) result asks is =
-    let P : Result Reply Stop → Type 0 = λ r. IfOk r (TellsBad asked) in
-    subst P (sym is) (asks line refl)
-unread_tells asked text.Memory result asks is =
-    let P : Result Reply Stop → Type 0 = λ r. IfOk r (TellsBad asked) in
-    subst P (sym is) tt
+    let P : Result Reply Stop → Type 0 = λ r. AnswersSoundly limits asked old r old in
+    subst P (sym is) (record { sound = tt; bad = tt; answers = tt; ends = record { err = refl; counts = none_failed old.faults (λ is. cc) } })
 
 -- the line that was told of a text
 pub told_line : {V : Type 0} (Reads : Result V ℕ → Type 0) (error : TextError) → Tells Reads (Err error) → (line : ℕ) → error ≡ text.BadText line → Reads (Err line)
 told_line {V} Reads error tells line is = let P : TextError → Type 0 = λ e. Tells Reads (Err e) in subst P is tells
-
-pub stop_result : (limits : Limits) (asked : Request) (entry : Entry) (result : Result Reply Stop) (old new : Option (List Change)) → Asks asked (Enters entry)
-    → IfOk result (λ reply. IfTold old (λ rows. (l : Limits) → AnswersEntry l rows entry reply new)) → IfOk result (λ reply. AnswersRequest limits asked reply old new)
-stop_result limits asked entry (Ok reply) old new asks h = entry_answered limits asked entry reply old new asks (λ rows told. h rows told limits)
-stop_result limits asked entry (Err stop) old new asks h = tt
-
--- a question, of which this is the reply over the rows
-pub question_result : (limits : Limits) (asked : Request) (question : Asked) (over : List Change → Reply) (result : Result Reply Stop) (old new : Option (List Change)) → Asks asked question
-    → ((accepted : List Entry) → after accepted limits question ≡ accepted) → ((accepted : List Entry) → over (view accepted) ≡ reply accepted limits question) → new ≡ old
-    → IfOk result (λ reply. IfTold old (λ rows. reply ≡ over rows)) → IfOk result (λ reply. AnswersRequest limits asked reply old new)
-question_result limits asked question over (Ok reply) old new asks same is kept h =
-    question_answered limits asked question reply old new asks same kept (λ accepted told. h (view accepted) told ∙ is accepted)
-question_result limits asked question over (Err stop) old new asks same is kept h = tt
 
 -- ---- one call
 

@@ -1,6 +1,7 @@
 -- What calls answer, and what is accepted after them.
-use Rattle.std.specs.Prelude.{◌≡◌, Bool, true, false, if◌then◌else◌, List, [], ◌∷◌, Some, is_none}
+use Rattle.std.specs.Prelude.{◌≡◌, ℕ, Bool, true, false, if◌then◌else◌, List, [], ◌∷◌, Some, is_none}
 use Rattle.std.specs.declared.option.Option.{Option}
+use Rattle.desk_base.specs.Counts.{CountsFaults}
 use Rattle.desk_keep.specs.declared.change.Change.{Change}
 use Rattle.server_core.specs.declared.limits.Limits.{Limits}
 use Rattle.server_text.specs.declared.request.Request.{Request}
@@ -44,6 +45,12 @@ AnswersAll limits accepted [] [] last = last ≡ accepted
 AnswersAll limits accepted (request ∷ requests) (answered ∷ replies) last =
     (later : List Entry) × Answers limits accepted request answered later × AnswersAll limits later requests replies last
 AnswersAll limits accepted requests replies last = ⊥
+
+-- The count of faults over these replies in their order: it rose at each KeeperFault, and stayed at any other.
+abbrev pub CountsReplies : List Reply → ℕ → ℕ → Type 0
+CountsReplies [] old new = new ≡ old
+CountsReplies (answered ∷ replies) old new =
+    (mid : ℕ) × CountsFaults (answered ≡ KeeperFault) old mid × CountsReplies replies mid new
 
 -- the rows that are told are the tables of what is accepted
 abbrev pub AreTables : Option (List Change) → List Entry → Type 0

@@ -1,9 +1,12 @@
 -- What the parts of a server answer. Only private functions cite these definitions.
-use Rattle.std.specs.Prelude.{◌≡◌, Bool, true, false, if◌then◌else◌, List, Ok, Err, Some, is_none, unwrap_or}
+use Rattle.std.specs.Prelude.{◌≡◌, Bool, true, false, if◌then◌else◌, List, Ok, Err, Some, is_none, unwrap_or, IfOk, IsErrOf, OnErr}
 use Rattle.std.specs.declared.option.Option.{Option}
 use Rattle.std.specs.declared.result.Result.{Result}
+use Rattle.desk_base.specs.Counts.{CountsFaults}
 use Rattle.desk_keep.specs.declared.change.Change.{Change}
 use Rattle.desk_keep.specs.Tables.{put_all}
+use Rattle.desk_keep.specs.Views.{KeeperView}
+use Rattle.desk_keep.specs.Calls.{IfTold, OnlyReads}
 use Rattle.server_core.specs.declared.limits.Limits.{Limits}
 use Rattle.server_text.specs.declared.request.Request.{Request}
 use Rattle.server_text.specs.declared.reply.Reply.{Reply}
@@ -15,7 +18,7 @@ use Rattle.server_text.specs.declared.text_error.TextError.TheVariants as text
 use Rattle.server_text.specs.Entries.{Entry, Asked}
 use Rattle.server_text.specs.RequestTexts.{Asks}
 use Rattle.server_core.specs.Replies.{accepting_reply, reply, reply_to}
-use Rattle.server_core.specs.CallAnswers.{after}
+use Rattle.server_core.specs.CallAnswers.{after, is_fault, TellsBad}
 use Rattle.server_core.specs.AcceptedTables.{puts, view}
 
 -- what is answered to a text that isn't read
@@ -45,3 +48,29 @@ AnswersRequest limits request answered old new =
     (accepted : List Entry) → old ≡ Some (view accepted)
     → (asked : Asked) × Asks request asked × (answered ≡ reply accepted limits asked)
     × (new ≡ Some (view (after accepted limits asked)))
+
+-- This was learned of the rows that are told; nothing changed but the count of faults, which rose where a call of the keeper failed.
+pub record Learns {A : Type 0} (of : List Change → A) (old : KeeperView) (result : Result A Stop) (new : KeeperView)
+    : Type 0 where
+  pub is : IfOk result (λ answer. IfTold old.rows (λ rows. answer ≡ of rows))
+  pub only : OnlyReads (IsErrOf result stop.Keeper) old new
+
+-- What stopped left the rows; the count of faults rose where a call of the keeper failed.
+pub record KeepsAtStop {A : Type 0} (old : KeeperView) (result : Result A Stop) (new : KeeperView) : Type 0 where
+  pub err : OnErr result (new.rows ≡ old.rows)
+  pub counts : CountsFaults (IsErrOf result stop.Keeper) old.faults new.faults
+
+-- What came was answered over the rows that are told.
+pub record Takes (limits : Limits) (entry : Entry) (old : KeeperView) (result : Result Reply Stop) (new : KeeperView)
+    : Type 0 where
+  pub plain : IfOk result (λ reply. is_plain reply ≡ true)
+  pub answers : IfOk result (λ reply. IfTold old.rows (λ rows. AnswersEntry limits rows entry reply new.rows))
+  pub ends : KeepsAtStop old result new
+
+-- A request was answered, but for a fault or want of memory.
+pub record AnswersSoundly (limits : Limits) (request : Request) (old : KeeperView) (result : Result Reply Stop) (new : KeeperView)
+    : Type 0 where
+  pub sound : IfOk result (λ reply. is_fault reply ≡ false)
+  pub bad : IfOk result (TellsBad request)
+  pub answers : IfOk result (λ reply. AnswersRequest limits request reply old.rows new.rows)
+  pub ends : KeepsAtStop old result new

@@ -1,10 +1,8 @@
 // What is asked of the kept sites, files and results.
-ghost use Rattle.std.specs.Prelude.{◌≡◌, ◌≤◌, true, IfOk, IsErrOf};
-ghost use Rattle.desk_base.specs.Counts.{Rose};
-ghost use Rattle.desk_keep.specs.Calls.{IfTold};
+ghost use Rattle.std.specs.Prelude.{◌≡◌, true, IfOk};
 ghost use Rattle.server_core.specs.Replies.{file_reply, results_reply, site_reply, versions_reply};
 ghost use Rattle.server_core.specs.AcceptedTables.{file_at, site_at};
-ghost use Rattle.server_core.specs.ServerParts.{is_plain};
+ghost use Rattle.server_core.specs.ServerParts.{Learns, is_plain};
 
 use crate::looking::{actions_of, has_row, results_of, row_of, versions_of};
 use crate::stop::Stop;
@@ -16,10 +14,7 @@ use std::alloc::Global;
 /// The sites and their versions.
 pub(crate) fn ask_sites<K: Keeper>(alloc: Global, keeper: &mut K) -> Result<Reply, Stop>
     ensures plain { IfOk result (λ reply. is_plain reply ≡ true) }
-    ensures reply { IfOk result (λ reply. IfTold (K.rows keeper.old) (λ rows. reply ≡ versions_reply rows)) }
-    ensures kept { K.rows keeper.new ≡ K.rows keeper.old }
-    ensures later { K.faults keeper.old ≤ K.faults keeper.new }
-    ensures failed { IsErrOf result Stop.Keeper → Rose (K.faults keeper.old) (K.faults keeper.new) }
+    ensures learns { Learns versions_reply (K.told keeper.old) result (K.told keeper.new) }
 {
     let rows = versions_of(keeper)?;
     Ok(Reply::Sites(sites_in(alloc, rows.as_slice())?))
@@ -33,11 +28,8 @@ pub(crate) fn ask_site<K: Keeper>(
     version: u64,
 ) -> Result<Reply, Stop>
     ensures plain { IfOk result (λ reply. is_plain reply ≡ true) }
-    ensures reply { IfOk result (λ reply. IfTold (K.rows keeper.old)
-        (λ rows. reply ≡ site_reply rows version (site_at name.now rows))) }
-    ensures kept { K.rows keeper.new ≡ K.rows keeper.old }
-    ensures later { K.faults keeper.old ≤ K.faults keeper.new }
-    ensures failed { IsErrOf result Stop.Keeper → Rose (K.faults keeper.old) (K.faults keeper.new) }
+    ensures learns { Learns (λ rows. site_reply rows version (site_at name.now rows))
+        (K.told keeper.old) result (K.told keeper.new) }
 {
     let Some(
         Change::Site {
@@ -62,11 +54,7 @@ pub(crate) fn ask_site<K: Keeper>(
 /// The bytes of a file.
 pub(crate) fn ask_file<K: Keeper>(keeper: &mut K, digest: [u8; 32]) -> Result<Reply, Stop>
     ensures plain { IfOk result (λ reply. is_plain reply ≡ true) }
-    ensures reply { IfOk result (λ reply. IfTold (K.rows keeper.old)
-        (λ rows. reply ≡ file_reply (file_at digest rows))) }
-    ensures kept { K.rows keeper.new ≡ K.rows keeper.old }
-    ensures later { K.faults keeper.old ≤ K.faults keeper.new }
-    ensures failed { IsErrOf result Stop.Keeper → Rose (K.faults keeper.old) (K.faults keeper.new) }
+    ensures learns { Learns (λ rows. file_reply (file_at digest rows)) (K.told keeper.old) result (K.told keeper.new) }
 {
     match row_of(keeper, &Find::File(digest))? {
         Some(Change::File { bytes, .. }) => Ok(Reply::Content(bytes)),
@@ -81,11 +69,7 @@ pub(crate) fn ask_results<K: Keeper>(
     computer: &Text,
 ) -> Result<Reply, Stop>
     ensures plain { IfOk result (λ reply. is_plain reply ≡ true) }
-    ensures reply { IfOk result (λ reply. IfTold (K.rows keeper.old)
-        (λ rows. reply ≡ results_reply rows computer.now)) }
-    ensures kept { K.rows keeper.new ≡ K.rows keeper.old }
-    ensures later { K.faults keeper.old ≤ K.faults keeper.new }
-    ensures failed { IsErrOf result Stop.Keeper → Rose (K.faults keeper.old) (K.faults keeper.new) }
+    ensures learns { Learns (λ rows. results_reply rows computer.now) (K.told keeper.old) result (K.told keeper.new) }
 {
     if !has_row(keeper, &Find::Computer(computer.copy()?))? {
         return Ok(Reply::NoSuch);

@@ -1,9 +1,6 @@
 // Files.
-ghost use Rattle.std.specs.Prelude.{◌≡◌, ◌≤◌, true, IfOk, IsErrOf, OnErr};
-ghost use Rattle.desk_base.specs.Counts.{Rose};
-ghost use Rattle.desk_keep.specs.Calls.{IfTold};
 ghost use Rattle.server_text.specs.Entries.{Filed};
-ghost use Rattle.server_core.specs.ServerParts.{AnswersEntry, is_plain};
+ghost use Rattle.server_core.specs.ServerParts.{Takes};
 
 use crate::keeping::put;
 use crate::limits::Limits;
@@ -20,12 +17,7 @@ pub(crate) fn keep_file<K: Keeper>(
     limits: Limits,
     bytes: &Bytes,
 ) -> Result<Reply, Stop>
-    ensures plain { IfOk result (λ reply. is_plain reply ≡ true) }
-    ensures answers { IfOk result (λ reply. IfTold (K.rows keeper.old)
-        (λ rows. AnswersEntry limits rows (Filed bytes.now) reply (K.rows keeper.new))) }
-    ensures err { OnErr result (K.rows keeper.new ≡ K.rows keeper.old) }
-    ensures later { K.faults keeper.old ≤ K.faults keeper.new }
-    ensures failed { IsErrOf result Stop.Keeper → Rose (K.faults keeper.old) (K.faults keeper.new) }
+    ensures { Takes limits (Filed bytes.now) (K.told keeper.old) result (K.told keeper.new) }
 {
     let digest = Sha256::digest(bytes.as_slice());
     if has_row(keeper, &Find::File(digest))? {

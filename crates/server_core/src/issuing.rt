@@ -1,12 +1,11 @@
 // Actions that are issued and stopped.
-ghost use Rattle.std.specs.Prelude.{◌≡◌, ◌≤◌, [], ◌∷◌, true, IfOk, IfSome, IsErrOf, OnErr};
-ghost use Rattle.desk_base.specs.Counts.{Rose};
+ghost use Rattle.std.specs.Prelude.{◌≡◌, [], ◌∷◌, true, IfOk, IfSome};
 ghost use Rattle.fix_site.specs.Actions.{IsAction, action_text};
 ghost use Rattle.desk_keep.specs.Calls.{IfTold};
 ghost use Rattle.server_text.specs.Entries.{Issued, Stopped};
 ghost use Rattle.server_core.specs.declared.limits.Limits.{Limits};
 ghost use Rattle.server_core.specs.Replies.{first_of, full_of_actions, full_version, known_action, reply_to};
-ghost use Rattle.server_core.specs.ServerParts.{AnswersEntry, is_plain};
+ghost use Rattle.server_core.specs.ServerParts.{Learns, Takes, is_plain};
 
 use crate::keeping::{next_version, put, version_row};
 use crate::limits::Limits;
@@ -33,12 +32,7 @@ pub(crate) fn issue_action<K: Keeper>(
 ) -> Result<Reply, Stop>
     requires good { IsAction action.now }
     requires text { text.now ≡ action_text action.now }
-    ensures plain { IfOk result (λ reply. is_plain reply ≡ true) }
-    ensures answers { IfOk result (λ reply. IfTold (K.rows keeper.old)
-        (λ rows. AnswersEntry limits rows (Issued action.now) reply (K.rows keeper.new))) }
-    ensures err { OnErr result (K.rows keeper.new ≡ K.rows keeper.old) }
-    ensures later { K.faults keeper.old ≤ K.faults keeper.new }
-    ensures failed { IsErrOf result Stop.Keeper → Rose (K.faults keeper.old) (K.faults keeper.new) }
+    ensures { Takes limits (Issued action.now) (K.told keeper.old) result (K.told keeper.new) }
 {
     let Some(
         Change::Action {
@@ -63,14 +57,9 @@ fn issue_new_action<K: Keeper>(
 ) -> Result<Reply, Stop>
     requires good { IsAction action.now }
     requires text { text.now ≡ action_text action.now }
-    requires fresh { IfTold (K.rows keeper.old) (λ rows. reply_to limits rows (Issued action.now)
+    requires fresh { IfTold (K.told keeper.old).rows (λ rows. reply_to limits rows (Issued action.now)
         ≡ first_of (full_of_actions limits rows (action_text action.now) ∷ full_version rows ∷ [])) }
-    ensures plain { IfOk result (λ reply. is_plain reply ≡ true) }
-    ensures answers { IfOk result (λ reply. IfTold (K.rows keeper.old)
-        (λ rows. AnswersEntry limits rows (Issued action.now) reply (K.rows keeper.new))) }
-    ensures err { OnErr result (K.rows keeper.new ≡ K.rows keeper.old) }
-    ensures later { K.faults keeper.old ≤ K.faults keeper.new }
-    ensures failed { IsErrOf result Stop.Keeper → Rose (K.faults keeper.old) (K.faults keeper.new) }
+    ensures { Takes limits (Issued action.now) (K.told keeper.old) result (K.told keeper.new) }
 {
     if let Some(full) = full_of_actions(keeper, limits, text.as_slice())? {
         return Ok(full);
@@ -105,11 +94,7 @@ fn full_of_actions<K: Keeper>(
     text: &[u8],
 ) -> Result<Option<Reply>, Stop>
     ensures plain { IfOk result (λ reply. IfSome reply (λ reply. is_plain reply ≡ true)) }
-    ensures full { IfOk result (λ reply. IfTold (K.rows keeper.old)
-        (λ rows. reply ≡ full_of_actions limits rows text.now)) }
-    ensures kept { K.rows keeper.new ≡ K.rows keeper.old }
-    ensures later { K.faults keeper.old ≤ K.faults keeper.new }
-    ensures failed { IsErrOf result Stop.Keeper → Rose (K.faults keeper.old) (K.faults keeper.new) }
+    ensures learns { Learns (λ rows. full_of_actions limits rows text.now) (K.told keeper.old) result (K.told keeper.new) }
 {
     if limits.actions <= count_of(keeper, Table::Actions)? {
         return Ok(Some(Reply::Full(limits.actions)));
@@ -123,12 +108,7 @@ fn full_of_actions<K: Keeper>(
 
 /// Stops the action of this id, if there is one that isn't stopped.
 pub(crate) fn stop_action<K: Keeper>(alloc: Global, keeper: &mut K, id: u64) -> Result<Reply, Stop>
-    ensures plain { IfOk result (λ reply. is_plain reply ≡ true) }
-    ensures answers { IfOk result (λ reply. IfTold (K.rows keeper.old)
-        (λ rows. (limits : Limits) → AnswersEntry limits rows (Stopped id) reply (K.rows keeper.new))) }
-    ensures err { OnErr result (K.rows keeper.new ≡ K.rows keeper.old) }
-    ensures later { K.faults keeper.old ≤ K.faults keeper.new }
-    ensures failed { IsErrOf result Stop.Keeper → Rose (K.faults keeper.old) (K.faults keeper.new) }
+    ensures { (limits : Limits) → Takes limits (Stopped id) (K.told keeper.old) result (K.told keeper.new) }
 {
     let Some(Change::Action { id, text, digest }) = row_of(keeper, &Find::Action(id))? else {
         return Ok(Reply::NoSuch);

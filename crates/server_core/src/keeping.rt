@@ -1,11 +1,11 @@
 // What a server puts into its tables.
-ghost use Rattle.std.specs.Prelude.{◌≡◌, ◌≤◌, ◌+◌, ◌<◌, ◌^◌, All, Some, IfOk, IfSome, IfNone, IsErrOf, OnErr, OnOk};
-ghost use Rattle.desk_base.specs.Counts.{Rose};
+ghost use Rattle.std.specs.Prelude.{◌≡◌, ◌≤◌, ◌+◌, ◌<◌, ◌^◌, All, Some, IfOk, IfSome, IfNone, IsErrOf, OnOk};
 ghost use Rattle.line_forms.specs.Numbers.{IsId};
-ghost use Rattle.desk_keep.specs.Calls.{IfTold};
+ghost use Rattle.desk_keep.specs.Calls.{IfTold, OnlyReads};
 ghost use Rattle.desk_keep.specs.Forms.{Fits};
 ghost use Rattle.desk_keep.specs.Tables.{put_all};
 ghost use Rattle.server_core.specs.AcceptedTables.{actions_version, version_row};
+ghost use Rattle.server_core.specs.ServerParts.{KeepsAtStop};
 
 use crate::looking::actions_version;
 use crate::stop::Stop;
@@ -18,11 +18,9 @@ use std::alloc::{AllocError, Global};
 /// Puts rows, all of them or none.
 pub(crate) fn put<K: Keeper>(keeper: &mut K, batch: &[Change]) -> Result<(), Stop>
     requires { All Fits batch.now }
-    ensures ok { OnOk result (IfTold (K.rows keeper.old)
-        (λ rows. K.rows keeper.new ≡ Some (put_all batch.now rows))) }
-    ensures err { OnErr result (K.rows keeper.new ≡ K.rows keeper.old) }
-    ensures later { K.faults keeper.old ≤ K.faults keeper.new }
-    ensures failed { IsErrOf result Stop.Keeper → Rose (K.faults keeper.old) (K.faults keeper.new) }
+    ensures ok { OnOk result (IfTold (K.told keeper.old).rows
+        (λ rows. (K.told keeper.new).rows ≡ Some (put_all batch.now rows))) }
+    ensures ends { KeepsAtStop (K.told keeper.old) result (K.told keeper.new) }
 {
     match keeper.apply(batch) {
         Applied::Done => Ok(()),
@@ -33,14 +31,11 @@ pub(crate) fn put<K: Keeper>(keeper: &mut K, batch: &[Change]) -> Result<(), Sto
 
 /// The next version of `actionsite`, if there is one.
 pub(crate) fn next_version<K: Keeper>(alloc: Global, keeper: &mut K) -> Result<Option<u64>, Stop>
-    ensures kept { K.rows keeper.new ≡ K.rows keeper.old }
-    ensures later { K.faults keeper.old ≤ K.faults keeper.new }
-    ensures failed { IsErrOf result Stop.Keeper → Rose (K.faults keeper.old) (K.faults keeper.new) }
+    ensures only { OnlyReads (IsErrOf result Stop.Keeper) (K.told keeper.old) (K.told keeper.new) }
     ensures good { IfOk result (λ next. IfSome next IsId) }
-    ensures next { IfOk result (λ next. IfTold (K.rows keeper.old)
+    ensures next { IfOk result (λ next. IfTold (K.told keeper.old).rows
         (λ rows. IfSome next (λ version. (version ≡ actions_version rows + 1) × (actions_version rows < 2 ^ 53)))) }
-    ensures last { IfOk result (λ next. IfTold (K.rows keeper.old)
-        (λ rows. IfNone next (2 ^ 53 ≤ actions_version rows))) }
+    ensures last { IfOk result (λ next. IfTold (K.told keeper.old).rows (λ rows. IfNone next (2 ^ 53 ≤ actions_version rows))) }
 {
     let version = actions_version(alloc, keeper)?;
     if version >= LAST_ID {

@@ -1,12 +1,11 @@
 // What of the kept rows a request looks at.
-ghost use Rattle.std.specs.Prelude.{◌≡◌, ◌≤◌, IfOk, IfSome, IsErrOf, count_by, filter, is_some, map};
-ghost use Rattle.desk_base.specs.Counts.{Rose};
+ghost use Rattle.std.specs.Prelude.{◌≡◌, ◌↔◌, IfOk, IfSome, IsErrOf, count_by, filter, is_some, map};
 ghost use Rattle.desk_keep.specs.declared.table.Table.TheVariants.{Sites};
-ghost use Rattle.desk_keep.specs.Calls.{IfTold};
 ghost use Rattle.desk_keep.specs.Forms.{Fits};
 ghost use Rattle.desk_keep.specs.Keys.{asked_key, key_of};
 ghost use Rattle.desk_keep.specs.Tables.{is_of, is_result_of, row_at, without_text};
 ghost use Rattle.server_core.specs.AcceptedTables.{actions_version};
+ghost use Rattle.server_core.specs.ServerParts.{Learns};
 
 use crate::stop::Stop;
 use desk_keep::{Change, Changes, Counted, Find, Found, Keeper, Listed, Table};
@@ -15,12 +14,8 @@ use std::alloc::Global;
 
 /// The row of a key, if there is one.
 pub(crate) fn row_of<K: Keeper>(keeper: &mut K, find: &Find) -> Result<Option<Change>, Stop>
-    ensures kept { K.rows keeper.new ≡ K.rows keeper.old }
-    ensures later { K.faults keeper.old ≤ K.faults keeper.new }
-    ensures failed { IsErrOf result Stop.Keeper → Rose (K.faults keeper.old) (K.faults keeper.new) }
+    ensures learns { Learns (row_at (asked_key find.now)) (K.told keeper.old) result (K.told keeper.new) }
     ensures good { IfOk result (λ row. IfSome row (λ row. (key_of row ≡ asked_key find.now) × Fits row)) }
-    ensures found { IfOk result (λ row. IfTold (K.rows keeper.old)
-        (λ rows. row ≡ row_at (asked_key find.now) rows)) }
 {
     match keeper.get(find) {
         Found::Change(row) => Ok(Some(row)),
@@ -32,22 +27,14 @@ pub(crate) fn row_of<K: Keeper>(keeper: &mut K, find: &Find) -> Result<Option<Ch
 
 /// Whether a key has a row.
 pub(crate) fn has_row<K: Keeper>(keeper: &mut K, find: &Find) -> Result<bool, Stop>
-    ensures kept { K.rows keeper.new ≡ K.rows keeper.old }
-    ensures later { K.faults keeper.old ≤ K.faults keeper.new }
-    ensures failed { IsErrOf result Stop.Keeper → Rose (K.faults keeper.old) (K.faults keeper.new) }
-    ensures found { IfOk result (λ has. IfTold (K.rows keeper.old)
-        (λ rows. has ≡ is_some (row_at (asked_key find.now) rows))) }
+    ensures { Learns (λ rows. is_some (row_at (asked_key find.now) rows)) (K.told keeper.old) result (K.told keeper.new) }
 {
     Ok(row_of(keeper, find)?.is_some())
 }
 
 /// The version of `actionsite`: 0 before the first action.
 pub(crate) fn actions_version<K: Keeper>(alloc: Global, keeper: &mut K) -> Result<u64, Stop>
-    ensures kept { K.rows keeper.new ≡ K.rows keeper.old }
-    ensures later { K.faults keeper.old ≤ K.faults keeper.new }
-    ensures failed { IsErrOf result Stop.Keeper → Rose (K.faults keeper.old) (K.faults keeper.new) }
-    ensures version { IfOk result (λ version. IfTold (K.rows keeper.old)
-        (λ rows. version ≡ actions_version rows)) }
+    ensures { Learns actions_version (K.told keeper.old) result (K.told keeper.new) }
 {
     let find = Find::Site(Text::from_str(alloc, "actionsite")?);
     match row_of(keeper, &find)? {
@@ -58,11 +45,7 @@ pub(crate) fn actions_version<K: Keeper>(alloc: Global, keeper: &mut K) -> Resul
 
 /// How many rows a table has.
 pub(crate) fn count_of<K: Keeper>(keeper: &mut K, table: Table) -> Result<u64, Stop>
-    ensures kept { K.rows keeper.new ≡ K.rows keeper.old }
-    ensures later { K.faults keeper.old ≤ K.faults keeper.new }
-    ensures failed { IsErrOf result Stop.Keeper → Rose (K.faults keeper.old) (K.faults keeper.new) }
-    ensures counted { IfOk result (λ count. IfTold (K.rows keeper.old)
-        (λ rows. count ≡ count_by (is_of table) rows)) }
+    ensures { Learns (count_by (is_of table)) (K.told keeper.old) result (K.told keeper.new) }
 {
     match keeper.count(table) {
         Counted::Rows(count) => Ok(count),
@@ -73,33 +56,21 @@ pub(crate) fn count_of<K: Keeper>(keeper: &mut K, table: Table) -> Result<u64, S
 
 /// The rows of the actions.
 pub(crate) fn actions_of<K: Keeper>(keeper: &mut K) -> Result<Changes, Stop>
-    ensures kept { K.rows keeper.new ≡ K.rows keeper.old }
-    ensures later { K.faults keeper.old ≤ K.faults keeper.new }
-    ensures failed { IsErrOf result Stop.Keeper → Rose (K.faults keeper.old) (K.faults keeper.new) }
-    ensures listed { IfOk result (λ rows. IfTold (K.rows keeper.old)
-        (λ all. rows ≡ filter (is_of Table.Actions) all)) }
+    ensures { Learns (filter (is_of Table.Actions)) (K.told keeper.old) result (K.told keeper.new) }
 {
     listed(keeper.list(Table::Actions))
 }
 
 /// The rows of the sites, without their texts.
 pub(crate) fn versions_of<K: Keeper>(keeper: &mut K) -> Result<Changes, Stop>
-    ensures kept { K.rows keeper.new ≡ K.rows keeper.old }
-    ensures later { K.faults keeper.old ≤ K.faults keeper.new }
-    ensures failed { IsErrOf result Stop.Keeper → Rose (K.faults keeper.old) (K.faults keeper.new) }
-    ensures listed { IfOk result (λ rows. IfTold (K.rows keeper.old)
-        (λ all. rows ≡ map without_text (filter (is_of Sites) all))) }
+    ensures { Learns (λ rows. map without_text (filter (is_of Sites) rows)) (K.told keeper.old) result (K.told keeper.new) }
 {
     listed(keeper.versions())
 }
 
 /// The rows of a computer's results.
 pub(crate) fn results_of<K: Keeper>(keeper: &mut K, computer: &Text) -> Result<Changes, Stop>
-    ensures kept { K.rows keeper.new ≡ K.rows keeper.old }
-    ensures later { K.faults keeper.old ≤ K.faults keeper.new }
-    ensures failed { IsErrOf result Stop.Keeper → Rose (K.faults keeper.old) (K.faults keeper.new) }
-    ensures listed { IfOk result (λ rows. IfTold (K.rows keeper.old)
-        (λ all. rows ≡ filter (is_result_of computer.now) all)) }
+    ensures { Learns (filter (is_result_of computer.now)) (K.told keeper.old) result (K.told keeper.new) }
 {
     listed(keeper.results(computer))
 }
@@ -107,7 +78,7 @@ pub(crate) fn results_of<K: Keeper>(keeper: &mut K, computer: &Text) -> Result<C
 /// The rows that a keeper lists.
 fn listed(rows: Listed) -> Result<Changes, Stop>
     ensures ok { IfOk result (λ list. rows ≡ Listed.Changes list) }
-    ensures keeper { IsErrOf result Stop.Keeper → rows ≡ Listed.Failed }
+    ensures keeper { IsErrOf result Stop.Keeper ↔ (rows ≡ Listed.Failed) }
 {
     match rows {
         Listed::Changes(rows) => Ok(rows),

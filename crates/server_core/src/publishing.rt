@@ -1,12 +1,10 @@
 // Sites that are published.
-ghost use Rattle.std.specs.Prelude.{◌≡◌, ◌≤◌, nat_le, true, IfOk, IfSome, IsErrOf, OnErr};
-ghost use Rattle.desk_base.specs.Counts.{Rose};
+ghost use Rattle.std.specs.Prelude.{◌≡◌, nat_le, true, IfOk, IfSome};
 ghost use Rattle.fix_site.specs.Sites.{IsSite, site_text};
-ghost use Rattle.desk_keep.specs.Calls.{IfTold};
 ghost use Rattle.server_text.specs.Entries.{Published};
 ghost use Rattle.server_core.specs.Replies.{full_if, reply_to_site, site_count};
 ghost use Rattle.server_core.specs.AcceptedTables.{site_at};
-ghost use Rattle.server_core.specs.ServerParts.{AnswersEntry, is_plain};
+ghost use Rattle.server_core.specs.ServerParts.{Learns, Takes, is_plain};
 
 use crate::keeping::put;
 use crate::limits::Limits;
@@ -29,12 +27,7 @@ pub(crate) fn publish_site<K: Keeper>(
 ) -> Result<Reply, Stop>
     requires good { IsSite site }
     requires text { text.now ≡ site_text site }
-    ensures plain { IfOk result (λ reply. is_plain reply ≡ true) }
-    ensures answers { IfOk result (λ reply. IfTold (K.rows keeper.old)
-        (λ rows. AnswersEntry limits rows (Published site) reply (K.rows keeper.new))) }
-    ensures err { OnErr result (K.rows keeper.new ≡ K.rows keeper.old) }
-    ensures later { K.faults keeper.old ≤ K.faults keeper.new }
-    ensures failed { IsErrOf result Stop.Keeper → Rose (K.faults keeper.old) (K.faults keeper.new) }
+    ensures { Takes limits (Published site) (K.told keeper.old) result (K.told keeper.new) }
 {
     if let Some(reply) = reply_to_site(alloc, keeper, limits, &site, text)? {
         return Ok(reply);
@@ -58,11 +51,8 @@ fn reply_to_site<K: Keeper>(
 ) -> Result<Option<Reply>, Stop>
     requires { text.now ≡ site_text site.now }
     ensures plain { IfOk result (λ reply. IfSome reply (λ reply. is_plain reply ≡ true)) }
-    ensures reply { IfOk result (λ reply. IfTold (K.rows keeper.old)
-        (λ rows. reply ≡ reply_to_site limits rows site.now (site_at site.now.name rows))) }
-    ensures kept { K.rows keeper.new ≡ K.rows keeper.old }
-    ensures later { K.faults keeper.old ≤ K.faults keeper.new }
-    ensures failed { IsErrOf result Stop.Keeper → Rose (K.faults keeper.old) (K.faults keeper.new) }
+    ensures learns { Learns (λ rows. reply_to_site limits rows site.now (site_at site.now.name rows))
+        (K.told keeper.old) result (K.told keeper.new) }
 {
     let find = Find::Site(site.name.copy()?);
     let Some(
@@ -91,11 +81,8 @@ fn full_of_sites<K: Keeper>(
     limits: Limits,
 ) -> Result<Option<Reply>, Stop>
     ensures plain { IfOk result (λ reply. IfSome reply (λ reply. is_plain reply ≡ true)) }
-    ensures full { IfOk result (λ reply. IfTold (K.rows keeper.old)
-        (λ rows. reply ≡ full_if (nat_le limits.sites (site_count rows)) limits.sites)) }
-    ensures kept { K.rows keeper.new ≡ K.rows keeper.old }
-    ensures later { K.faults keeper.old ≤ K.faults keeper.new }
-    ensures failed { IsErrOf result Stop.Keeper → Rose (K.faults keeper.old) (K.faults keeper.new) }
+    ensures learns { Learns (λ rows. full_if (nat_le limits.sites (site_count rows)) limits.sites)
+        (K.told keeper.old) result (K.told keeper.new) }
 {
     if limits.sites <= site_count(alloc, keeper)? {
         return Ok(Some(Reply::Full(limits.sites)));
@@ -105,10 +92,7 @@ fn full_of_sites<K: Keeper>(
 
 /// How many sites are kept, `actionsite` aside.
 fn site_count<K: Keeper>(alloc: Global, keeper: &mut K) -> Result<u64, Stop>
-    ensures count { IfOk result (λ count. IfTold (K.rows keeper.old) (λ rows. count ≡ site_count rows)) }
-    ensures kept { K.rows keeper.new ≡ K.rows keeper.old }
-    ensures later { K.faults keeper.old ≤ K.faults keeper.new }
-    ensures failed { IsErrOf result Stop.Keeper → Rose (K.faults keeper.old) (K.faults keeper.new) }
+    ensures { Learns site_count (K.told keeper.old) result (K.told keeper.new) }
 {
     let count = count_of(keeper, Table::Sites)?;
     let actionsite = Find::Site(Text::from_str(alloc, "actionsite")?);

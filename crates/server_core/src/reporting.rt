@@ -1,15 +1,14 @@
 // Reports of computers.
-ghost use Rattle.std.specs.Prelude.{◌≡◌, ◌≤◌, ◌++◌, ◌∷◌, [], if◌then◌else◌, true, All, IfOk, IfSome, IsErrOf, OnErr, OnOk};
+ghost use Rattle.std.specs.Prelude.{◌≡◌, ◌++◌, ◌∷◌, [], if◌then◌else◌, true, All, IfOk, IfSome, IsErrOf, OnOk};
 ghost use Rattle.sha2.specs.Sha256.{sha256};
-ghost use Rattle.desk_base.specs.Counts.{Rose};
 ghost use Rattle.report_text.specs.ReportRows.{IsReportRow};
 ghost use Rattle.report_text.specs.Reports.{IsReport, report_text};
-ghost use Rattle.desk_keep.specs.Calls.{IfTold};
+ghost use Rattle.desk_keep.specs.Calls.{IfTold, OnlyReads};
 ghost use Rattle.desk_keep.specs.Forms.{Fits};
 ghost use Rattle.server_text.specs.Entries.{Reported};
 ghost use Rattle.server_core.specs.Replies.{full_of_reports, known_report, reply_to};
 ghost use Rattle.server_core.specs.AcceptedTables.{has_later, puts, result_of};
-ghost use Rattle.server_core.specs.ServerParts.{AnswersEntry, is_plain};
+ghost use Rattle.server_core.specs.ServerParts.{Learns, Takes, is_plain};
 
 use crate::keeping::put;
 use crate::limits::Limits;
@@ -30,12 +29,7 @@ pub(crate) fn keep_report<K: Keeper>(
 ) -> Result<Reply, Stop>
     requires good { IsReport report.now }
     requires digest { digest ≡ sha256 (report_text report.now) }
-    ensures plain { IfOk result (λ reply. is_plain reply ≡ true) }
-    ensures answers { IfOk result (λ reply. IfTold (K.rows keeper.old)
-        (λ rows. AnswersEntry limits rows (Reported report.now) reply (K.rows keeper.new))) }
-    ensures err { OnErr result (K.rows keeper.new ≡ K.rows keeper.old) }
-    ensures later { K.faults keeper.old ≤ K.faults keeper.new }
-    ensures failed { IsErrOf result Stop.Keeper → Rose (K.faults keeper.old) (K.faults keeper.new) }
+    ensures { Takes limits (Reported report.now) (K.told keeper.old) result (K.told keeper.new) }
 {
     let find = Find::Report(report.computer.copy()?, report.seq);
     let Some(Change::Report { digest: kept, .. }) = row_of(keeper, &find)? else {
@@ -54,13 +48,9 @@ fn keep_new_report<K: Keeper>(
 ) -> Result<Reply, Stop>
     requires good { IsReport report.now }
     requires digest { digest ≡ sha256 (report_text report.now) }
-    requires fresh { IfTold (K.rows keeper.old) (λ rows. reply_to limits rows (Reported report.now) ≡ full_of_reports limits rows report.now) }
-    ensures plain { IfOk result (λ reply. is_plain reply ≡ true) }
-    ensures answers { IfOk result (λ reply. IfTold (K.rows keeper.old)
-        (λ rows. AnswersEntry limits rows (Reported report.now) reply (K.rows keeper.new))) }
-    ensures err { OnErr result (K.rows keeper.new ≡ K.rows keeper.old) }
-    ensures later { K.faults keeper.old ≤ K.faults keeper.new }
-    ensures failed { IsErrOf result Stop.Keeper → Rose (K.faults keeper.old) (K.faults keeper.new) }
+    requires fresh { IfTold (K.told keeper.old).rows
+        (λ rows. reply_to limits rows (Reported report.now) ≡ full_of_reports limits rows report.now) }
+    ensures { Takes limits (Reported report.now) (K.told keeper.old) result (K.told keeper.new) }
 {
     if let Some(full) = full_of_reports(keeper, limits, report)? {
         return Ok(full);
@@ -88,11 +78,7 @@ fn full_of_reports<K: Keeper>(
     report: &Report,
 ) -> Result<Option<Reply>, Stop>
     ensures plain { IfOk result (λ reply. IfSome reply (λ reply. is_plain reply ≡ true)) }
-    ensures full { IfOk result (λ reply. IfTold (K.rows keeper.old)
-        (λ rows. reply ≡ full_of_reports limits rows report.now)) }
-    ensures kept { K.rows keeper.new ≡ K.rows keeper.old }
-    ensures later { K.faults keeper.old ≤ K.faults keeper.new }
-    ensures failed { IsErrOf result Stop.Keeper → Rose (K.faults keeper.old) (K.faults keeper.new) }
+    ensures learns { Learns (λ rows. full_of_reports limits rows report.now) (K.told keeper.old) result (K.told keeper.new) }
 {
     let known = has_row(keeper, &Find::Computer(report.computer.copy()?))?;
     if !known && limits.computers <= count_of(keeper, Table::Computers)? {
@@ -114,11 +100,7 @@ fn rows_of<K: Keeper>(
     requires good { IsReport report.now }
     requires digest { digest ≡ sha256 (report_text report.now) }
     ensures fit { IfOk result (λ batch. All Fits batch) }
-    ensures batch { IfOk result (λ batch. IfTold (K.rows keeper.old)
-        (λ rows. batch ≡ puts rows (Reported report.now))) }
-    ensures kept { K.rows keeper.new ≡ K.rows keeper.old }
-    ensures later { K.faults keeper.old ≤ K.faults keeper.new }
-    ensures failed { IsErrOf result Stop.Keeper → Rose (K.faults keeper.old) (K.faults keeper.new) }
+    ensures learns { Learns (λ rows. puts rows (Reported report.now)) (K.told keeper.old) result (K.told keeper.new) }
 {
     let mut batch = Changes::new(alloc);
     batch.push(Change::Computer(report.computer.copy()?))?;
@@ -143,11 +125,9 @@ fn push_later<K: Keeper>(
     requires good { IsReport report.now }
     requires row { IsReportRow report.now.form row.now }
     ensures fit { OnOk result (All Fits batch.old → All Fits batch.new) }
-    ensures pushed { OnOk result (IfTold (K.rows keeper.old) (λ rows. batch.new ≡ batch.old
+    ensures pushed { OnOk result (IfTold (K.told keeper.old).rows (λ rows. batch.new ≡ batch.old
         ++ (if has_later rows report.now row.now then result_of report.now row.now ∷ [] else []))) }
-    ensures kept { K.rows keeper.new ≡ K.rows keeper.old }
-    ensures later { K.faults keeper.old ≤ K.faults keeper.new }
-    ensures failed { IsErrOf result Stop.Keeper → Rose (K.faults keeper.old) (K.faults keeper.new) }
+    ensures only { OnlyReads (IsErrOf result Stop.Keeper) (K.told keeper.old) (K.told keeper.new) }
 {
     if has_later(keeper, report, row)? {
         batch.push(result_of(report, row)?)?;
@@ -157,11 +137,7 @@ fn push_later<K: Keeper>(
 
 /// Whether the result of a report's row is later than the kept one, if one is kept.
 fn has_later<K: Keeper>(keeper: &mut K, report: &Report, row: &ReportRow) -> Result<bool, Stop>
-    ensures has { IfOk result (λ has. IfTold (K.rows keeper.old)
-        (λ rows. has ≡ has_later rows report.now row.now)) }
-    ensures kept { K.rows keeper.new ≡ K.rows keeper.old }
-    ensures later { K.faults keeper.old ≤ K.faults keeper.new }
-    ensures failed { IsErrOf result Stop.Keeper → Rose (K.faults keeper.old) (K.faults keeper.new) }
+    ensures { Learns (λ rows. has_later rows report.now row.now) (K.told keeper.old) result (K.told keeper.new) }
 {
     let find = Find::Result(report.computer.copy()?, row.action);
     match row_of(keeper, &find)? {

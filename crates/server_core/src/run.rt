@@ -1,6 +1,6 @@
 ghost use Rattle.std.specs.Prelude.{◌≡◌, ◌≤◌, ◌++◌, [], ◌∷◌, List, IfOk, OnOk, OnErr};
 ghost use Rattle.server_text.specs.Entries.{Entry};
-ghost use Rattle.server_core.specs.CallAnswers.{AnswersAll, AreTables};
+ghost use Rattle.server_core.specs.CallAnswers.{AnswersAll, AreTables, CountsReplies};
 
 use crate::server::Server;
 use desk_keep::Keeper;
@@ -58,9 +58,11 @@ pub fn answer_all<K: Keeper>(
     keeper: &mut K,
     requests: &[Request],
 ) -> Result<Replies, AllocError>
-    ensures replies { IfOk result (λ replies. (accepted : List Entry) → AreTables (K.rows keeper.old) accepted
-        → (last : List Entry) × AnswersAll server.now.limits accepted requests.now replies last × AreTables (K.rows keeper.new) last) }
-    ensures later { K.faults keeper.old ≤ K.faults keeper.new }
+    ensures replies { IfOk result (λ replies. (accepted : List Entry) → AreTables (K.told keeper.old).rows accepted
+        → (last : List Entry) × AnswersAll server.now.limits accepted requests.now replies last
+        × AreTables (K.told keeper.new).rows last) }
+    ensures counts { IfOk result (λ replies. CountsReplies replies (K.told keeper.old).faults (K.told keeper.new).faults) }
+    ensures later { (K.told keeper.old).faults ≤ (K.told keeper.new).faults }
 {
     let mut replies = Replies::new(alloc);
     for request in requests {

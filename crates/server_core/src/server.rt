@@ -1,8 +1,8 @@
-ghost use Rattle.std.specs.Prelude.{◌≡◌, ◌≤◌, List, true, false, IfOk, IsErrOf, OnErr};
-ghost use Rattle.desk_base.specs.Counts.{Rose};
+ghost use Rattle.std.specs.Prelude.{◌≡◌, List, true};
+ghost use Rattle.desk_base.specs.Counts.{CountsFaults};
 ghost use Rattle.server_text.specs.Entries.{Entry};
 ghost use Rattle.server_core.specs.CallAnswers.{Answers, AreTables, TellsBad, is_fault};
-ghost use Rattle.server_core.specs.ServerParts.{AnswersRequest, IsUnread};
+ghost use Rattle.server_core.specs.ServerParts.{AnswersSoundly, IsUnread};
 
 use crate::asking::{ask_file, ask_results, ask_site, ask_sites};
 use crate::filing::keep_file;
@@ -33,14 +33,14 @@ impl Server {
     /// Answers a request. Where the keeper tells its rows and they are the tables of some accepted requests, the reply is the one to
     /// these, and the rows are the tables of what is then accepted.
     pub fn answer<K: Keeper>(&self, alloc: Global, keeper: &mut K, request: &Request) -> Reply
-        ensures answers { (accepted : List Entry) → AreTables (K.rows keeper.old) accepted
-            → (later : List Entry) × Answers self.now.limits accepted request.now result later × AreTables (K.rows keeper.new) later }
+        ensures answers { (accepted : List Entry) → AreTables (K.told keeper.old).rows accepted
+            → (later : List Entry) × Answers self.now.limits accepted request.now result later
+            × AreTables (K.told keeper.new).rows later }
 
         // What is told of the text doesn't rest on what is kept.
         ensures bad { TellsBad request.now result }
-        ensures fault { result ≡ Reply.KeeperFault → Rose (K.faults keeper.old) (K.faults keeper.new) }
-        ensures unchanged { is_fault result ≡ true → K.rows keeper.new ≡ K.rows keeper.old }
-        ensures later { K.faults keeper.old ≤ K.faults keeper.new }
+        ensures unchanged { is_fault result ≡ true → (K.told keeper.new).rows ≡ (K.told keeper.old).rows }
+        ensures counts { CountsFaults (result ≡ Reply.KeeperFault) (K.told keeper.old).faults (K.told keeper.new).faults }
     {
         match answered(alloc, keeper, self.limits, request) {
             Ok(reply) => reply,
@@ -57,12 +57,7 @@ fn answered<K: Keeper>(
     limits: Limits,
     request: &Request,
 ) -> Result<Reply, Stop>
-    ensures sound { IfOk result (λ reply. is_fault reply ≡ false) }
-    ensures bad { IfOk result (λ reply. TellsBad request.now reply) }
-    ensures answers { IfOk result (λ reply. AnswersRequest limits request.now reply (K.rows keeper.old) (K.rows keeper.new)) }
-    ensures err { OnErr result (K.rows keeper.new ≡ K.rows keeper.old) }
-    ensures later { K.faults keeper.old ≤ K.faults keeper.new }
-    ensures failed { IsErrOf result Stop.Keeper → Rose (K.faults keeper.old) (K.faults keeper.new) }
+    ensures { AnswersSoundly limits request.now (K.told keeper.old) result (K.told keeper.new) }
 {
     match request {
         Request::Publish(text) => answer_publish(alloc, keeper, limits, text),
@@ -84,12 +79,7 @@ fn answer_publish<K: Keeper>(
     limits: Limits,
     text: &Bytes,
 ) -> Result<Reply, Stop>
-    ensures sound { IfOk result (λ reply. is_fault reply ≡ false) }
-    ensures bad { IfOk result (λ reply. TellsBad (Request.Publish text.now) reply) }
-    ensures answers { IfOk result (λ reply. AnswersRequest limits (Request.Publish text.now) reply (K.rows keeper.old) (K.rows keeper.new)) }
-    ensures err { OnErr result (K.rows keeper.new ≡ K.rows keeper.old) }
-    ensures later { K.faults keeper.old ≤ K.faults keeper.new }
-    ensures failed { IsErrOf result Stop.Keeper → Rose (K.faults keeper.old) (K.faults keeper.new) }
+    ensures { AnswersSoundly limits (Request.Publish text.now) (K.told keeper.old) result (K.told keeper.new) }
 {
     match read_published(alloc, text.as_slice()) {
         Ok(site) => publish_site(alloc, keeper, limits, site, text),
@@ -104,12 +94,7 @@ fn answer_act<K: Keeper>(
     limits: Limits,
     text: &Bytes,
 ) -> Result<Reply, Stop>
-    ensures sound { IfOk result (λ reply. is_fault reply ≡ false) }
-    ensures bad { IfOk result (λ reply. TellsBad (Request.Act text.now) reply) }
-    ensures answers { IfOk result (λ reply. AnswersRequest limits (Request.Act text.now) reply (K.rows keeper.old) (K.rows keeper.new)) }
-    ensures err { OnErr result (K.rows keeper.new ≡ K.rows keeper.old) }
-    ensures later { K.faults keeper.old ≤ K.faults keeper.new }
-    ensures failed { IsErrOf result Stop.Keeper → Rose (K.faults keeper.old) (K.faults keeper.new) }
+    ensures { AnswersSoundly limits (Request.Act text.now) (K.told keeper.old) result (K.told keeper.new) }
 {
     match read_issued(alloc, text.as_slice()) {
         Ok(action) => issue_action(alloc, keeper, limits, &action, text),
@@ -124,12 +109,7 @@ fn answer_report<K: Keeper>(
     limits: Limits,
     text: &Bytes,
 ) -> Result<Reply, Stop>
-    ensures sound { IfOk result (λ reply. is_fault reply ≡ false) }
-    ensures bad { IfOk result (λ reply. TellsBad (Request.Report text.now) reply) }
-    ensures answers { IfOk result (λ reply. AnswersRequest limits (Request.Report text.now) reply (K.rows keeper.old) (K.rows keeper.new)) }
-    ensures err { OnErr result (K.rows keeper.new ≡ K.rows keeper.old) }
-    ensures later { K.faults keeper.old ≤ K.faults keeper.new }
-    ensures failed { IsErrOf result Stop.Keeper → Rose (K.faults keeper.old) (K.faults keeper.new) }
+    ensures { AnswersSoundly limits (Request.Report text.now) (K.told keeper.old) result (K.told keeper.new) }
 {
     match read_reported(alloc, text.as_slice()) {
         Ok(report) => {

@@ -7,9 +7,9 @@ use Rattle.desk_base.proofs.whole.read_all.Given as goal
 abbrev pub invariant-loop-count : goal.invariant-loop-count
 invariant-loop-count g l = record {
   within : length l.bytes ≤ l.limit;
-  taken : Consumes (g.S.Source.left l.fn.source) (g.S.Source.left l.source) l.bytes;
-  reads : CountsAtMost (g.S.Source.reads l.fn.source) (g.S.Source.reads l.source) (length l.bytes);
-  steady : g.S.Source.faults l.source ≡ g.S.Source.faults l.fn.source;
+  taken : Consumes (g.S.Source.told l.fn.source).left (g.S.Source.told l.source).left l.bytes;
+  reads : CountsAtMost (g.S.Source.told l.fn.source).reads (g.S.Source.told l.source).reads (length l.bytes);
+  steady : (g.S.Source.told l.source).faults ≡ (g.S.Source.told l.fn.source).faults;
 }
 
 abbrev pub decreases-loop-count : goal.decreases-loop-count

@@ -15,7 +15,7 @@ pub returns-in-Value-clause-goes : goal.returns-in-Value-clause-goes
 returns-in-Value-clause-goes g c = λ w h.
     let at = c.span-span.ensures in
     let e = c.in-Value.ensures in
-    ones_at _ _ c.span-span.result (span_of_node (plan_of c.args.question.now)) (cursor_rest w c.in-Ok.cursor) (meaning w c.args.scene.now (plan_of c.args.question.now)) _ at (c.in-Ok.ensures.rest w) (ones_after _ _ _ c.span-span.result _ (cursor_rest w c.in-Ok.cursor) (cursor_rest w c.pull.new.self) _ (e.goes w h) (c.only.ensures.goes w (e.world ∙ h)))
+    ones_at _ _ c.span-span.result (span_of_node (plan_of c.args.question.now)) (cursor_rest w c.in-Ok.cursor) (meaning w c.args.scene.now (plan_of c.args.question.now)) _ at (c.in-Ok.ensures.rest w) (ones_after _ _ _ c.span-span.result _ (cursor_rest w c.in-Ok.cursor) (cursor_rest w c.pull.new.self) _ (e.goes w h) (c.only.ensures.goes w (e.looks.world ∙ h)))
 
 pub returns-in-End-clause-goes : goal.returns-in-End-clause-goes
 returns-in-End-clause-goes g c = λ w h.

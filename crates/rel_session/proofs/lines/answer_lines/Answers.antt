@@ -1,19 +1,16 @@
 use Rattle.std.proofs.Common.{◌≡◌, ℕ, Bool, true, eqb, List, [], ◌∷◌, length, ◌∙◌, refl, sym, ap, arith}
 use Rattle.std.proofs.lemmas.Bool.{eqb-true}
 use Rattle.std.proofs.lemmas.Result.{err_from_is_err_and}
+use Rattle.bf_machine.proofs.Looking.{OnlyLooks-refl, OnlyLooks-trans}
 use Rattle.rel_session.specs.Lines.{lines_of}
 use Rattle.rel_session.proofs.Running.{RanSoFar-start, RanSoFar-step, RanSoFar-stop, RanSoFar-end}
 use Rattle.rel_session.proofs.lines.answer_lines.Goals as goal
 
 pub loop-rest-init : goal.loop-rest-init
 loop-rest-init g c = record {
-  so_far = rw (c.new-session.ensures.fresh _) (RanSoFar-start _ _ _ _ _ _);
+  so_far = rw (c.new-session.ensures.fresh _) (RanSoFar-start _ _ _ _ _);
   few = c.new-session.ensures.few;
-  world = refl;
-  acted = refl;
-  polled = refl;
-  started = refl;
-  machine_later = omega arith;
+  looks = OnlyLooks-refl _;
   steady = refl;
   clock_steady = refl;
 }
@@ -24,24 +21,20 @@ loop-rest-preserved g c =
     let now = c.in_ok-run_line.ensures in
     record {
       so_far =
-          let ran = rw before.world at now.ran in
-          RanSoFar-step _ _ _ _ _ _ _ _ _ _ c.first_line.result.0.now _ _ ran.0 ran.1 before.so_far c.first_line.ensures.lines ran.2 ran.3;
+          let ran = rw before.looks.world at now.ran in
+          RanSoFar-step _ _ _ _ _ _ _ _ _ c.first_line.result.0.now _ _ ran.0 ran.1 before.so_far c.first_line.ensures.lines ran.2 ran.3;
       few = now.few;
-      world = now.world ∙ before.world;
-      acted = now.acted ∙ before.acted;
-      polled = now.polled ∙ before.polled;
-      started = now.started ∙ before.started;
-      machine_later = let a = before.machine_later in let b = now.machine_later in omega arith;
-      steady = now.steady (λ e. cc) ∙ before.steady;
-      clock_steady = now.clock_steady (λ e. cc) ∙ before.clock_steady;
+      looks = OnlyLooks-trans before.looks now.only.looks;
+      steady = now.only.sink.steady (λ e. cc) ∙ before.steady;
+      clock_steady = now.only.clock.steady (λ e. cc) ∙ before.clock_steady;
     }
 
 pub returns-in_err-run_line-clause-ran : goal.returns-in_err-run_line-clause-ran
 returns-in_err-run_line-clause-ran g c =
     let before = c.loop-rest.invariant in
-    let ran = rw before.world at c.in_err-run_line.ensures.ran in
+    let ran = rw before.looks.world at c.in_err-run_line.ensures.ran in
     let p = err_from_is_err_and c.from_residual.result c.from_residual.ensures.1 in
-    rw p.1 (RanSoFar-stop _ _ _ _ _ _ _ _ _ c.first_line.result.0.now _ _ ran.0 ran.1 before.so_far c.first_line.ensures.lines ran.2 ran.3)
+    rw p.1 (RanSoFar-stop _ _ _ _ _ _ _ _ c.first_line.result.0.now _ _ ran.0 ran.1 before.so_far c.first_line.ensures.lines ran.2 ran.3)
 
 none_left : (rest : List ℕ) (empty : Bool) → empty ≡ eqb (length rest) 0 → empty ≡ true → rest ≡ []
 none_left [] empty is left = refl
@@ -51,4 +44,4 @@ none_left (byte ∷ bytes) empty is left =
 
 pub returns-clause-ran : goal.returns-clause-ran
 returns-clause-ran g c =
-    RanSoFar-end _ _ _ _ _ _ _ _ _ c.loop-rest.invariant.so_far (ap lines_of (none_left _ _ c.is_empty.ensures c.loop-rest-test.false))
+    RanSoFar-end _ _ _ _ _ _ _ _ c.loop-rest.invariant.so_far (ap lines_of (none_left _ _ c.is_empty.ensures c.loop-rest-test.false))

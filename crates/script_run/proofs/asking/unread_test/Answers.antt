@@ -1,5 +1,6 @@
 use Rattle.std.proofs.Common.{◌≡◌, ℕ, List, Some, Err, refl, ap, inl}
 use Rattle.std.proofs.lemmas.Option.{same_Some}
+use Rattle.rel_trace.specs.declared.kind.RelKind.TheVariants as of_kind
 use Rattle.rel_eval.specs.declared.refusal.Located.{Located}
 use Rattle.rel_eval.specs.declared.refusal.Refusal.{Refusal}
 use Rattle.rel_eval.specs.declared.refusal.Refusal.TheVariants as refusals
@@ -7,7 +8,6 @@ use Rattle.rel_eval.specs.declared.told.Truth.TheVariants as truth
 use Rattle.rel_eval.specs.Answers.{Prepares}
 use Rattle.rel_eval.specs.Questions.{refused, undefined}
 use Rattle.rel_eval.specs.Refusals.{located}
-use Rattle.rel_trace.specs.declared.kind.RelKind.TheVariants as of_kind
 use Rattle.script_run.specs.Fills.{UnreadTest}
 use Rattle.script_run.proofs.asking.unread_test.Goals as goal
 

@@ -1,9 +1,11 @@
 use Rattle.std.proofs.Common.{false}
-use Rattle.bf_world.specs.declared.command.Command.TheVariants.{DropFolder}
+use Rattle.bf_world.specs.declared.command.Command.TheVariants as command
+use Rattle.script_text.specs.declared.line.Line.TheVariants as line
 use Rattle.script_run.specs.Walks.{doing}
-use Rattle.script_run.proofs.Preparing.{does_prepares}
+use Rattle.script_run.proofs.Preparing.{does_line}
 use Rattle.script_run.proofs.files.removes.Goals as goal
 
-pub returns-clause-prepares : goal.returns-clause-prepares
-returns-clause-prepares g c = λ line rest.
-    does_prepares _ line _ rest _ _ _ _ _ c.does.ensures (c.in_ok-path.ensures.fills line false (λ midway path. doing line midway (DropFolder path) rest))
+pub returns : goal.returns
+returns g c =
+    let a = c.in_ok-path.ensures in
+    does_line _ (line.FolderDelete c.args.path.now) _ _ _ _ c.does.ensures tt a.only (λ n rest. a.fills n false (λ midway path. doing n midway (command.DropFolder path) rest))

@@ -1,4 +1,4 @@
-use Rattle.std.proofs.Common.{Some, [], ◌∷◌, ◌∙◌, ap, sym}
+use Rattle.std.proofs.Common.{rules, Some, [], ◌∷◌, ◌∙◌, ap, refl, sym}
 use Rattle.desk_keep.specs.declared.change.Change.TheVariants as change
 use Rattle.desk_keep.specs.declared.find.Find.TheVariants as find
 use Rattle.desk_keep.specs.Keys.{asked_key}
@@ -15,17 +15,21 @@ put-requires g c =
     (own_id c.in_ok-id.field-0 (asked_key (find.Action c.args.id)) a.id a.text a.digest (a.is ∙ ap Some a.field-0-is) c.in_ok-id.ensures.good)
     (version_is_id c.in_ok-version.field-0 c.in-Some.version c.in-Some.is c.in_ok-version.ensures.good) c.in_ok-version_row.ensures
 
-pub returns-clause-answers : goal.returns-clause-answers
-returns-clause-answers g c = λ rows told limits.
-    let a = c.in-Some-Action in
-    let told2 = c.in_ok-id.ensures.kept ∙ told in
-    let told3 = c.in_ok-version.ensures.kept ∙ told2 in
-    let there = c.in_ok-id.ensures.found rows told in
-    let is = a.is ∙ ap Some a.field-0-is in
-    let next = next_is rows c.in_ok-version.field-0 c.in-Some.version c.in-Some.is (c.in_ok-version.ensures.next rows told2) in
-    let text = c.in_ok-stopped_text.ensures ∙ ap stopped_text c.as_slice-2.ensures in
-    let version = c.in_ok-version_row.ensures ∙ ap version_row next.0 in
-    let runs = ap is_stopped (sym c.as_slice.ensures) ∙ sym c.is_stopped.ensures ∙ c.if-is_stopped.false in
-    accepted limits rows (Stopped c.args.id) (change.Action a.id c.in_ok-stopped_text.field-0 a.digest ∷ c.in_ok-version_row.field-0 ∷ []) (g.K.Keeper.rows c.put.new.keeper)
-    (stop_accepted limits rows c.args.id c.in_ok-id.field-0 a.id a.text a.digest there is runs next.1)
-    ((λ i. change.Action a.id (text i) a.digest ∷ version i ∷ []) ∙ stop_puts rows c.args.id c.in_ok-id.field-0 a.id a.text a.digest there is) (c.in_ok-put.ensures.ok rows told3)
+pub returns : goal.returns
+returns g c = λ limits. record {
+  plain = refl;
+  answers = λ rows told.
+      let a = c.in-Some-Action in
+      let told2 = c.in_ok-id.ensures.learns.only.rows ∙ told in
+      let told3 = c.in_ok-version.ensures.only.rows ∙ told2 in
+      let there = c.in_ok-id.ensures.learns.is rows told in
+      let is = a.is ∙ ap Some a.field-0-is in
+      let next = next_is rows c.in_ok-version.field-0 c.in-Some.version c.in-Some.is (c.in_ok-version.ensures.next rows told2) in
+      let text = c.in_ok-stopped_text.ensures ∙ ap stopped_text c.as_slice-2.ensures in
+      let version = c.in_ok-version_row.ensures ∙ ap version_row next.0 in
+      let runs = ap is_stopped (sym c.as_slice.ensures) ∙ sym c.is_stopped.ensures ∙ c.if-is_stopped.false in
+      accepted limits rows (Stopped c.args.id) (change.Action a.id c.in_ok-stopped_text.field-0 a.digest ∷ c.in_ok-version_row.field-0 ∷ []) (g.K.Keeper.told c.put.new.keeper).rows
+      (stop_accepted limits rows c.args.id c.in_ok-id.field-0 a.id a.text a.digest there is runs next.1)
+      ((λ i. change.Action a.id (text i) a.digest ∷ version i ∷ []) ∙ stop_puts rows c.args.id c.in_ok-id.field-0 a.id a.text a.digest there is) (c.in_ok-put.ensures.ok rows told3);
+  ends = search rules;
+}

@@ -1,5 +1,5 @@
-use Rattle.std.proofs.Common.{◌≤◌, Option}
-use Rattle.script_run.specs.Machines.{MachineView, view}
+use Rattle.std.proofs.Common.{Option}
+use Rattle.bf_machine.specs.Views.{MachineView}
 use Rattle.agent_attempt.specs.declared.went.Went.{Went}
 use Rattle.agent_attempt.specs.Attempts.{PlainAttempt, StageWaitsBelow}
 use Rattle.agent_attempt.specs.Going.{GoesOn, SameAttempt}
@@ -9,14 +9,13 @@ use Rattle.agent_attempt.proofs.attempt.Attempt.go_on.Given as goal
 
 abbrev pub invariant-steps : goal.invariant-steps
 invariant-steps g l = record {
-  waits : StageWaitsBelow (g.M.Machine.started l.machine) (shown_stage l.self.stage);
-  started : g.M.Machine.started l.fn.machine ≤ g.M.Machine.started l.machine;
+  waits : StageWaitsBelow (g.M.Machine.told l.machine).started (shown_stage l.self.stage);
   same : SameAttempt (shown_attempt l.fn.self) (shown_attempt l.self);
   goes : (answer : Went) (later : MachineView) (after : Option PlainAttempt)
       → GoesOn l.time (shown_attempt l.self)
-      (view (g.M.Machine.world l.machine) (g.M.Machine.looked l.machine) (g.M.Machine.acted l.machine) (g.M.Machine.polled l.machine) (g.M.Machine.faults l.machine)) answer later after
+      (g.M.Machine.told l.machine) answer later after
       → GoesOn l.time (shown_attempt l.fn.self)
-      (view (g.M.Machine.world l.fn.machine) (g.M.Machine.looked l.fn.machine) (g.M.Machine.acted l.fn.machine) (g.M.Machine.polled l.fn.machine) (g.M.Machine.faults l.fn.machine)) answer later after;
+      (g.M.Machine.told l.fn.machine) answer later after;
 }
 
 abbrev pub decreases-steps : goal.decreases-steps

@@ -4,12 +4,16 @@ use Rattle.agent_attempt.proofs.attempt.Attempt.supply.Goals as goal
 
 pub invariant_of-self : goal.invariant_of-self
 invariant_of-self c =
-    let stood = staged_run c.self.inside.left.items c.self.inside.stage c.in-Running.run' c.in-Running.is c.self.invariant.2 in
-    (c.self.invariant.0, c.self.invariant.1, supplied_runs c.in-Running.run' c.supply.new.self c.args.bytes c.supply.result stood c.supply.ensures.taken c.supply.ensures.other)
+    let stood = staged_run c.self.inside.left.items c.self.inside.stage c.in-Running.run' c.in-Running.is c.self.invariant.stands in
+    record {
+      issued = c.self.invariant.issued;
+      began = c.self.invariant.began;
+      stands = supplied_runs c.in-Running.run' c.supply.new.self c.args.bytes c.supply.result stood c.supply.ensures.taken c.supply.ensures.other;
+    }
 
 pub returns-in-Running-clause-supplies : goal.returns-in-Running-clause-supplies
 returns-in-Running-clause-supplies c =
-    let stood = staged_run c.self.inside.left.items c.self.inside.stage c.in-Running.run' c.in-Running.is c.self.invariant.2 in
+    let stood = staged_run c.self.inside.left.items c.self.inside.stage c.in-Running.run' c.in-Running.is c.self.invariant.stands in
     supplies_run c.args.self.now _ c.in-Running.run' c.supply.new.self c.args.digest.now c.args.bytes c.supply.result c.self.view_is c.in-Running.is stood
     c.supply.ensures.wanted c.supply.ensures.taken c.supply.ensures.came c.supply.ensures.other
 

@@ -8,18 +8,18 @@ use Rattle.agent_attempt.proofs.Asked.{asks_question, asks_none}
 use Rattle.agent_attempt.proofs.Reading.{read_some, read_none}
 use Rattle.agent_attempt.proofs.clause.Clause.ask.Goals as goal
 
-pub returns-in-Some-clause-asks : goal.returns-in-Some-clause-asks
-returns-in-Some-clause-asks g c =
+pub returns-in-Some : goal.returns-in-Some
+returns-in-Some g c =
     let plan = plan_of c.in-Some.question in
     let e = c.truth.ensures in
     let scene = c.scene.result.now in
-    let world = g.M.Machine.world c.args.machine.now in
+    let world = (g.M.Machine.told c.args.machine.now).world in
     asks_question c.args.time.now c.args.self.now plan scene _ _ c.truth.result c.of.result
     (read_some c.self.inside.text c.args.self.now c.self.inside.question c.in-Some.question c.self.view_is c.in-Some.is c.self.invariant) c.scene.ensures.value
-    (judges_question (is_plural plan) world scene plan _ _ _ (λ p. let h = e.plural p in (h.0, ap g.M.Machine.looked h.1))
-    (λ p. judges_kind (same_kind (kind_of plan) booleans) world scene plan _ _ _ (λ s. let h = e.other p s in (h.0, ap g.M.Machine.looked h.1)) (e.judges p)))
-    e.world e.acted e.polled e.later e.cause c.of.ensures
+    (judges_question (is_plural plan) world scene plan _ _ _ (λ p. let h = e.plural p in (h.0, ap (λ m. (g.M.Machine.told m).looked) h.1))
+    (λ p. judges_kind (same_kind (kind_of plan) booleans) world scene plan _ _ _ (λ s. let h = e.other p s in (h.0, ap (λ m. (g.M.Machine.told m).looked) h.1)) (e.judges p)))
+    e.looks e.cause c.of.ensures
 
-pub returns-in-None-clause-asks : goal.returns-in-None-clause-asks
-returns-in-None-clause-asks g c =
+pub returns-in-None : goal.returns-in-None
+returns-in-None g c =
     asks_none c.args.time.now c.args.self.now _ (read_none c.self.inside.text c.args.self.now c.self.inside.question c.self.view_is c.in-None.is c.self.invariant)

@@ -7,9 +7,10 @@ use Rattle.agent_attempt.proofs.read_fixlet.ReadFixlet.copy.Goals as goal
 pub invariant_of-result : goal.invariant_of-result
 invariant_of-result c =
     let same = sym c.in_ok-copy.ensures in
-    let script = c.in_ok-copy_script.field-0 in (
-      subst IsFixlet same c.self.invariant.0,
-      c.in_ok-copy_all.ensures ∙ c.as_slice.ensures.value ∙ c.self.invariant.1 ∙ ap (λ (f : Fixlet). f.relevance) same,
-      c.in_ok-copy_clause.ensures ∙ c.self.invariant.2 ∙ ap (λ (f : Fixlet). success_clause f.success) same,
-      subst (λ (f : Fixlet). IsScriptOf f.script script) same (c.in_ok-copy_script.ensures c.self.inside.fixlet.script c.self.invariant.3),
-    )
+    let script = c.in_ok-copy_script.field-0 in
+    record {
+      good = subst IsFixlet same c.self.invariant.good;
+      relevance = c.in_ok-copy_all.ensures ∙ c.as_slice.ensures.value ∙ c.self.invariant.relevance ∙ ap (λ (f : Fixlet). f.relevance) same;
+      success = c.in_ok-copy_clause.ensures ∙ c.self.invariant.success ∙ ap (λ (f : Fixlet). success_clause f.success) same;
+      script = subst (λ (f : Fixlet). IsScriptOf f.script script) same (c.in_ok-copy_script.ensures c.self.inside.fixlet.script c.self.invariant.script);
+    }

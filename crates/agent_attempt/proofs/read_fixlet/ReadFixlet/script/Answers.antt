@@ -8,4 +8,4 @@ use Rattle.agent_attempt.proofs.read_fixlet.ReadFixlet.script.Goals as goal
 pub unreachable-requires : goal.unreachable-requires
 unreachable-requires c =
     let lines = c.self.inside.fixlet.script in
-    no_script c.one_verdict.ensures lines (subst (IsScriptOf lines) c.in-None.is c.self.invariant.3) (subst (λ (f : Fixlet). HasScript f.script) (sym c.self.view_is) c.requires)
+    no_script c.one_verdict.ensures lines (subst (IsScriptOf lines) c.in-None.is c.self.invariant.script) (subst (λ (f : Fixlet). HasScript f.script) (sym c.self.view_is) c.requires)

@@ -2,16 +2,15 @@ use Rattle.std.proofs.Common.{sym, subst}
 use Rattle.std.proofs.lemmas.Int.{to_z-of_z}
 use Rattle.desk_base.specs.Moments.{IsMoment}
 use Rattle.script_run.specs.Asking.{When}
-use Rattle.script_run.specs.Machines.{view}
 use Rattle.agent_core.specs.Agents.{AgentState, shown_state}
 use Rattle.agent_core.specs.Inside.{state_of}
 use Rattle.agent_state.specs.States.{IsSound}
-use Rattle.agent_core.specs.Devices.{Devices, devices, pocket_view}
+use Rattle.agent_core.specs.Devices.{Devices, devices}
 use Rattle.agent_core.specs.Turns.{Turn}
 use Rattle.agent_core.proofs.Agreeing.{turn_agrees}
 use Rattle.agent_core.proofs.Backing.{turn_backed}
 use Rattle.agent_core.proofs.Begun.{ChangedHistories}
-use Rattle.agent_core.proofs.Causes.{turn_cause}
+use Rattle.agent_core.proofs.Causes.{turn_came}
 use Rattle.agent_core.proofs.KeptLawful.{Laws, turn_lawful}
 use Rattle.agent_core.proofs.agent.Agent.turn.Goals as goal
 use Rattle.agent_core.proofs.agent.Agent.turn.Given.{Over}
@@ -21,13 +20,13 @@ abbrev before : (g : Over) → goal.After-drop-time-inside g → Devices
 before g c =
     let machine = c.args.machine.now in
     let pocket = c.args.pocket.now in
-    devices (view (g.M.Machine.world machine) (g.M.Machine.looked machine) (g.M.Machine.acted machine) (g.M.Machine.polled machine) (g.M.Machine.faults machine)) (pocket_view (g.P.Pocket.saved pocket) (g.P.Pocket.faults pocket))
+    devices (g.M.Machine.told machine) (g.P.Pocket.told pocket)
 
 abbrev after : (g : Over) → goal.After-drop-time-inside g → Devices
 after g c =
     let machine = c.turn.new.machine in
     let pocket = c.turn.new.pocket in
-    devices (view (g.M.Machine.world machine) (g.M.Machine.looked machine) (g.M.Machine.acted machine) (g.M.Machine.polled machine) (g.M.Machine.faults machine)) (pocket_view (g.P.Pocket.saved pocket) (g.P.Pocket.faults pocket))
+    devices (g.M.Machine.told machine) (g.P.Pocket.told pocket)
 
 -- the turn, from a sound state to one
 turns : (g : Over) (c : goal.After-drop-time-inside g) → Turn c.new-time.result (shown_state c.args.self.now) (before g c) c.turn.result (state_of c.turn.new.self) (after g c)
@@ -56,15 +55,18 @@ laws g c =
 
 pub returns-clause-agrees : goal.returns-clause-agrees
 returns-clause-agrees g c = λ agrees.
-    turn_agrees (histories g c) c.new-time.result (time g c) (shown_state c.args.self.now) (state_of c.turn.new.self) (before g c) (after g c) c.turn.result (turns g c) (sound g c) c.turn.ensures.sound.sound agrees
+    turn_agrees (histories g c) c.new-time.result (time g c) (shown_state c.args.self.now) (state_of c.turn.new.self) (before g c) (after g c) c.turn.result (turns g c) (sound g c) c.turn.ensures.sound.sound.sound agrees
 
 pub returns-clause-lawful : goal.returns-clause-lawful
 returns-clause-lawful g c = λ table rules lawful.
-    turn_lawful (laws g c) table c.new-time.result (time g c) (shown_state c.args.self.now) (state_of c.turn.new.self) (before g c) (after g c) c.turn.result (turns g c) (sound g c) c.turn.ensures.sound.sound rules lawful
+    turn_lawful (laws g c) table c.new-time.result (time g c) (shown_state c.args.self.now) (state_of c.turn.new.self) (before g c) (after g c) c.turn.result (turns g c) (sound g c) c.turn.ensures.sound.sound.sound rules lawful
 
 pub returns-clause-backed : goal.returns-clause-backed
 returns-clause-backed g c = λ agrees moved.
-    turn_backed (histories g c) c.new-time.result (time g c) (shown_state c.args.self.now) (state_of c.turn.new.self) (before g c) (after g c) c.turn.result (turns g c) (sound g c) c.turn.ensures.sound.sound agrees moved
+    turn_backed (histories g c) c.new-time.result (time g c) (shown_state c.args.self.now) (state_of c.turn.new.self) (before g c) (after g c) c.turn.result (turns g c) (sound g c) c.turn.ensures.sound.sound.sound agrees moved
+
+pub returns-clause-started : goal.returns-clause-started
+returns-clause-started g c = (turn_came c.new-time.result (shown_state c.args.self.now) (state_of c.turn.new.self) (before g c) (after g c) c.turn.result (turns g c)).started
 
 pub returns-clause-cause : goal.returns-clause-cause
-returns-clause-cause g c = turn_cause c.new-time.result (shown_state c.args.self.now) (state_of c.turn.new.self) (before g c) (after g c) c.turn.result (turns g c)
+returns-clause-cause g c = (turn_came c.new-time.result (shown_state c.args.self.now) (state_of c.turn.new.self) (before g c) (after g c) c.turn.result (turns g c)).cause

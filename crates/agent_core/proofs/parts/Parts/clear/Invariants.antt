@@ -1,5 +1,4 @@
-use Rattle.std.proofs.Common.{◌≡◌, drop, false}
-use Rattle.script_run.specs.Machines.{view}
+use Rattle.std.proofs.Common.{drop, false}
 use Rattle.agent_text.specs.Histories.{AreHistories}
 use Rattle.agent_attempt.specs.ActionContents.{actions_of}
 use Rattle.agent_core.specs.Inside.{state_of}
@@ -11,10 +10,7 @@ abbrev pub invariant-loop-block : goal.invariant-loop-block
 invariant-loop-block g l = record {
   marked : AreMarked l.fn.marked l.marked;
   good : AreHistories l.marked;
-  started : g.M.Machine.started l.machine ≡ g.M.Machine.started l.fn.machine;
   goes : MarksOn
-      (MarksEach l.time (state_of l.self) (shown_actions (drop l.block-index l.block-items)) (marks_of l.marked l.any)
-      (view (g.M.Machine.world l.machine) (g.M.Machine.looked l.machine) (g.M.Machine.acted l.machine) (g.M.Machine.polled l.machine) (g.M.Machine.faults l.machine)))
-      (MarksEach l.time (state_of l.self) (actions_of l.self.sites) (marks_of l.fn.marked false)
-      (view (g.M.Machine.world l.fn.machine) (g.M.Machine.looked l.fn.machine) (g.M.Machine.acted l.fn.machine) (g.M.Machine.polled l.fn.machine) (g.M.Machine.faults l.fn.machine)));
+      (MarksEach l.time (state_of l.self) (shown_actions (drop l.block-index l.block-items)) (marks_of l.marked l.any) (g.M.Machine.told l.machine))
+      (MarksEach l.time (state_of l.self) (actions_of l.self.sites) (marks_of l.fn.marked false) (g.M.Machine.told l.fn.machine));
 }

@@ -2,7 +2,7 @@ use Rattle.std.proofs.Common.{length, refl, sym, subst, ◌∙◌}
 use Rattle.agent_core.specs.declared.parts.Parts.{Parts}
 use Rattle.agent_core.specs.Inside.{state_of}
 use Rattle.agent_state.specs.States.{State, saved_of, text_of}
-use Rattle.agent_core.specs.Devices.{devices, pocket_view}
+use Rattle.agent_core.specs.Devices.{devices}
 use Rattle.agent_core.specs.Turns.{LastSave}
 use Rattle.agent_core.proofs.Flowing.{finishes_changed, finishes_reported, within_more}
 use Rattle.agent_core.proofs.Reporting.{report_within}
@@ -21,15 +21,15 @@ save_last-requires-clause-within g c =
 
 pub returns-then-can_report-clause-finishes : goal.returns-then-can_report-clause-finishes
 returns-then-can_report-clause-finishes g c machine =
-    let old = pocket_view (g.P.Pocket.saved c.args.pocket.now) (g.P.Pocket.faults c.args.pocket.now) in
-    let new = pocket_view (g.P.Pocket.saved c.save_last.new.pocket) (g.P.Pocket.faults c.save_last.new.pocket) in
+    let old = g.P.Pocket.told c.args.pocket.now in
+    let new = g.P.Pocket.told c.save_last.new.pocket in
     finishes_reported c.args.changed c.args.would (state_of c.args.self.now) (state_of c.report.new.self) (devices machine old) c.save_last.result (state_of c.save_last.new.self) (devices machine new)
     (sym c.can_report.ensures ∙ c.if-can_report.true) c.report.ensures.state (c.save_last.ensures.saves machine)
 
 pub returns-then-changed-clause-finishes : goal.returns-then-changed-clause-finishes
 returns-then-changed-clause-finishes g c machine =
-    let old = devices machine (pocket_view (g.P.Pocket.saved c.args.pocket.now) (g.P.Pocket.faults c.args.pocket.now)) in
-    let new = devices machine (pocket_view (g.P.Pocket.saved c.save_last-then-changed.new.pocket) (g.P.Pocket.faults c.save_last-then-changed.new.pocket)) in
+    let old = devices machine (g.P.Pocket.told c.args.pocket.now) in
+    let new = devices machine (g.P.Pocket.told c.save_last-then-changed.new.pocket) in
     let s : State = state_of c.args.self.now in
     let s2 : State = state_of c.save_last-then-changed.new.self in
     finishes_changed c.args.changed c.args.would s old c.save_last-then-changed.result s2 new (sym c.can_report.ensures ∙ c.if-can_report.false)
@@ -37,7 +37,7 @@ returns-then-changed-clause-finishes g c machine =
 
 pub returns-clause-finishes : goal.returns-clause-finishes
 returns-clause-finishes g c machine =
-    let old = devices machine (pocket_view (g.P.Pocket.saved c.args.pocket.now) (g.P.Pocket.faults c.args.pocket.now)) in
+    let old = devices machine (g.P.Pocket.told c.args.pocket.now) in
     let s : State = state_of c.args.self.now in
     finishes_changed c.args.changed c.args.would s old c.args.would s old (sym c.can_report.ensures ∙ c.if-can_report.false)
     (subst (λ b. LastSave b c.args.would s old c.args.would s old) (sym c.if-changed.false) (refl, refl, refl))

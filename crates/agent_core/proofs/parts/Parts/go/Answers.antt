@@ -3,7 +3,7 @@ use Rattle.std.specs.Prelude.{IsSomeAnd}
 use Rattle.std.specs.Option.{option_map}
 use Rattle.act_rules.specs.declared.row.Row.{Row}
 use Rattle.act_rules.specs.Rows.{last_row}
-use Rattle.script_run.specs.Machines.{MachineView, view}
+use Rattle.bf_machine.specs.Views.{MachineView}
 use Rattle.agent_text.specs.SavedRows.{IsSavedNote}
 use Rattle.agent_text.specs.Histories.{rows_at, with_ended}
 use Rattle.agent_attempt.specs.Attempts.{PlainAttempt}
@@ -13,8 +13,8 @@ use Rattle.agent_core.specs.declared.parts.Parts.{Parts}
 use Rattle.agent_core.specs.declared.turned.Turned.TheVariants.{Ended, Held, Memory, Wants}
 use Rattle.agent_core.specs.Inside.{state_of}
 use Rattle.agent_state.specs.States.{State, is_of_another, with_end, with_histories, with_held}
-use Rattle.agent_core.specs.Devices.{devices, pocket_view}
-use Rattle.agent_core.specs.Turns.{Goes, outcome_of}
+use Rattle.agent_core.specs.Devices.{devices}
+use Rattle.agent_core.specs.Turns.{TurnGoesOn, outcome_of}
 use Rattle.agent_core.proofs.Flowing.{finishes_as, goes_ended, goes_held, goes_memory, goes_wants}
 use Rattle.agent_core.proofs.HeldAttempt.{held_runs, runs_on, waits_as}
 use Rattle.agent_core.proofs.Sounding.{sound_held}
@@ -26,8 +26,8 @@ pub finish-requires-clause-sound : goal.finish-requires-clause-sound
 finish-requires-clause-sound g c =
     let a : Parts = c.args.self.now in
     record {
-      sound = sound_held (shown_attempt c.go_on.new.self) (state_of a) (runs_on (shown_attempt c.args.attempt) (shown_attempt c.go_on.new.self) a.histories c.go_on.ensures.same c.requires.runs) c.requires.sound.sound;
-      tallies = c.requires.sound.tallies;
+      sound = sound_held (shown_attempt c.go_on.new.self) (state_of a) (runs_on (shown_attempt c.args.attempt) (shown_attempt c.go_on.new.self) a.histories c.go_on.ensures.same c.requires.can.runs) c.requires.can.sound.sound;
+      tallies = c.requires.can.sound.tallies;
     }
 
 pub finish-requires-clause-spare : goal.finish-requires-clause-spare
@@ -35,24 +35,27 @@ finish-requires-clause-spare g c = suffices_held c.args.spare c.args.self.now (S
 
 pub returns-in-Held-clause-goes : goal.returns-in-Held-clause-goes
 returns-in-Held-clause-goes g c s e =
-    let began : MachineView = view (g.M.Machine.world c.args.machine.now) (g.M.Machine.looked c.args.machine.now) (g.M.Machine.acted c.args.machine.now) (g.M.Machine.polled c.args.machine.now) (g.M.Machine.faults c.args.machine.now) in
-    let now : MachineView = view (g.M.Machine.world c.go_on.new.machine) (g.M.Machine.looked c.go_on.new.machine) (g.M.Machine.acted c.go_on.new.machine) (g.M.Machine.polled c.go_on.new.machine) (g.M.Machine.faults c.go_on.new.machine) in
-    let old = pocket_view (g.P.Pocket.saved c.args.pocket.now) (g.P.Pocket.faults c.args.pocket.now) in
-    let new = pocket_view (g.P.Pocket.saved c.finish.new.pocket) (g.P.Pocket.faults c.finish.new.pocket) in
+    let began : MachineView = g.M.Machine.told c.args.machine.now in
+    let now : MachineView = g.M.Machine.told c.go_on.new.machine in
+    let old = g.P.Pocket.told c.args.pocket.now in
+    let new = g.P.Pocket.told c.finish.new.pocket in
     let attempt : PlainAttempt = shown_attempt c.args.attempt in
     let after : PlainAttempt = shown_attempt c.go_on.new.self in
     goes_held c.args.time.now c.args.began attempt after s (devices began old) c.go_on.result c.in-Held.component c.in-Held.line now c.finish.result (state_of c.finish.new.self) (devices now new) c.in-Held.is c.go_on.ensures.goes
     (finishes_as _ _ _ (with_held (Some after) s) _ _ _ _ _ (λ j. Held (c.action_id-id.ensures j) c.args.began c.in-Held.component c.in-Held.line) (ap (with_held (Some after)) (sym e)) (c.finish.ensures.finishes now))
 
-pub returns-in-Held-clause-waits : goal.returns-in-Held-clause-waits
-returns-in-Held-clause-waits g c = waits_as _ _ (Some (shown_attempt c.go_on.new.self)) c.finish.ensures.held c.go_on.ensures.waits
+pub returns-in-Held-clause-sound : goal.returns-in-Held-clause-sound
+returns-in-Held-clause-sound g c = record {
+  sound = c.finish.ensures.sound;
+  waits = waits_as _ _ (Some (shown_attempt c.go_on.new.self)) c.finish.ensures.held c.go_on.ensures.waits;
+}
 
 pub finish-requires-in-Wants-clause-sound : goal.finish-requires-in-Wants-clause-sound
 finish-requires-in-Wants-clause-sound g c =
     let a : Parts = c.args.self.now in
     record {
-      sound = sound_held (shown_attempt c.go_on.new.self) (state_of a) (runs_on (shown_attempt c.args.attempt) (shown_attempt c.go_on.new.self) a.histories c.go_on.ensures.same c.requires.runs) c.requires.sound.sound;
-      tallies = c.requires.sound.tallies;
+      sound = sound_held (shown_attempt c.go_on.new.self) (state_of a) (runs_on (shown_attempt c.args.attempt) (shown_attempt c.go_on.new.self) a.histories c.go_on.ensures.same c.requires.can.runs) c.requires.can.sound.sound;
+      tallies = c.requires.can.sound.tallies;
     }
 
 pub finish-requires-in-Wants-clause-spare : goal.finish-requires-in-Wants-clause-spare
@@ -60,43 +63,49 @@ finish-requires-in-Wants-clause-spare g c = suffices_held c.args.spare c.args.se
 
 pub returns-in-Wants-clause-goes : goal.returns-in-Wants-clause-goes
 returns-in-Wants-clause-goes g c s e =
-    let began : MachineView = view (g.M.Machine.world c.args.machine.now) (g.M.Machine.looked c.args.machine.now) (g.M.Machine.acted c.args.machine.now) (g.M.Machine.polled c.args.machine.now) (g.M.Machine.faults c.args.machine.now) in
-    let now : MachineView = view (g.M.Machine.world c.go_on.new.machine) (g.M.Machine.looked c.go_on.new.machine) (g.M.Machine.acted c.go_on.new.machine) (g.M.Machine.polled c.go_on.new.machine) (g.M.Machine.faults c.go_on.new.machine) in
-    let old = pocket_view (g.P.Pocket.saved c.args.pocket.now) (g.P.Pocket.faults c.args.pocket.now) in
-    let new = pocket_view (g.P.Pocket.saved c.finish-in-Wants.new.pocket) (g.P.Pocket.faults c.finish-in-Wants.new.pocket) in
+    let began : MachineView = g.M.Machine.told c.args.machine.now in
+    let now : MachineView = g.M.Machine.told c.go_on.new.machine in
+    let old = g.P.Pocket.told c.args.pocket.now in
+    let new = g.P.Pocket.told c.finish-in-Wants.new.pocket in
     let attempt : PlainAttempt = shown_attempt c.args.attempt in
     let after : PlainAttempt = shown_attempt c.go_on.new.self in
     goes_wants c.args.time.now c.args.began attempt after s (devices began old) c.go_on.result c.in-Wants.digest now c.finish-in-Wants.result (state_of c.finish-in-Wants.new.self) (devices now new) c.in-Wants.is c.go_on.ensures.goes
     (finishes_as _ _ _ (with_held (Some after) s) _ _ _ _ _ (λ j. Wants (c.action_id-id.ensures j) c.args.began c.in-Wants.digest) (ap (with_held (Some after)) (sym e)) (c.finish-in-Wants.ensures.finishes now))
 
-pub returns-in-Wants-clause-waits : goal.returns-in-Wants-clause-waits
-returns-in-Wants-clause-waits g c = waits_as _ _ (Some (shown_attempt c.go_on.new.self)) c.finish-in-Wants.ensures.held c.go_on.ensures.waits
+pub returns-in-Wants-clause-sound : goal.returns-in-Wants-clause-sound
+returns-in-Wants-clause-sound g c = record {
+  sound = c.finish-in-Wants.ensures.sound;
+  waits = waits_as _ _ (Some (shown_attempt c.go_on.new.self)) c.finish-in-Wants.ensures.held c.go_on.ensures.waits;
+}
 
 pub returns-in-Memory-clause-goes : goal.returns-in-Memory-clause-goes
 returns-in-Memory-clause-goes g c s e =
-    let began : MachineView = view (g.M.Machine.world c.args.machine.now) (g.M.Machine.looked c.args.machine.now) (g.M.Machine.acted c.args.machine.now) (g.M.Machine.polled c.args.machine.now) (g.M.Machine.faults c.args.machine.now) in
-    let now : MachineView = view (g.M.Machine.world c.go_on.new.machine) (g.M.Machine.looked c.go_on.new.machine) (g.M.Machine.acted c.go_on.new.machine) (g.M.Machine.polled c.go_on.new.machine) (g.M.Machine.faults c.go_on.new.machine) in
-    let old = pocket_view (g.P.Pocket.saved c.args.pocket.now) (g.P.Pocket.faults c.args.pocket.now) in
+    let began : MachineView = g.M.Machine.told c.args.machine.now in
+    let now : MachineView = g.M.Machine.told c.go_on.new.machine in
+    let old = g.P.Pocket.told c.args.pocket.now in
     let attempt : PlainAttempt = shown_attempt c.args.attempt in
     let after : PlainAttempt = shown_attempt c.go_on.new.self in
-    subst (λ (x : State). Goes c.args.time.now c.args.began attempt s (devices began old) Memory x (devices now old)) (ap (with_held (Some after)) e) (goes_memory c.args.time.now c.args.began attempt after s (devices began old) c.go_on.result now c.in-Memory.is c.go_on.ensures.goes)
+    subst (λ (x : State). TurnGoesOn c.args.time.now c.args.began attempt s (devices began old) Memory x (devices now old)) (ap (with_held (Some after)) e) (goes_memory c.args.time.now c.args.began attempt after s (devices began old) c.go_on.result now c.in-Memory.is c.go_on.ensures.goes)
 
 pub returns-in-Memory-clause-sound : goal.returns-in-Memory-clause-sound
 returns-in-Memory-clause-sound g c =
     let a : Parts = c.args.self.now in
     record {
-      sound = sound_held (shown_attempt c.go_on.new.self) (state_of a) (runs_on (shown_attempt c.args.attempt) (shown_attempt c.go_on.new.self) a.histories c.go_on.ensures.same c.requires.runs) c.requires.sound.sound;
-      tallies = c.requires.sound.tallies;
+      sound = record {
+        sound = sound_held (shown_attempt c.go_on.new.self) (state_of a) (runs_on (shown_attempt c.args.attempt) (shown_attempt c.go_on.new.self) a.histories c.go_on.ensures.same c.requires.can.runs) c.requires.can.sound.sound;
+        tallies = c.requires.can.sound.tallies;
+      };
+      waits = c.go_on.ensures.waits;
     }
 
 -- ---- it has ended
 pub end-requires-clause-running : goal.end-requires-clause-running
 end-requires-clause-running g c =
     let a : Parts = c.args.self.now in
-    subst (λ id. IsSomeAnd (last_row (rows_at id a.histories)) (λ (row : Row). row.end ≡ None)) (sym c.action_id-id.ensures) (held_runs (shown_attempt c.args.attempt) a.histories c.requires.runs)
+    subst (λ id. IsSomeAnd (last_row (rows_at id a.histories)) (λ (row : Row). row.end ≡ None)) (sym c.action_id-id.ensures) (held_runs (shown_attempt c.args.attempt) a.histories c.requires.can.runs)
 
 pub end-requires-clause-free : goal.end-requires-clause-free
-end-requires-clause-free g c = ap (λ o. is_of_another c.action_id-id.result (option_map shown_attempt o)) c.requires.free
+end-requires-clause-free g c = ap (λ o. is_of_another c.action_id-id.result (option_map shown_attempt o)) c.requires.can.free
 
 pub note_fits-requires : goal.note_fits-requires
 note_fits-requires g c = subst HasNote c.in-Ended.is c.go_on.ensures.note
@@ -107,15 +116,15 @@ end-requires-clause-note g c = subst (λ o. IsSavedNote o c.in-Ended.note) (sym 
 pub finish-requires-in-Ended-clause-spare : goal.finish-requires-in-Ended-clause-spare
 finish-requires-in-Ended-clause-spare g c =
     let a : Parts = c.args.self.now in
-    let running = subst (λ id. IsSomeAnd (last_row (rows_at id a.histories)) (λ (row : Row). row.end ≡ None)) (sym c.action_id-id.ensures) (held_runs (shown_attempt c.args.attempt) a.histories c.requires.runs) in
-    suffices_ended c.args.spare a c.end.new.self c.action_id-id.result c.args.time.now.moment c.outcome_of-outcome.result c.in-Ended.note (λ (row : Row). row.end ≡ None) c.requires.sound running c.end.ensures.state c.end.ensures.room c.requires.spare
+    let running = subst (λ id. IsSomeAnd (last_row (rows_at id a.histories)) (λ (row : Row). row.end ≡ None)) (sym c.action_id-id.ensures) (held_runs (shown_attempt c.args.attempt) a.histories c.requires.can.runs) in
+    suffices_ended c.args.spare a c.end.new.self c.action_id-id.result c.args.time.now.moment c.outcome_of-outcome.result c.in-Ended.note (λ (row : Row). row.end ≡ None) c.requires.can.sound running c.end.ensures.state c.end.ensures.room c.requires.spare
 
 pub returns-in-Ended-clause-goes : goal.returns-in-Ended-clause-goes
 returns-in-Ended-clause-goes g c s e =
-    let began : MachineView = view (g.M.Machine.world c.args.machine.now) (g.M.Machine.looked c.args.machine.now) (g.M.Machine.acted c.args.machine.now) (g.M.Machine.polled c.args.machine.now) (g.M.Machine.faults c.args.machine.now) in
-    let now : MachineView = view (g.M.Machine.world c.go_on.new.machine) (g.M.Machine.looked c.go_on.new.machine) (g.M.Machine.acted c.go_on.new.machine) (g.M.Machine.polled c.go_on.new.machine) (g.M.Machine.faults c.go_on.new.machine) in
-    let old = pocket_view (g.P.Pocket.saved c.args.pocket.now) (g.P.Pocket.faults c.args.pocket.now) in
-    let new = pocket_view (g.P.Pocket.saved c.finish-in-Ended.new.pocket) (g.P.Pocket.faults c.finish-in-Ended.new.pocket) in
+    let began : MachineView = g.M.Machine.told c.args.machine.now in
+    let now : MachineView = g.M.Machine.told c.go_on.new.machine in
+    let old = g.P.Pocket.told c.args.pocket.now in
+    let new = g.P.Pocket.told c.finish-in-Ended.new.pocket in
     let attempt : PlainAttempt = shown_attempt c.args.attempt in
     let after : PlainAttempt = shown_attempt c.go_on.new.self in
     let fail = c.in-Ended.fail in
@@ -125,7 +134,10 @@ returns-in-Ended-clause-goes g c s e =
     (finishes_as _ _ _ (with_end attempt.action.id moment (outcome_of fail) note s) _ _ _ _ _ (λ j. Ended (c.action_id-id.ensures j) c.args.began (c.outcome_of-outcome.ensures j) fail)
     (c.end.ensures.state ∙ (λ j. with_histories (with_ended (c.action_id-id.ensures j) moment (c.outcome_of-outcome.ensures j) note (sym e j).histories) (sym e j))) (c.finish-in-Ended.ensures.finishes now))
 
-pub returns-in-Ended-clause-waits : goal.returns-in-Ended-clause-waits
-returns-in-Ended-clause-waits g c =
+pub returns-in-Ended-clause-sound : goal.returns-in-Ended-clause-sound
+returns-in-Ended-clause-sound g c =
     let held = λ (s : State). s.held in
-    waits_as _ _ None (c.finish-in-Ended.ensures.held ∙ ap held c.end.ensures.state ∙ ap (option_map shown_attempt) c.requires.free) tt
+    record {
+      sound = c.finish-in-Ended.ensures.sound;
+      waits = waits_as _ _ None (c.finish-in-Ended.ensures.held ∙ ap held c.end.ensures.state ∙ ap (option_map shown_attempt) c.requires.can.free) tt;
+    }

@@ -9,13 +9,15 @@ use Rattle.agent_core.proofs.HeldAttempt.{none_shown}
 use Rattle.agent_core.proofs.Sounding.{sound_held}
 use Rattle.agent_core.proofs.parts.Parts.resume.Goals as goal
 
-pub go-requires-clause-free : goal.go-requires-clause-free
-go-requires-clause-free g c =
+pub go-requires-clause-can : goal.go-requires-clause-can
+go-requires-clause-can g c =
     let b : Parts = c.take_spare.new.self in
-    none_shown b.held (ap (λ (s : State). s.held) c.take_spare.ensures.state ∙ ap (option_map shown_attempt) c.requires.free)
-
-pub go-requires-clause-runs : goal.go-requires-clause-runs
-go-requires-clause-runs g c = subst (HeldRuns (Some (shown_attempt c.args.attempt))) (sym (ap (λ (s : State). s.histories) c.take_spare.ensures.state)) c.requires.runs
+    record {
+      sound = c.take_spare.ensures.sound;
+      free = none_shown b.held (ap (λ (s : State). s.held) c.take_spare.ensures.state ∙ ap (option_map shown_attempt) c.requires.free);
+      runs = subst (HeldRuns (Some (shown_attempt c.args.attempt))) (sym (ap (λ (s : State). s.histories) c.take_spare.ensures.state)) c.requires.runs;
+      waits = c.requires.waits;
+    }
 
 pub returns-in-Ok-clause-goes : goal.returns-in-Ok-clause-goes
 returns-in-Ok-clause-goes g c =
@@ -33,6 +35,9 @@ returns-in-Err-clause-sound g c =
     let b : Parts = c.take_spare.new.self in
     let attempt : PlainAttempt = shown_attempt c.args.attempt in
     record {
-      sound = sound_held attempt (state_of b) (subst (HeldRuns (Some attempt)) (sym (ap (λ (s : State). s.histories) c.take_spare.ensures.state)) c.requires.runs) c.take_spare.ensures.sound.sound;
-      tallies = c.take_spare.ensures.sound.tallies;
+      sound = record {
+        sound = sound_held attempt (state_of b) (subst (HeldRuns (Some attempt)) (sym (ap (λ (s : State). s.histories) c.take_spare.ensures.state)) c.requires.runs) c.take_spare.ensures.sound.sound;
+        tallies = c.take_spare.ensures.sound.tallies;
+      };
+      waits = c.requires.waits;
     }

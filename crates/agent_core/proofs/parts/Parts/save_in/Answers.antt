@@ -1,30 +1,23 @@
 use Rattle.std.proofs.Common.{◌≡◌, ◌++◌, false, sym, ap, subst, ◌∙◌}
-use Rattle.agent_text.specs.Pockets.{Saves}
+use Rattle.agent_text.specs.Pockets.{SavesTo}
 use Rattle.agent_text.specs.SavedTexts.{saved_text}
 use Rattle.agent_core.specs.declared.parts.Parts.{Parts}
 use Rattle.agent_core.specs.Inside.{IsSoundParts, state_of}
 use Rattle.agent_state.specs.Outboxes.{OutboxState}
 use Rattle.agent_state.specs.States.{text_of}
 use Rattle.agent_core.specs.Steps.{after_save}
-use Rattle.agent_core.proofs.Flowing.{saves_on}
 use Rattle.agent_core.proofs.Sounding.{sound_saved}
 use Rattle.agent_core.proofs.parts.Parts.save_in.Goals as goal
 
-pub returns-in-Done-clause-saves : goal.returns-in-Done-clause-saves
-returns-in-Done-clause-saves g c =
+pub returns-in-Done-clause-parts : goal.returns-in-Done-clause-parts
+returns-in-Done-clause-parts g c =
     let a : Parts = c.args.self.now in
     let text : c.as_slice.result.now ≡ text_of (state_of a) =
     c.as_slice.ensures ∙ c.fill_saved.ensures.0 ∙ (λ j. (c.clear.ensures j).bytes ++ saved_text (record { computer = a.name; next = a.next; histories = a.histories; reports = c.all.ensures j })) in
-    saves_on _ _ _ _ (subst (λ x. Saves x c.save-result.result (g.P.Pocket.saved c.args.pocket.now) (g.P.Pocket.saved c.save-result.new.self)) text c.save-result.ensures.saves) c.save-result.ensures.failed
-    c.save-result.ensures.steady
-
-pub returns-in-Done-clause-sound : goal.returns-in-Done-clause-sound
-returns-in-Done-clause-sound g c =
-    let a : Parts = c.args.self.now in
-    subst (λ (x : OutboxState). IsSoundParts (record a { outbox = x; unsaved = false })) (sym c.show.ensures)
-    (record { sound = sound_saved (state_of a) c.requires.sound.sound; tallies = c.requires.sound.tallies })
-
-pub returns-in-Done-clause-state : goal.returns-in-Done-clause-state
-returns-in-Done-clause-state g c =
-    let a : Parts = c.args.self.now in
-    (λ j. state_of (record a { outbox = c.show.ensures j; unsaved = false })) ∙ ap (λ r. after_save r (state_of a)) (sym c.in-Done.is)
+    record {
+      saves = subst (λ x. SavesTo x (g.P.Pocket.told c.args.pocket.now) c.save-result.result (g.P.Pocket.told c.save-result.new.self)) text c.save-result.ensures;
+      state = (λ j. state_of (record a { outbox = c.show.ensures j; unsaved = false })) ∙ ap (λ r. after_save r (state_of a)) (sym c.in-Done.is);
+      sound = subst (λ (x : OutboxState). IsSoundParts (record a { outbox = x; unsaved = false })) (sym c.show.ensures)
+          (record { sound = sound_saved (state_of a) c.requires.sound.sound; tallies = c.requires.sound.tallies });
+      room = ap (λ (x : OutboxState). x.capacity) c.show.ensures;
+    }

@@ -1,12 +1,11 @@
 use Rattle.std.proofs.Common.{◌≡◌, None, Some, Option, sym, ap, subst, ◌∙◌}
 use Rattle.std.specs.Option.{option_map}
-use Rattle.script_run.specs.Machines.{view}
 use Rattle.agent_attempt.specs.ActionContents.{actions_of}
 use Rattle.agent_attempt.specs.Stages.{AttemptState, shown_attempt}
 use Rattle.agent_core.specs.declared.parts.Parts.{Parts}
 use Rattle.agent_core.specs.Inside.{IsSoundParts, state_of}
 use Rattle.agent_state.specs.States.{HeldRuns, broken_action}
-use Rattle.agent_core.specs.Devices.{devices, pocket_view}
+use Rattle.agent_core.specs.Devices.{devices}
 use Rattle.agent_core.specs.Stops.{HeldWaitsBelow}
 use Rattle.agent_core.specs.Turns.{Tries}
 use Rattle.agent_core.proofs.Flowing.{none_is, steps_broken, steps_held, steps_tries}
@@ -19,24 +18,22 @@ interrupt-requires-clause-broken g c = sym c.in-Some.ensures
 pub returns-in-Some-clause-steps : goal.returns-in-Some-clause-steps
 returns-in-Some-clause-steps g c = steps_broken _ _ _ c.in-Some.id _ _ _ (sym c.in-Some.ensures) (c.interrupt.ensures.interrupts _)
 
-pub returns-in-Some-clause-waits : goal.returns-in-Some-clause-waits
-returns-in-Some-clause-waits g c = subst (λ h. HeldWaitsBelow (g.M.Machine.started c.args.machine.now) h) (sym c.interrupt.ensures.held) c.requires.waits
+pub returns-in-Some-clause-sound : goal.returns-in-Some-clause-sound
+returns-in-Some-clause-sound g c = record {
+  sound = c.interrupt.ensures.sound;
+  waits = subst (λ h. HeldWaitsBelow (g.M.Machine.told c.args.machine.now).started h) (sym c.interrupt.ensures.held) c.requires.waits;
+}
 
-pub resume-requires-clause-sound : goal.resume-requires-clause-sound
-resume-requires-clause-sound g c =
-    let a : Parts = c.args.self.now in
-    subst (λ (o : Option AttemptState). IsSoundParts (record a { held = o })) (sym c.take.ensures.after) (record { sound = sound_unheld (state_of a) c.requires.sound.sound; tallies = c.requires.sound.tallies })
-
-pub resume-requires-clause-runs : goal.resume-requires-clause-runs
-resume-requires-clause-runs g c =
+pub resume-requires : goal.resume-requires
+resume-requires g c =
     let a : Parts = c.args.self.now in
     let held : a.held ≡ Some c.in-Some-take.attempt = sym c.in-Some-take.ensures.value in
-    subst (λ (o : Option AttemptState). HeldRuns (option_map shown_attempt o) a.histories) held c.requires.sound.sound.held
-
-pub resume-requires-clause-waits : goal.resume-requires-clause-waits
-resume-requires-clause-waits g c =
-    let held : c.args.self.now.held ≡ Some c.in-Some-take.attempt = sym c.in-Some-take.ensures.value in
-    subst (λ (o : Option AttemptState). HeldWaitsBelow (g.M.Machine.started c.args.machine.now) (option_map shown_attempt o)) held c.requires.waits
+    record {
+      sound = subst (λ (o : Option AttemptState). IsSoundParts (record a { held = o })) (sym c.take.ensures.after) (record { sound = sound_unheld (state_of a) c.requires.sound.sound; tallies = c.requires.sound.tallies });
+      free = c.take.ensures.after;
+      runs = subst (λ (o : Option AttemptState). HeldRuns (option_map shown_attempt o) a.histories) held c.requires.sound.sound.held;
+      waits = subst (λ (o : Option AttemptState). HeldWaitsBelow (g.M.Machine.told c.args.machine.now).started (option_map shown_attempt o)) held c.requires.waits;
+    }
 
 pub try_actions-requires-clause-sound : goal.try_actions-requires-clause-sound
 try_actions-requires-clause-sound g c =
@@ -64,7 +61,7 @@ returns-in-None-clause-steps g c =
     let held : c.take.new.self ≡ a.held = c.take.ensures.after ∙ c.in-None.ensures.value in
     steps_tries _ (state_of a) _ _ _ _ none (ap (option_map shown_attempt) (sym c.in-None.ensures.value))
     (subst (λ (o : Option AttemptState). Tries c.args.time.now (state_of (record a { held = o })) (actions_of a.sites)
-    (devices (view (g.M.Machine.world c.args.machine.now) (g.M.Machine.looked c.args.machine.now) (g.M.Machine.acted c.args.machine.now) (g.M.Machine.polled c.args.machine.now) (g.M.Machine.faults c.args.machine.now))
-    (pocket_view (g.P.Pocket.saved c.args.pocket.now) (g.P.Pocket.faults c.args.pocket.now))) c.try_actions.result (state_of c.try_actions.new.self)
-    (devices (view (g.M.Machine.world c.try_actions.new.machine) (g.M.Machine.looked c.try_actions.new.machine) (g.M.Machine.acted c.try_actions.new.machine) (g.M.Machine.polled c.try_actions.new.machine) (g.M.Machine.faults c.try_actions.new.machine))
-    (pocket_view (g.P.Pocket.saved c.try_actions.new.pocket) (g.P.Pocket.faults c.try_actions.new.pocket)))) held c.try_actions.ensures.tries)
+    (devices (g.M.Machine.told c.args.machine.now)
+    (g.P.Pocket.told c.args.pocket.now)) c.try_actions.result (state_of c.try_actions.new.self)
+    (devices (g.M.Machine.told c.try_actions.new.machine)
+    (g.P.Pocket.told c.try_actions.new.pocket))) held c.try_actions.ensures.tries)

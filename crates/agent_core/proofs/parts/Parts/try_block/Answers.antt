@@ -5,6 +5,6 @@ use Rattle.agent_core.specs.Inside.{state_of}
 use Rattle.agent_core.proofs.Searching.{finds_block}
 use Rattle.agent_core.proofs.parts.Parts.try_block.Goals as goal
 
-pub returns-in-Action-clause-finds : goal.returns-in-Action-clause-finds
-returns-in-Action-clause-finds g c =
-    finds_block c.args.time.now (state_of c.args.self.now) c.args.block.now c.in-Action.action c.args.marked.now _ _ _ (ap (λ b. as_action (shown_block b)) c.in-Action.is) c.try_one.ensures.tries
+pub returns-in-Action : goal.returns-in-Action
+returns-in-Action g c =
+    finds_block c.args.time.now (state_of c.args.self.now) c.args.block.now c.in-Action.action c.args.marked.now _ _ _ (ap (λ b. as_action (shown_block b)) c.in-Action.is) c.try_one.ensures

@@ -13,18 +13,18 @@ use Rattle.agent_core.proofs.Due.{asked_of}
 use Rattle.agent_state.proofs.RowsAt.{found_rows}
 use Rattle.agent_core.proofs.parts.Parts.try_one.Goals as goal
 
-pub returns-in-No-clause-tries : goal.returns-in-No-clause-tries
-returns-in-No-clause-tries g c =
+pub returns-in-No : goal.returns-in-No
+returns-in-No g c =
     let content = c.content-content.ensures ∙ ap (λ (a : Action). content_of a c.args.self.now.sites) c.action.ensures in
     let rows = c.rows_of-rows.ensures.value ∙ found_rows c.rows.result (rows_at c.action-2.result.now.id c.args.marked.now) c.rows.ensures.value ∙ ap (λ (a : Action). rows_at a.id c.args.marked.now) c.action-2.ensures in
-    (No, asked_of c.args.time.now c.args.self.now.name c.args.action.now _ _ _ _ _ _ _ No content rows c.in-No.is c.due-found.ensures.asks, refl)
+    (No, asked_of c.args.time.now c.args.self.now.name c.args.action.now _ _ _ _ _ _ _ No content rows c.in-No.is c.due-found.ensures.due, refl)
 
-pub returns-in-Ok-clause-tries : goal.returns-in-Ok-clause-tries
-returns-in-Ok-clause-tries g c =
+pub returns-in-Ok : goal.returns-in-Ok
+returns-in-Ok g c =
     let action : Action = c.args.action.now in
     let content = c.content-content.ensures ∙ ap (λ (a : Action). content_of a c.args.self.now.sites) c.action.ensures in
     let rows = c.rows_of-rows.ensures.value ∙ found_rows c.rows.result (rows_at c.action-2.result.now.id c.args.marked.now) c.rows.ensures.value ∙ ap (λ (a : Action). rows_at a.id c.args.marked.now) c.action-2.ensures in
-    let asked = asked_of c.args.time.now c.args.self.now.name action _ _ _ _ _ _ _ Yes content rows c.in-Yes.is c.due-found.ensures.asks in
+    let asked = asked_of c.args.time.now c.args.self.now.name action _ _ _ _ _ _ _ Yes content rows c.in-Yes.is c.due-found.ensures.due in
     let offset = to_z-of_z w64 c.offset.result (record { sfits = c.offset.type_inv }) ∙ c.offset.ensures.value in
     let own = shown_content c.in-Some.content in (
       Yes,

@@ -9,11 +9,11 @@ use Rattle.agent_core.proofs.parts.Parts.turn.Goals as goal
 pub returns-then-not-self-clause-turns : goal.returns-then-not-self-clause-turns
 returns-then-not-self-clause-turns g c = turn_clean _ _ _ _ _ _ c.if-not-self.true c.step.ensures.steps
 
-pub step-requires-in-Done-clause-waits : goal.step-requires-in-Done-clause-waits
-step-requires-in-Done-clause-waits g c =
+pub step-requires-in-Done : goal.step-requires-in-Done
+step-requires-in-Done g c =
     let s = state_of c.args.self.now in
     let held : (state_of c.save.new.self).held ≡ s.held = ap (λ (x : State). x.held) c.save.ensures.state ∙ saved_same (λ x. x.held) (λ x. λ i. x.held) c.save.result s in
-    subst (λ h. HeldWaitsBelow (g.M.Machine.started c.args.machine.now) h) (sym held) c.requires.waits
+    record { sound = c.save.ensures.sound; waits = subst (λ h. HeldWaitsBelow (g.M.Machine.told c.args.machine.now).started h) (sym held) c.requires.waits }
 
 pub returns-in-Done-clause-turns : goal.returns-in-Done-clause-turns
 returns-in-Done-clause-turns g c =
@@ -23,18 +23,18 @@ pub returns-in-Failed-clause-turns : goal.returns-in-Failed-clause-turns
 returns-in-Failed-clause-turns g c =
     turn_failed _ (state_of c.args.self.now) (state_of c.save.new.self) _ c.save.result _ c.if-not-self.false c.in-Failed.is c.save.ensures.saves c.save.ensures.state
 
-pub returns-in-Failed-clause-waits : goal.returns-in-Failed-clause-waits
-returns-in-Failed-clause-waits g c =
+pub returns-in-Failed-clause-sound : goal.returns-in-Failed-clause-sound
+returns-in-Failed-clause-sound g c =
     let s = state_of c.args.self.now in
     let held : (state_of c.save.new.self).held ≡ s.held = ap (λ (x : State). x.held) c.save.ensures.state ∙ saved_same (λ x. x.held) (λ x. λ i. x.held) c.save.result s in
-    subst (λ h. HeldWaitsBelow (g.M.Machine.started c.args.machine.now) h) (sym held) c.requires.waits
+    record { sound = c.save.ensures.sound; waits = subst (λ h. HeldWaitsBelow (g.M.Machine.told c.args.machine.now).started h) (sym held) c.requires.waits }
 
 pub returns-in-Memory-clause-turns : goal.returns-in-Memory-clause-turns
 returns-in-Memory-clause-turns g c =
     turn_memory _ (state_of c.args.self.now) (state_of c.save.new.self) _ c.save.result _ c.if-not-self.false c.in-Memory.is c.save.ensures.saves c.save.ensures.state
 
-pub returns-in-Memory-clause-waits : goal.returns-in-Memory-clause-waits
-returns-in-Memory-clause-waits g c =
+pub returns-in-Memory-clause-sound : goal.returns-in-Memory-clause-sound
+returns-in-Memory-clause-sound g c =
     let s = state_of c.args.self.now in
     let held : (state_of c.save.new.self).held ≡ s.held = ap (λ (x : State). x.held) c.save.ensures.state ∙ saved_same (λ x. x.held) (λ x. λ i. x.held) c.save.result s in
-    subst (λ h. HeldWaitsBelow (g.M.Machine.started c.args.machine.now) h) (sym held) c.requires.waits
+    record { sound = c.save.ensures.sound; waits = subst (λ h. HeldWaitsBelow (g.M.Machine.told c.args.machine.now).started h) (sym held) c.requires.waits }

@@ -8,7 +8,7 @@ use Rattle.rel_eval.proofs.cursor.Cursor.pull.Goals as goal
 
 pub returns-clause-goes : goal.returns-clause-goes
 returns-clause-goes g c = λ w h.
-    open_draws _ _ _ _ _ _ _ c.into_pulled-pulled.result c.args.self.now.state c.state-self.result c.in-Open.is c.state-self.ensures (c.step-step.ensures.goes w h) c.into_pulled-pulled.ensures.meets
+    open_draws _ _ _ _ _ _ _ c.into_pulled-pulled.result c.args.self.now.state c.state-self.result c.in-Open.is c.state-self.ensures (c.step-step.ensures.steps.goes w h) c.into_pulled-pulled.ensures.meets
 
 pub returns-clause-again : goal.returns-clause-again
 returns-clause-again g c = as_open c.args.self.now.state c.into_pulled-pulled.result c.in-Open.is c.into_pulled-pulled.ensures.not_closed
@@ -17,10 +17,10 @@ pub returns-clause-still : goal.returns-clause-still
 returns-clause-still g c = λ h. absurd (h c.in-Open.is)
 
 pub returns-clause-nearer : goal.returns-clause-nearer
-returns-clause-nearer g c = weighs _ _ _ _ _ c.into_pulled-pulled.result c.step-step.ensures.shape c.step-step.ensures.within c.step-step.ensures.falls c.into_pulled-pulled.ensures.nearer
+returns-clause-nearer g c = weighs _ _ _ _ _ c.into_pulled-pulled.result c.step-step.ensures.shape c.step-step.ensures.steps.within c.step-step.ensures.steps.falls c.into_pulled-pulled.ensures.nearer
 
 pub returns-clause-cause : goal.returns-clause-cause
-returns-clause-cause g c = c.into_pulled-pulled.ensures.cause _ _ c.step-step.ensures.cause
+returns-clause-cause g c = c.into_pulled-pulled.ensures.cause _ _ c.step-step.ensures.steps.cause
 
 pub returns-in-Over-clause-goes : goal.returns-in-Over-clause-goes
 returns-in-Over-clause-goes g c = λ w h. over_draws _ c.args.self.now.state _ c.in-Over.is

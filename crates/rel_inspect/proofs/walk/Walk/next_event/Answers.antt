@@ -10,7 +10,7 @@ some_world = bare [] [] [] (pos 0) (pos 0)
 
 pub returns-in_default-clause-cause : goal.returns-in_default-clause-cause
 returns-in_default-clause-cause g c =
-    moves-cause (g.M.Machine.faults c.args.machine.now) (state_left c.args.self.now.state some_world c.args.scene.now) (state_left c.go.new.self some_world c.args.scene.now) c.go.result (c.go.ensures.moves some_world)
+    moves-cause (g.M.Machine.told c.args.machine.now).faults (state_left c.args.self.now.state some_world c.args.scene.now) (state_left c.go.new.self some_world c.args.scene.now) c.go.result (c.go.ensures.moves some_world)
 
 pub returns-in_default-clause-room : goal.returns-in_default-clause-room
 returns-in_default-clause-room g c =

@@ -14,7 +14,7 @@ into_step-requires g c =
 
 pub returns-in-Looked-clause-cause : goal.returns-in-Looked-clause-cause
 returns-in-Looked-clause-cause g c =
-    cause-then (g.M.Machine.faults c.args.machine.now) (g.M.Machine.faults c.next_event.new.machine)
+    cause-then (g.M.Machine.told c.args.machine.now).faults (g.M.Machine.told c.next_event.new.machine).faults
     (state_left c.next_event.new.self.state some_world c.args.scene.now) (state_left c.go.new.self some_world c.args.scene.now) c.go.result c.into_step.result
     c.in-Looked.ensures.cause (c.go.ensures.moves some_world) c.into_step.ensures
 
@@ -24,11 +24,7 @@ returns-in_default g c =
     record {
       goes = λ w told. event-then _ _ (left c.args.self.now w c.args.scene.now) (left c.next_event.new.self w c.args.scene.now) c.next_event.result c.into_step-in_default.result (c.next_event.ensures.goes w told) is c.into_step-in_default.ensures;
       cause = cause-as _ _ c.next_event.result c.into_step-in_default.result c.next_event.ensures.cause is c.into_step-in_default.ensures;
-      later = c.next_event.ensures.later;
-      world = c.next_event.ensures.world;
-      acted = c.next_event.ensures.acted;
-      polled = c.next_event.ensures.polled;
-      started = c.next_event.ensures.started;
+      looks = c.next_event.ensures.looks;
       walk = c.next_event.ensures.walk;
       sound = sound-as c.next_event.result c.into_step-in_default.result c.next_event.ensures.sound is c.into_step-in_default.ensures;
     }

@@ -1,7 +1,12 @@
 use Rattle.rel_nodes.proofs.walking.Walking.step.Goals as goal
 
-pub returns-clause-cause : goal.returns-clause-cause
-returns-clause-cause g c = c.placed.ensures.cause _ _ c.next_event-event.ensures.cause
-
-pub returns-clause-room : goal.returns-clause-room
-returns-clause-room g c = c.placed.ensures.room _ c.next_event-event.ensures.room
+pub returns : goal.returns
+returns g c =
+    let e = c.next_event-event.ensures in
+    record {
+      goes = λ w h. c.placed.ensures.goes _ _ _ _ (e.goes w h);
+      cause = c.placed.ensures.cause _ _ e.cause;
+      as_room = c.placed.ensures.room _ e.room;
+      falls = c.placed.ensures.falls _ _ e.falls;
+      looks = e.looks;
+    }

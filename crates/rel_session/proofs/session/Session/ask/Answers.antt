@@ -12,4 +12,4 @@ returns-in_err-moment-clause-said g c =
 pub returns-clause-said : goal.returns-clause-said
 returns-clause-said g c =
     let fits : SFits w64 c.in_ok-moment.moment = search rules in
-    said_dated c.answer.result _ _ _ _ _ _ _ _ _ _ (omega arith) c.in_ok-moment.ensures.dated (λ run s answers. (_, refl, answers)) (simp to_z-of_z at c.answer.ensures.said)
+    said_dated c.answer.result _ _ _ _ _ _ _ _ _ (omega arith) c.in_ok-moment.ensures.dated (λ run s answers. (_, refl, answers)) (simp to_z-of_z at c.answer.ensures.said)

@@ -17,7 +17,7 @@ pub returns-in_err-pause-in-Ok-More-clause-said : goal.returns-in_err-pause-in-O
 returns-in_err-pause-in-Ok-More-clause-said g c =
     let told = c.in-Ok-More.ensures.told in
     let p = err_from_is_err_and c.from_residual.result c.from_residual.ensures.1 in
-    rw p.1 (_, _, tells_page _ _ _ _ told.0 _ _ c.room_of.ensures told.1 refl, Stops-Says _ _ _ _ told.2.1)
+    rw p.1 (_, _, tells_page _ _ _ _ told.0 _ _ c.room_of.ensures told.1 refl, Stops-Says _ _ _ told.2.1)
 
 pub returns-in-Err-clause-said : goal.returns-in-Err-clause-said
 returns-in-Err-clause-said g c =

@@ -1,20 +1,32 @@
-use Rattle.std.proofs.Common.{rules, SFits, w64, refl}
+use Rattle.std.proofs.Common.{rules, SFits, w64, refl, subst, sym, ap, arith}
+use Rattle.bf_machine.specs.Views.{MachineView}
+use Rattle.script_run.specs.declared.place.Place.TheVariants.{Doing}
+use Rattle.script_run.specs.LineWalks.{line_walk}
 use Rattle.script_run.specs.Asking.{when_of, known_in}
-use Rattle.script_run.specs.RunPlaces.{around, from}
-use Rattle.script_run.proofs.Moves.{act_without_memory, acts_view, act_steps, line_none}
-use Rattle.script_run.proofs.Carrying.{acts_at}
+use Rattle.script_run.specs.RunSteps.{IsTextOf, Starves}
+use Rattle.script_run.specs.RunPlaces.{around}
+use Rattle.script_run.proofs.Chains.{reach_any, starve_reached}
+use Rattle.script_run.proofs.Moves.{act_without_memory, acts_at, act_step, moved_stands, step_from, step_behind, starved_step}
 use Rattle.script_run.proofs.run.Run.act.Goals as goal
 
-pub returns-in-Memory-clause-steps : goal.returns-in-Memory-clause-steps
-returns-in-Memory-clause-steps g c = λ midway.
-    let e = c.in-Memory.ensures in
-    (refl, act_without_memory c.args.self.now.kept.scene.moment c.args.command _ _ (acts_view _ _ _ _ _ _ _ _ _ _ _ _ _ e.acts e.looked e.acted e.polled e.fits e.failed e.steady))
+pub returns-in-Memory : goal.returns-in-Memory
+returns-in-Memory g c = λ before h.
+    let self = c.args.self.now in
+    let place = Doing c.args.line c.args.what in
+    let walk = line_walk c.args.line c.args.what (around self) (known_in self.kept.scene) in
+    let S : MachineView → Type 0 = λ v. Starves (when_of self.kept.scene) c.args.line before walk v in
+    let same = act_without_memory _ c.args.command _ _ c.in-Memory.ensures in
+    starved_step place self c.args.line before _ _ tt (moved_stands place self _ refl)
+    (subst S (sym same) (starve_reached (when_of self.kept.scene) c.args.line before walk _ _ (h.prepares c.args.line (around self)).1))
+    (omega (arith, h.only.started, ap (λ (v : MachineView). v.started) same))
 
-pub returns-in_default-clause-steps : goal.returns-in_default-clause-steps
-returns-in_default-clause-steps g c = λ midway.
-    let e = c.act.ensures in
-    let fits : SFits w64 c.args.self.now.kept.scene.moment = search rules in
-    let acts = acts_at c.args.self.now.kept.scene.moment c.args.command c.act.result _ _ fits e.acts in
-    line_none _ _ _ _ _ (from c.acted.new.self) c.acted.ensures.goes_on
-    (act_steps (when_of c.args.self.now.kept.scene) c.args.line midway c.args.command (around c.args.self.now) (λ process. around c.args.self.now) (known_in c.args.self.now.kept.scene) _ c.act.result _ (from c.acted.new.self) c.in_default.not-Memory
-    (acts_view _ _ _ _ _ _ _ _ _ _ _ _ _ acts e.looked e.acted e.polled e.fits e.failed e.steady) c.acted.ensures.walk)
+pub returns-in_default : goal.returns-in_default
+returns-in_default g c = λ before h.
+    let self = c.args.self.now in
+    let at = when_of self.kept.scene in
+    let walk = line_walk c.args.line c.args.what (around self) (known_in self.kept.scene) in
+    let fits : SFits w64 self.kept.scene.moment = search rules in
+    let k = h.prepares c.args.line (around self) in
+    step_from (Doing c.args.line c.args.what) self before _ _ _ refl
+    (step_behind at before walk _ _ _ _ _ _ _ (reach_any (IsTextOf c.args.line) at before walk _ _ k.1) (omega (arith, h.only.started)) (omega arith)
+    (act_step c.args.line 2 _ self c.act.result _ _ k.0 c.args.command _ _ c.acted.ensures c.in_default.not-Memory (acts_at self.kept.scene.moment c.args.command _ c.act.result _ fits c.act.ensures)))

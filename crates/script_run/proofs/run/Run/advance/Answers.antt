@@ -11,11 +11,12 @@ returns-clause-goes_on g c = λ script given settled stood.
     let moment : SFits w64 c.args.moment = c.ranges.moment in
     let offset : SFits w64 c.args.offset = c.ranges.offset in
     let time : when_of c.set_time.new.self.scene ≡ at = simp to_z-of_z at (ap when_of c.set_time.ensures) in
+    let s = c.rounds.ensures.step in
     advances at script given settled _ _ _ c.args.self.now.place (around c.args.self.now) c.args.self.now.kept.scene c.set_time.new.self.scene c.rounds.new.self
-    (ap known_in c.set_time.ensures) time stood c.rounds.ensures.steps c.rounds.ensures.rests.1
+    (ap known_in c.set_time.ensures) time stood s.steps s.rests.1
 
 pub returns-clause-later : goal.returns-clause-later
-returns-clause-later g c = stop_later _ _ _ _ _ (from c.rounds.new.self) c.rounds.ensures.steps
+returns-clause-later g c = stop_later _ _ _ _ _ (from c.rounds.new.self) c.rounds.ensures.step.steps
 
 pub returns-clause-again : goal.returns-clause-again
 returns-clause-again g c = λ digest wants.

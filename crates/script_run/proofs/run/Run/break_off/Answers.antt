@@ -1,22 +1,21 @@
-use Rattle.std.proofs.Common.{refl}
-use Rattle.script_run.specs.declared.broken.Broken.TheVariants.{Failed, Memory}
-use Rattle.script_run.specs.Walks.{failing}
-use Rattle.script_run.specs.LineWalks.{line_walk}
-use Rattle.script_run.specs.Asking.{known_in}
-use Rattle.script_run.specs.RunSteps.{Any}
-use Rattle.script_run.specs.RunPlaces.{around, from}
-use Rattle.script_run.proofs.Chains.{reach_none, reach_same}
-use Rattle.script_run.proofs.Moves.{goes_none, fails_walk}
-use Rattle.script_run.proofs.Carrying.{broken_as}
+use Rattle.std.proofs.Common.{refl, arith}
+use Rattle.script_run.specs.declared.broken.Broken.TheVariants as broken
+use Rattle.script_run.specs.declared.place.Place.TheVariants.{Doing, Failed}
+use Rattle.script_run.specs.RunPlaces.{around}
+use Rattle.script_run.proofs.Moves.{moved_stands, move_step, step_from, starved_step}
+use Rattle.script_run.proofs.Preparing.{broken_as}
 use Rattle.script_run.proofs.run.Run.break_off.Goals as goal
 
-pub returns-in-Failed-clause-steps : goal.returns-in-Failed-clause-steps
-returns-in-Failed-clause-steps c = λ at before now h.
-    goes_none at before (line_walk c.args.line c.args.what (around c.args.self.now) (known_in c.args.self.now.kept.scene)) _ now (from c.fail.new.self) c.fail.ensures.goes_on
-    (reach_same Any at before (line_walk c.args.line c.args.what (around c.args.self.now) (known_in c.args.self.now.kept.scene)) now (failing c.args.line c.in-Failed.cause (known_in c.args.self.now.kept.scene)) (from c.fail.new.self)
-    (broken_as at c.args.line (known_in c.args.self.now.kept.scene) before (line_walk c.args.line c.args.what (around c.args.self.now) (known_in c.args.self.now.kept.scene)) c.args.broken (Failed c.in-Failed.cause) now c.in-Failed.is h)
-    (fails_walk c.args.line c.in-Failed.cause c.args.self.now c.fail.new.self c.fail.ensures.place))
+pub returns-in-Failed : goal.returns-in-Failed
+returns-in-Failed c = λ now before h.
+    let self = c.args.self.now in
+    let k = broken_as self.kept.scene c.args.what before c.args.broken (broken.Failed c.in-Failed.cause) now c.in-Failed.is h in
+    step_from (Doing c.args.line c.args.what) self before _ now _ refl
+    (move_step (Failed c.args.line c.in-Failed.cause) self _ before _ _ now _ c.fail.ensures (omega arith) tt (omega (arith, k.only.started)) (k.prepares c.args.line (around self)))
 
-pub returns-in-Memory-clause-steps : goal.returns-in-Memory-clause-steps
-returns-in-Memory-clause-steps c = λ at before now h.
-    (before, reach_none Any _ _ _ _ (λ more. refl), (c.args.line, broken_as at c.args.line (known_in c.args.self.now.kept.scene) before (line_walk c.args.line c.args.what (around c.args.self.now) (known_in c.args.self.now.kept.scene)) c.args.broken Memory now c.in-Memory.is h))
+pub returns-in-Memory : goal.returns-in-Memory
+returns-in-Memory c = λ now before h.
+    let self = c.args.self.now in
+    let place = Doing c.args.line c.args.what in
+    let k = broken_as self.kept.scene c.args.what before c.args.broken broken.Memory now c.in-Memory.is h in
+    starved_step place self c.args.line before now _ tt (moved_stands place self _ refl) (k.prepares c.args.line (around self)) (omega (arith, k.only.started))

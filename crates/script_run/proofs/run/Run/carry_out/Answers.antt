@@ -1,54 +1,32 @@
-use Rattle.std.proofs.Common.{false, refl}
+use Rattle.std.proofs.Common.{refl, arith}
 use Rattle.script_run.specs.declared.lines.Prepared.TheVariants.{Passes, Held, Sets, Does, Awaits}
-use Rattle.script_run.specs.Walks.{doing, awaiting}
-use Rattle.script_run.specs.LineWalks.{line_walk, setting}
-use Rattle.script_run.specs.Machines.{view}
-use Rattle.script_run.specs.Asking.{when_of, known_in}
-use Rattle.script_run.specs.RunSteps.{Any}
-use Rattle.script_run.specs.RunPlaces.{around, from}
-use Rattle.script_run.proofs.Chains.{reach_none, reach_same}
-use Rattle.script_run.proofs.Moves.{line_step, restores, restored_rests, ready_walk}
-use Rattle.script_run.proofs.Carrying.{prepared_as}
+use Rattle.script_run.specs.declared.place.Place.TheVariants.{Ready, Doing}
+use Rattle.script_run.specs.declared.ran.Ran.TheVariants as ran
+use Rattle.script_run.specs.RunPlaces.{around}
+use Rattle.script_run.proofs.Moves.{moved_stands, still_stands, stop_step, goes_step, step_from}
+use Rattle.script_run.proofs.Preparing.{prepared_as}
 use Rattle.script_run.proofs.run.Run.carry_out.Goals as goal
 
-pub returns-in-Passes-clause-steps : goal.returns-in-Passes-clause-steps
-returns-in-Passes-clause-steps g c = λ before h.
-    reach_same Any (when_of c.args.self.now.kept.scene) before (line_walk c.args.line c.args.what (around c.args.self.now) (known_in c.args.self.now.kept.scene)) _ ((around c.args.self.now) (known_in c.args.self.now.kept.scene)) (from c.args.self.now) (prepared_as (when_of c.args.self.now.kept.scene) c.args.line (known_in c.args.self.now.kept.scene) (around c.args.self.now) before (line_walk c.args.line c.args.what (around c.args.self.now) (known_in c.args.self.now.kept.scene)) c.args.prepared Passes _ c.in-Passes.is h)
-    (λ more. ready_walk c.args.self.now.place (around c.args.self.now) (known_in c.args.self.now.kept.scene) more c.requires.ready)
+pub returns-in-Passes : goal.returns-in-Passes
+returns-in-Passes g c = λ before h.
+    let self = c.args.self.now in
+    let k = prepared_as self.kept.scene c.args.what before c.args.prepared Passes _ c.in-Passes.is h in
+    step_from (Doing c.args.line c.args.what) self before _ _ _ refl
+    (goes_step Ready self _ before _ _ _ _ refl (still_stands Ready self c.requires.ready) (omega arith) tt (omega (arith, k.only.started)) (k.prepares c.args.line (around self)))
 
-pub returns-in-Held-clause-steps : goal.returns-in-Held-clause-steps
-returns-in-Held-clause-steps g c = λ before h.
-    (before, reach_none Any _ _ _ _ (λ more. refl), prepared_as (when_of c.args.self.now.kept.scene) c.args.line (known_in c.args.self.now.kept.scene) (around c.args.self.now) before (line_walk c.args.line c.args.what (around c.args.self.now) (known_in c.args.self.now.kept.scene)) c.args.prepared Held _ c.in-Held.is h)
+pub returns-in-Held : goal.returns-in-Held
+returns-in-Held g c = λ before h.
+    let self = c.args.self.now in
+    let place = Doing c.args.line c.args.what in
+    let k = prepared_as self.kept.scene c.args.what before c.args.prepared Held _ c.in-Held.is h in
+    step_from place self before _ _ _ refl
+    (stop_step place self _ before (ran.Held c.args.line) _ _ (moved_stands place self _ refl) (k.prepares c.args.line (around self)) (refl, tt) tt (omega (arith, k.only.started)))
 
-pub returns-in-Sets-clause-steps : goal.returns-in-Sets-clause-steps
-returns-in-Sets-clause-steps g c = λ before h.
-    let k = prepared_as (when_of c.args.self.now.kept.scene) c.args.line (known_in c.args.self.now.kept.scene) (around c.args.self.now) before (line_walk c.args.line c.args.what (around c.args.self.now) (known_in c.args.self.now.kept.scene)) c.args.prepared (Sets c.in-Sets.name c.in-Sets.value) _ c.in-Sets.is h in
-    line_step (when_of c.args.self.now.kept.scene) c.args.line before (line_walk c.args.line c.args.what (around c.args.self.now) (known_in c.args.self.now.kept.scene)) _ (setting c.args.line c.in-Sets.name c.in-Sets.value (around c.args.self.now) (known_in c.args.self.now.kept.scene)) _ _ (from c.set.new.self)
-    k (c.set.ensures.steps (when_of c.args.self.now.kept.scene) _) (restores _ c.args.line c.args.what c.args.self.now c.set.new.self c.set.ensures.restored)
+pub returns-in-Sets : goal.returns-in-Sets
+returns-in-Sets g c = λ before h. c.set.ensures _ before (prepared_as c.args.self.now.kept.scene c.args.what before c.args.prepared (Sets c.in-Sets.name c.in-Sets.value) _ c.in-Sets.is h)
 
-pub returns-in-Sets-clause-rests : goal.returns-in-Sets-clause-rests
-returns-in-Sets-clause-rests g c =
-    restored_rests _ c.args.line c.args.what c.args.self.now c.set.new.self (when_of c.args.self.now.kept.scene) _ (setting c.args.line c.in-Sets.name c.in-Sets.value (around c.args.self.now) (known_in c.args.self.now.kept.scene)) _ (from c.set.new.self) c.set.ensures.restored (c.set.ensures.steps (when_of c.args.self.now.kept.scene) (view (g.M.Machine.world c.args.machine.now) (g.M.Machine.looked c.args.machine.now) (g.M.Machine.acted c.args.machine.now) (g.M.Machine.polled c.args.machine.now) (g.M.Machine.faults c.args.machine.now)))
+pub returns-in-Does : goal.returns-in-Does
+returns-in-Does g c = λ before h. c.act.ensures before (prepared_as c.args.self.now.kept.scene c.args.what before c.args.prepared (Does c.in-Does.command) _ c.in-Does.is h)
 
-pub returns-in-Does-clause-steps : goal.returns-in-Does-clause-steps
-returns-in-Does-clause-steps g c = λ before h.
-    let k = prepared_as (when_of c.args.self.now.kept.scene) c.args.line (known_in c.args.self.now.kept.scene) (around c.args.self.now) before (line_walk c.args.line c.args.what (around c.args.self.now) (known_in c.args.self.now.kept.scene)) c.args.prepared (Does c.in-Does.command) _ c.in-Does.is h in
-    line_step (when_of c.args.self.now.kept.scene) c.args.line before (line_walk c.args.line c.args.what (around c.args.self.now) (known_in c.args.self.now.kept.scene)) _ (doing c.args.line k.0 c.in-Does.command (around c.args.self.now) (known_in c.args.self.now.kept.scene)) _ _ (from c.act.new.self)
-    k.1 (c.act.ensures.steps k.0) (restores _ c.args.line c.args.what c.args.self.now c.act.new.self c.act.ensures.restored)
-
-pub returns-in-Does-clause-rests : goal.returns-in-Does-clause-rests
-returns-in-Does-clause-rests g c =
-    restored_rests _ c.args.line c.args.what c.args.self.now c.act.new.self (when_of c.args.self.now.kept.scene) _ (doing c.args.line false c.in-Does.command (around c.args.self.now) (known_in c.args.self.now.kept.scene)) _ (from c.act.new.self) c.act.ensures.restored (c.act.ensures.steps false)
-
-pub returns-in-Awaits-clause-steps : goal.returns-in-Awaits-clause-steps
-returns-in-Awaits-clause-steps g c = λ before h.
-    let k = prepared_as (when_of c.args.self.now.kept.scene) c.args.line (known_in c.args.self.now.kept.scene) (around c.args.self.now) before (line_walk c.args.line c.args.what (around c.args.self.now) (known_in c.args.self.now.kept.scene)) c.args.prepared (Awaits c.in-Awaits.command) _ c.in-Awaits.is h in
-    line_step (when_of c.args.self.now.kept.scene) c.args.line before (line_walk c.args.line c.args.what (around c.args.self.now) (known_in c.args.self.now.kept.scene)) _ (awaiting c.args.line k.0 c.in-Awaits.command (around c.args.self.now) (known_in c.args.self.now.kept.scene)) _ _ (from c.start.new.self)
-    k.1 (c.start.ensures.steps k.0) (restores _ c.args.line c.args.what c.args.self.now c.start.new.self c.start.ensures.restored)
-
-pub returns-in-Awaits-clause-rests : goal.returns-in-Awaits-clause-rests
-returns-in-Awaits-clause-rests g c =
-    restored_rests _ c.args.line c.args.what c.args.self.now c.start.new.self (when_of c.args.self.now.kept.scene) _ (awaiting c.args.line false c.in-Awaits.command (around c.args.self.now) (known_in c.args.self.now.kept.scene)) _ (from c.start.new.self) c.start.ensures.restored (c.start.ensures.steps false)
-
-pub returns-in-Sets-clause-waits : goal.returns-in-Sets-clause-waits
-returns-in-Sets-clause-waits g c = c.set.ensures.waits (g.M.Machine.started c.args.machine.now)
+pub returns-in-Awaits : goal.returns-in-Awaits
+returns-in-Awaits g c = λ before h. c.start.ensures before (prepared_as c.args.self.now.kept.scene c.args.what before c.args.prepared (Awaits c.in-Awaits.command) _ c.in-Awaits.is h)

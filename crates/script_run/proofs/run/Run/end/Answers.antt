@@ -1,7 +1,10 @@
-use Rattle.std.proofs.Common.{refl}
-use Rattle.script_run.specs.RunSteps.{Any}
-use Rattle.script_run.proofs.Chains.{reach_none}
+use Rattle.std.proofs.Common.{refl, arith}
+use Rattle.script_run.specs.declared.place.Place.TheVariants.{Done}
+use Rattle.script_run.specs.declared.ran.Ran.TheVariants as ran
+use Rattle.script_run.proofs.Moves.{moved_stands, stop_step, step_from}
 use Rattle.script_run.proofs.run.Run.end.Goals as goal
 
-pub returns-clause-steps : goal.returns-clause-steps
-returns-clause-steps c = λ at machine. (machine, reach_none Any at machine _ _ (λ more. refl), (refl, refl))
+pub returns : goal.returns
+returns c = λ machine.
+    let self = c.args.self.now in
+    step_from Done self machine _ machine _ refl (stop_step Done self _ machine ran.Done machine _ (moved_stands Done self _ refl) (refl, refl) (refl, tt) tt (omega arith))

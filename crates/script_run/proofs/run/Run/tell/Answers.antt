@@ -1,12 +1,19 @@
-use Rattle.std.proofs.Common.{refl, sym, ap}
+use Rattle.std.proofs.Common.{refl, sym, ap, arith}
+use Rattle.script_run.specs.declared.place.Place.TheVariants.{Failed}
+use Rattle.script_run.specs.declared.ran.Ran.TheVariants as ran
 use Rattle.script_run.specs.Walks.{Fails}
-use Rattle.script_run.specs.RunSteps.{Any}
-use Rattle.script_run.proofs.Chains.{reach_none}
-use Rattle.script_run.proofs.Moves.{memory_stops}
+use Rattle.script_run.proofs.Moves.{moved_stands, stop_step, step_from, memory_step}
 use Rattle.script_run.proofs.run.Run.tell.Goals as goal
 
-pub returns-in-Ok-clause-steps : goal.returns-in-Ok-clause-steps
-returns-in-Ok-clause-steps c = λ at machine. (machine, reach_none Any at machine _ _ (λ more. refl), (ap (Fails c.args.line) (sym c.in-Ok.ensures.same), refl))
+pub returns-in-Ok : goal.returns-in-Ok
+returns-in-Ok c = λ machine.
+    let self = c.args.self.now in
+    let place = Failed c.args.line c.args.cause in
+    step_from place self machine _ machine _ refl
+    (stop_step place self _ machine (ran.Failed c.args.line c.in-Ok.cause) machine _ (moved_stands place self _ refl) (ap (Fails c.args.line) (sym c.in-Ok.ensures.same), refl) (refl, tt) tt (omega arith))
 
-pub returns-in-Err-clause-steps : goal.returns-in-Err-clause-steps
-returns-in-Err-clause-steps c = λ at machine. memory_stops at c.args.line machine _ machine _ refl (λ more. refl)
+pub returns-in-Err : goal.returns-in-Err
+returns-in-Err c = λ machine.
+    let self = c.args.self.now in
+    let place = Failed c.args.line c.args.cause in
+    memory_step place self machine machine _ c.in-Err.ensures.texts (moved_stands place self _ refl) refl
