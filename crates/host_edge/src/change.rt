@@ -1,13 +1,15 @@
-use crate::kind::{Kind, kind_at, metadata_at, there};
+use crate::kind::{Kind, kind_at, there};
 use crate::place::{folder_of, place_of};
+use crate::read::opened_at;
 use crate::replace::replace;
+use crate::rights::{Rights, rights_at, rights_of_copy, same_rights};
 use crate::trouble::{Trouble, Undone};
 use crate::{Host, HostMachine};
 use bf_world::{Reason, is_part, is_path, joined};
 use rel_lexer::Text;
 use std::alloc::Global;
-use std::fs::{self, File, OpenFile, OpenOptions};
-use std::io::{ErrorKind, Write};
+use std::fs::{self, Metadata, OpenFile, OpenOptions};
+use std::io::{self, ErrorKind, Write};
 use std::mem::drop;
 
 /// The folder in which fetched files are placed.
@@ -64,14 +66,11 @@ impl<H: Host> HostMachine<H> {
         }
     }
 
-    /// Puts bytes at a place. A file that was there keeps its mode.
+    /// Puts bytes at a place. What takes a file's place keeps its rights.
     fn put_content(&self, place: &Text, content: &[u8]) -> Result<(), Trouble> {
-        let mode = match metadata_at(&self.host, place.as_str())? {
-            Some(old) => Some(old.permissions()),
-            None => None,
-        };
+        let rights = rights_at(&self.host, place.as_str())?;
         let mut content = content;
-        replace(&self.host, place.as_str(), &mut content, mode)
+        replace(&self.host, place.as_str(), &mut content, rights)
     }
 
     /// Does something at a path.
@@ -139,29 +138,42 @@ impl<H: Host> HostMachine<H> {
         }
         self.check_folder(to)?;
         match how {
-            Transfer::Copy => self.copy_file(from, to),
+            Transfer::Copy => self.copy_file(how, from, to),
             Transfer::Move => self.move_file(from, to),
         }
     }
 
-    /// Puts a file's content at another place, with its mode.
-    fn copy_file(&self, from: &Text, to: &Text) -> Result<(), Undone> {
-        let mut source = File::open(&self.host, from.as_str())?;
-        let mode = source.metadata()?.permissions();
-        replace(&self.host, to.as_str(), &mut source, Some(mode))?;
+    /// Puts a file's content at another place. What was opened may be no file any more.
+    fn copy_file(&self, how: Transfer, from: &Text, to: &Text) -> Result<(), Undone> {
+        let Some(mut source) = opened_at(&self.host, from.as_str())? else {
+            return Err(Undone::Refused(Reason::NoSuchFile));
+        };
+        let rights = rights_of(how, &source.metadata);
+        replace(&self.host, to.as_str(), &mut source.file, rights)?;
         Ok(())
     }
 
-    /// Moves a file; one that comes from another file system is copied and then deleted.
+    /// Moves a file; one that comes from another file system is copied, with all its rights, and then deleted.
     fn move_file(&self, from: &Text, to: &Text) -> Result<(), Undone> {
         match fs::rename(&self.host, from.as_str(), to.as_str()) {
             Ok(()) => Ok(()),
             Err(error) if error.kind() == ErrorKind::CrossesDevices => {
-                self.copy_file(from, to)?;
-                fs::remove_file(&self.host, from.as_str())?;
-                Ok(())
+                self.copy_file(Transfer::Move, from, to)?;
+                self.remove_moved(from, to)
             }
             Err(error) => Err(Undone::from(error)),
+        }
+    }
+
+    /// Deletes a file of which a copy stands elsewhere; where it can't be, the copy goes.
+    fn remove_moved(&self, from: &Text, to: &Text) -> Result<(), Undone> {
+        match there(fs::remove_file(&self.host, from.as_str())) {
+            Ok(_) => Ok(()),
+            Err(error) => {
+                let _ = fs::remove_file(&self.host, to.as_str());
+                // the copy may stand there all the same, so this can't be want of memory
+                Err(Undone::Trouble(Trouble::System(error)))
+            }
         }
     }
 
@@ -185,6 +197,10 @@ impl<H: Host> HostMachine<H> {
             Ok(()) => Ok(()),
             Err(error) if error.kind() == ErrorKind::DirectoryNotEmpty => {
                 Err(Undone::Refused(Reason::NotEmpty))
+            }
+            // a link to a folder
+            Err(error) if error.kind() == ErrorKind::NotADirectory => {
+                Err(Undone::Refused(Reason::NoSuchFolder))
             }
             Err(error) => Err(Undone::from(error)),
         }
@@ -231,16 +247,34 @@ impl<H: Host> HostMachine<H> {
     }
 }
 
-/// Appends bytes to the file at a place, which is made where it is missing.
+/// The rights of what a file is put at another place as.
+fn rights_of(how: Transfer, metadata: &Metadata) -> Rights {
+    match how {
+        Transfer::Copy => rights_of_copy(metadata),
+        Transfer::Move => same_rights(metadata),
+    }
+}
+
+/// Appends bytes to the file at a place, which is made where it is missing. What was opened may be no file any more.
 fn append_to<H: Host>(host: &H, place: &str, content: &[u8]) -> Result<(), Undone> {
     let mut options = OpenOptions::new();
     options.append(true).create(true);
     let mut file = options.open(host, place)?;
-    match file.write_all(content) {
-        Ok(()) => Ok(()),
-        // a front of them may have been appended, so this can't be want of memory
+    match append_all(&mut file, content) {
+        Ok(true) => Ok(()),
+        Ok(false) => Err(Undone::Refused(Reason::AlreadyThere)),
+        // the file may have been made and a front appended, so this can't be want of memory
         Err(error) => Err(Undone::Trouble(Trouble::System(error))),
     }
+}
+
+/// Appends bytes to what was opened, and answers whether that is a file.
+fn append_all<F: OpenFile + Write>(file: &mut F, content: &[u8]) -> io::Result<bool> {
+    if !file.metadata()?.is_file() {
+        return Ok(false);
+    }
+    file.write_all(content)?;
+    Ok(true)
 }
 
 /// Checks that a fetched file of this name has a path.

@@ -27,9 +27,7 @@ impl<C: time::Clock, E: Eprint> SystemClock<C, E> {
 }
 
 impl<C: time::Clock, E: Eprint> Clock for SystemClock<C, E> {
-    ghost given = { λ _. None };
-
-    ghost faults = { λ c. c.faults };
+    ghost told = { λ c. record { given = None; faults = c.faults } };
 
     fn now(&mut self) -> Told {
         match moment_of(&self.inner) {

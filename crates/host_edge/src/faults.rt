@@ -1,6 +1,7 @@
 ghost use Rattle.std.specs.Prelude.{◌≡◌, ◌≤◌};
 ghost use Rattle.desk_base.specs.Counts.{Rose};
 
+use std::fmt::Display;
 use std::io::{Eprint, Error};
 use std::marker::Model;
 
@@ -39,7 +40,17 @@ impl<E: Eprint> Faults<E> {
         ensures later { self.old ≤ self.new }
     {
         self.count = self.count.saturating_add(1);
-        let device = self.device;
-        let _ = eprintln!(self.errors; "desk: {device}: {call} {subject}: {reason}");
+        tell(&self.errors, self.device, call, subject, reason);
     }
+}
+
+/// Tells on standard error, in one line, what a call of a device has to say of what it was about. What can't be told is passed over.
+pub(crate) fn tell<E: Eprint, R: Display + Drop>(
+    errors: &E,
+    device: &str,
+    call: &str,
+    subject: &str,
+    reason: R,
+) {
+    let _ = eprintln!(errors; "desk: {device}: {call} {subject}: {reason}");
 }

@@ -1,5 +1,5 @@
-ghost use Rattle.std.specs.Prelude.{◌≡◌, ◌≢◌, ◌≤◌, None, IfOk};
-ghost use Rattle.desk_base.specs.Counts.{Rose};
+ghost use Rattle.std.specs.Prelude.{◌≡◌, ◌≢◌, None, IfOk};
+ghost use Rattle.desk_base.specs.Counts.{CountsFaults};
 ghost use Rattle.bf_machine.specs.Acts.{CountsStarted};
 ghost use Rattle.bf_world.specs.declared.command.ProcessNo.{ProcessNo};
 ghost use Rattle.bf_world.specs.Answers.{IsGoodAnswer, HasAscendingNames};
@@ -10,7 +10,8 @@ use crate::Host;
 use crate::change::{Deed, Transfer};
 use crate::faults::Faults;
 use crate::list::entries_at;
-use crate::place::place_of;
+use crate::missing::tells_missing_packages;
+use crate::place::{longest_name, place_of};
 use crate::processes::processes;
 use crate::programs::{Programs, start};
 use crate::read::content_at;
@@ -25,8 +26,11 @@ use rel_lexer::Text;
 use std::alloc::{AllocError, Global};
 use std::mem::drop;
 
-/// The most bytes of a path.
-const LONGEST_PATH: usize = 1024;
+/// The name of the machine in what is told on standard error.
+pub(crate) const MACHINE: &str = "machine";
+
+/// The file of the work folder in which the packages stand.
+pub(crate) const PACKAGES: &str = "packages";
 
 /// The machine that the program runs on.
 #[derive(Drop)]
@@ -36,6 +40,8 @@ pub struct HostMachine<H: Host> {
     pub(crate) work: Text,
     programs: Programs<H::Started>,
     faults: Faults<H>,
+    /// Whether it was told that the file `packages` is missing.
+    told_missing: bool,
 }
 
 impl<H: Host> HostMachine<H> {
@@ -49,7 +55,8 @@ impl<H: Host> HostMachine<H> {
             host,
             work: Text::from_str(alloc, ".")?,
             programs: Programs::none(alloc),
-            faults: Faults::none("machine", errors),
+            faults: Faults::none(MACHINE, errors),
+            told_missing: false,
         })
     }
 
@@ -64,6 +71,19 @@ impl<H: Host> HostMachine<H> {
             Key::Read(path) => self.read(path),
             Key::Processes => processes(&self.host),
             _ => self.spelled(key),
+        }
+    }
+
+    /// Tells once that the file `packages` is missing, where a look wants it.
+    fn tell_missing(&mut self, key: &Key)
+        ensures programs { self.new.programs ≡ self.old.programs }
+        ensures faults { self.new.faults ≡ self.old.faults }
+    {
+        match key {
+            Key::Packages if !self.told_missing => {
+                self.told_missing = tells_missing_packages(&self.host, self.work.as_str());
+            }
+            _ => {}
         }
     }
 
@@ -165,9 +185,7 @@ impl<H: Host> HostMachine<H> {
     fn settled(&mut self, command: &Command, done: Result<(), Undone>) -> Acted
         ensures unstarted { (process : ProcessNo) → result ≢ Acted.Started process }
         ensures programs { self.new.programs ≡ self.old.programs }
-        ensures later { self.old.faults ≤ self.new.faults }
-        ensures failed { result ≡ Acted.Failed → Rose self.old.faults self.new.faults }
-        ensures steady { result ≢ Acted.Failed → self.new.faults ≡ self.old.faults }
+        ensures counts { CountsFaults (result ≡ Acted.Failed) self.old.faults self.new.faults }
     {
         match done {
             Ok(()) => Acted::Done,
@@ -196,17 +214,14 @@ impl<H: Host> HostMachine<H> {
 }
 
 impl<H: Host> Machine for HostMachine<H> {
-    ghost world = { λ _. None };
-
-    ghost looked = { λ _. None };
-
-    ghost acted = { λ _. None };
-
-    ghost polled = { λ _. None };
-
-    ghost started = { λ m. m.programs };
-
-    ghost faults = { λ m. m.faults };
+    ghost told = { λ m. record {
+      world = None;
+      looked = None;
+      acted = None;
+      polled = None;
+      started = m.programs;
+      faults = m.faults;
+    } };
 
     fn open(&mut self, work: &Text) -> Result<(), AllocError> {
         self.work = work.copy()?;
@@ -214,6 +229,7 @@ impl<H: Host> Machine for HostMachine<H> {
     }
 
     fn look(&mut self, key: &Key) -> Looked {
+        self.tell_missing(key);
         match self.answer(key) {
             Ok(answer) => Looked::Answer(answer),
             Err(Trouble::Memory) => Looked::Memory,
@@ -257,7 +273,7 @@ fn subject_of_key(key: &Key) -> &str {
         Key::System => "system",
         Key::ComputerName => "name",
         Key::Processes => "/proc",
-        Key::Packages => "packages",
+        Key::Packages => PACKAGES,
         Key::Settings => SETTINGS,
     }
 }
@@ -273,10 +289,4 @@ fn subject_of(command: &Command) -> &str {
         Command::Put { .. } | Command::Drop { .. } => SETTINGS,
         Command::Place(name, _) => name.as_str(),
     }
-}
-
-/// The most bytes of a name whose path in this folder is still a path.
-fn longest_name(folder: &str) -> usize {
-    let slash = if folder.ends_with('/') { 0 } else { 1 };
-    LONGEST_PATH.saturating_sub(folder.len().saturating_add(slash))
 }

@@ -2,6 +2,9 @@ use bf_world::{is_path, joined};
 use rel_lexer::Text;
 use std::alloc::{AllocError, Global};
 
+/// The most bytes of a path.
+const LONGEST_PATH: usize = 1024;
+
 /// Where a path lies: one without a leading `/` lies beneath the work folder. None where the text is no path.
 pub(crate) fn place_of(alloc: Global, work: &str, path: &str) -> Result<Option<Text>, AllocError> {
     if !is_path(path) {
@@ -20,4 +23,10 @@ pub(crate) fn folder_of(place: &str) -> &str {
         Some((folder, _)) => folder,
         None => ".",
     }
+}
+
+/// The most bytes of a name whose path in this folder is still a path.
+pub(crate) fn longest_name(folder: &str) -> usize {
+    let slash = if folder.ends_with('/') { 0 } else { 1 };
+    LONGEST_PATH.saturating_sub(folder.len().saturating_add(slash))
 }

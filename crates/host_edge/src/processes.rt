@@ -20,7 +20,11 @@ const PROCESSES: &str = "/proc";
 /// The most bytes of a process's number.
 const LONGEST_NUMBER: usize = 20;
 
-/// The names of the processes that run, each once. One that has ended before its name is read is passed over, and so is one without a name.
+/// The most bytes of what the system calls a process: it cuts a longer name there.
+const LONGEST_CALLED: usize = 15;
+
+/// The names of the processes that run, each once. One that has ended before its name is read is passed over, and so are one whose files
+/// can't be read and one without a name.
 pub(crate) fn processes<H: Host>(host: &H) -> Result<Answer, Trouble>
     ensures good { IfOk result IsGoodAnswer }
     ensures ascending { IfOk result HasAscendingNames }
@@ -43,7 +47,7 @@ fn is_number(name: &str) -> bool {
     name.as_bytes().iter().all(|byte| byte.is_ascii_digit())
 }
 
-/// The name of the process with this number: the last part of its first argument, or else what the system calls it.
+/// The name of the process with this number: what the system calls it, as `ps -e` and `pgrep` do.
 fn process_name<H: Host>(host: &H, number: &str) -> Result<Option<Text>, Trouble> {
     let folder = joined(host.alloc(), PROCESSES, number)?;
     let name = name_in(host, folder.as_str());
@@ -52,31 +56,42 @@ fn process_name<H: Host>(host: &H, number: &str) -> Result<Option<Text>, Trouble
 }
 
 fn name_in<H: Host>(host: &H, folder: &str) -> Result<Option<Text>, Trouble> {
-    match argument_in(host, folder)? {
-        Some(name) => Ok(Some(name)),
-        None => called_in(host, folder),
-    }
-}
-
-fn argument_in<H: Host>(host: &H, folder: &str) -> Result<Option<Text>, Trouble> {
-    match content_in(host, folder, "cmdline")? {
-        Some(content) => Ok(name_of(host.alloc(), program_of(content.as_slice()))?),
-        None => Ok(None),
-    }
-}
-
-fn called_in<H: Host>(host: &H, folder: &str) -> Result<Option<Text>, Trouble> {
     match content_in(host, folder, "comm")? {
-        Some(content) => Ok(name_of(host.alloc(), called(content.as_slice()))?),
+        Some(content) => named(host, folder, called(content.as_slice())),
         None => Ok(None),
     }
 }
 
+/// The name of a process that the system calls so. Where it may have been cut, it is the whole one that the process itself tells.
+fn named<H: Host>(host: &H, folder: &str, called: &[u8]) -> Result<Option<Text>, Trouble> {
+    if called.len() != LONGEST_CALLED {
+        return Ok(name_of(host.alloc(), called)?);
+    }
+    match content_in(host, folder, "cmdline")? {
+        Some(line) => Ok(name_of(host.alloc(), uncut(called, line.as_slice()))?),
+        None => Ok(None),
+    }
+}
+
+/// The program of a command line, where its name begins with what may have been cut, or else that.
+fn uncut<'a>(called: &'a [u8], line: &'a [u8]) -> &'a [u8] {
+    let program = program_of(line);
+    if program.starts_with(called) {
+        program
+    } else {
+        called
+    }
+}
+
+/// The bytes of a file of a process, or None where it has ended or can't be asked.
 fn content_in<H: Host>(host: &H, folder: &str, name: &str) -> Result<Option<Bytes>, Trouble> {
     let place = joined(host.alloc(), folder, name)?;
     let content = content_at(host, place.as_str());
     drop(place);
-    content
+    match content {
+        Err(Trouble::System(_)) => Ok(None),
+        other => other,
+    }
 }
 
 /// The last part of the first argument of a command line, in which each argument ends with a NUL.

@@ -1,10 +1,10 @@
 use crate::Host;
-use crate::kind::{metadata_at, says_nothing_is_there, there};
+use crate::kind::{Kind, kind_at, says_nothing_is_there, there};
 use crate::trouble::Trouble;
 use desk_base::Bytes;
 use std::alloc::Global;
-use std::fs::File;
-use std::io::{Error, ErrorKind, Read};
+use std::fs::{File, Metadata, OpenFile};
+use std::io::{self, Error, ErrorKind, Read};
 
 /// The most bytes of a file that is read.
 const LONGEST_FILE: usize = 1_073_741_824;
@@ -12,25 +12,51 @@ const LONGEST_FILE: usize = 1_073_741_824;
 /// How many bytes are read at a time.
 const ROOM: usize = 16_384;
 
-/// The bytes of the file at a place, or None where no file is there. The kind is asked before it is opened, so that a pipe isn't waited
-/// for. A size that is stated as 0, as under `/proc`, says nothing: each file is read to its end.
-pub(crate) fn content_at<H: Host>(host: &H, place: &str) -> Result<Option<Bytes>, Trouble> {
-    let Some(metadata) = metadata_at(host, place)? else {
+/// A file that is open to be read, and what the system knows of it.
+#[derive(Drop)]
+pub(crate) struct Opened<F: Drop> {
+    pub(crate) file: F,
+    pub(crate) metadata: Metadata,
+}
+
+/// Opens the file at a place to read it. None where no file is there: what was opened is asked for its kind, since something else may stand
+/// there by now than what was asked before.
+pub(crate) fn opened_at<H: Host>(host: &H, place: &str) -> io::Result<Option<Opened<H::File>>> {
+    let Some(file) = there(File::open(host, place))? else {
         return Ok(None);
     };
-    if !metadata.is_file() {
-        return Ok(None);
+    let metadata = file.metadata()?;
+    if metadata.is_file() {
+        Ok(Some(Opened { file, metadata }))
+    } else {
+        Ok(None)
     }
-    if metadata.len() > LONGEST_FILE as u64 {
-        return Err(too_long());
+}
+
+/// The bytes of the file at a place, or None where no file is there. The kind is asked before it is opened too, so that a pipe isn't
+/// waited for. A size that is stated as 0, as under `/proc`, says nothing: each file is read to its end.
+pub(crate) fn content_at<H: Host>(host: &H, place: &str) -> Result<Option<Bytes>, Trouble> {
+    match kind_at(host, place)? {
+        Kind::File => {}
+        Kind::Nothing | Kind::Folder | Kind::Other => return Ok(None),
     }
-    match there(File::open(host, place))? {
-        Some(mut file) => read_to_end(host.alloc(), &mut file),
+    match opened_at(host, place)? {
+        Some(opened) => content_of(host.alloc(), opened),
         None => Ok(None),
     }
 }
 
 /// The bytes of an open file, or None where it is one of a program that has ended.
+fn content_of<F: Read + Drop>(
+    alloc: Global,
+    mut opened: Opened<F>,
+) -> Result<Option<Bytes>, Trouble> {
+    if opened.metadata.len() > LONGEST_FILE as u64 {
+        return Err(too_long());
+    }
+    read_to_end(alloc, &mut opened.file)
+}
+
 fn read_to_end<F: Read>(alloc: Global, file: &mut F) -> Result<Option<Bytes>, Trouble> {
     let mut bytes = Bytes::new(alloc);
     let mut room = [0u8; ROOM];

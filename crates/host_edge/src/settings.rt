@@ -79,7 +79,7 @@ fn is_of(line: &[u8], name: &str) -> bool {
     }
 }
 
-/// The date of the setting of this name in the text of the file `settings`: that of its last line.
+/// The date of the setting of this name in the text of the file `settings`: that of its last line, as a look sees them.
 fn date_in(text: &[u8], name: &str) -> Option<i64> {
     let mut date = None;
     let mut lines = Lines::new(text);
@@ -98,7 +98,7 @@ fn has_line(name: &str, value: &str) -> bool {
     read_name(name.as_bytes()).is_some() && read_rest(value.as_bytes()).is_some()
 }
 
-/// The lines of a text that don't spell the setting of this name, as they stand. Bytes that no LF ends are no line.
+/// The lines of a text that don't spell the setting of this name, as they stand. Bytes that no LF ends are a last line, which gets one.
 fn without(alloc: Global, text: &[u8], name: &str) -> Result<Bytes, AllocError> {
     let mut kept = Bytes::new(alloc);
     let mut lines = Lines::new(text);
@@ -107,7 +107,16 @@ fn without(alloc: Global, text: &[u8], name: &str) -> Result<Bytes, AllocError> 
             write_line(alloc, line, &mut kept)?;
         }
     }
+    let last = unended(text);
+    if !last.is_empty() && !is_of(last, name) {
+        write_line(alloc, last, &mut kept)?;
+    }
     Ok(kept)
+}
+
+/// What stands behind the last LF of a text.
+fn unended(text: &[u8]) -> &[u8] {
+    text.rsplit(|byte| *byte == b'\n').next().unwrap_or(text)
 }
 
 /// The same, and behind them the setting of this name.

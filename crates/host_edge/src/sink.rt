@@ -24,9 +24,7 @@ impl<W: Write, E: Eprint> FileSink<W, E> {
 }
 
 impl<W: Write, E: Eprint> Sink for FileSink<W, E> {
-    ghost held = { λ _. None };
-
-    ghost faults = { λ s. s.faults };
+    ghost told = { λ s. record { held = None; faults = s.faults } };
 
     fn write(&mut self, piece: &[u8]) -> Put {
         match self.inner.write_all(piece) {

@@ -24,11 +24,7 @@ impl<R: Read, E: Eprint> FileSource<R, E> {
 }
 
 impl<R: Read, E: Eprint> Source for FileSource<R, E> {
-    ghost left = { λ _. None };
-
-    ghost reads = { λ _. None };
-
-    ghost faults = { λ s. s.faults };
+    ghost told = { λ s. record { left = None; reads = None; faults = s.faults } };
 
     fn read(&mut self, room: &mut [u8]) -> Got {
         match self.inner.read(room) {

@@ -30,7 +30,7 @@ enum Verb {
 }
 
 /// Commands with their one or two texts, and what each answers: `Done`, `Failed` or the reason that the table of commands says.
-const ROWS: [(Verb, &str, &str, &str); 53] = [
+const ROWS: [(Verb, &str, &str, &str); 54] = [
     (Verb::Write, "a", "one", "Done"),
     (Verb::Write, "/", "", "BadPath"),
     (Verb::Write, "../a", "", "BadPath"),
@@ -75,6 +75,7 @@ const ROWS: [(Verb, &str, &str, &str); 53] = [
     (Verb::Place, "f/g", "", "BadPath"),
     (Verb::Make, "__Download/g", "", "Done"),
     (Verb::Place, "g", "", "AlreadyThere"),
+    (Verb::Append, "settings", "# kept", "Done"),
     (Verb::Put, "name", "old", "Done"),
     (Verb::PutLater, "name", "new", "Done"),
     (Verb::Put, "name", "late", "Done"),
@@ -91,7 +92,7 @@ const CONTENTS: [(&str, &str); 4] = [
     ("a", "one two"),
     ("d", "one two"),
     ("__Download/f", "second"),
-    ("settings", "6 name new\n"),
+    ("settings", "# kept\n6 name new\n"),
 ];
 
 /// How many rows there are.

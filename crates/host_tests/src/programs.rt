@@ -27,7 +27,7 @@ pub(crate) const ALL: usize = ROWS.len() + 1;
 
 /// What starting a command line answers.
 fn start<M: Machine>(alloc: Global, machine: &mut M, line: &str) -> Option<Acted>
-    ensures { IfSome result (CountsStarted (M.started machine.old) (M.started machine.new)) }
+    ensures { IfSome result (CountsStarted (M.told machine.old).started (M.told machine.new).started) }
 {
     let line = Text::from_str(alloc, line).ok()?;
     let hidden = false;
@@ -39,7 +39,7 @@ fn start<M: Machine>(alloc: Global, machine: &mut M, line: &str) -> Option<Acted
 
 /// The number of the program that is started for a command line.
 fn started<M: Machine>(alloc: Global, machine: &mut M, line: &str) -> Option<ProcessNo>
-    ensures { IfSome result (λ process. process.0 < M.started machine.new) }
+    ensures { IfSome result (λ process. process.0 < (M.told machine.new).started) }
 {
     match start(alloc, machine, line)? {
         Acted::Started(process) => Some(process),
@@ -49,7 +49,7 @@ fn started<M: Machine>(alloc: Global, machine: &mut M, line: &str) -> Option<Pro
 
 /// The exit code of a program when it has ended. None where it can't be polled, or isn't done after 10 seconds.
 fn exit_of<M: Machine>(rt: &HostRuntime, machine: &mut M, process: ProcessNo) -> Option<i64>
-    requires { process.0 < M.started machine.old }
+    requires { process.0 < (M.told machine.old).started }
 {
     'polls: for _ in 0..2000 {
         match machine.poll(process) {
