@@ -9,14 +9,14 @@ use Rattle.desk_keep.specs.Tables.{is_of, without_text, AreRows}
 use Rattle.desk_keep.specs.Calls.{IfTold, Lists, ListsVersions}
 use Rattle.desk_keep.proofs.Following.{AreRows-nil}
 
-nothing_told : (P : List Change → Type 0) → IfTold None P
+pub nothing_told : (P : List Change → Type 0) → IfTold None P
 nothing_told P rows told = let no : ⊥ = cc in absurd no
 
 pub lists_untold : {E : Type 0} (asked : Change → Bool) (list : Result (List Change) E) (answer : Listed) → IfOk list AreRows → IfOk list (All (λ row. asked row ≡ true))
-    → IfOk list (λ l. answer ≡ listed.Changes l) → OnErr list ((answer ≡ listed.Failed) ⊎ (answer ≡ listed.Memory)) → Lists None asked answer
-lists_untold asked (Ok list) answer are all ok err = subst (Lists None asked) (sym ok) (are, all, nothing_told _)
-lists_untold asked (Err e) answer are all ok (inl is) = subst (Lists None asked) (sym is) tt
-lists_untold asked (Err e) answer are all ok (inr is) = subst (Lists None asked) (sym is) tt
+    → IfOk list (λ l. answer ≡ listed.Changes l) → OnErr list ((answer ≡ listed.Failed) ⊎ (answer ≡ listed.Memory)) → Lists asked None answer
+lists_untold asked (Ok list) answer are all ok err = subst (Lists asked None) (sym ok) (are, all, nothing_told _)
+lists_untold asked (Err e) answer are all ok (inl is) = subst (Lists asked None) (sym is) tt
+lists_untold asked (Err e) answer are all ok (inr is) = subst (Lists asked None) (sym is) tt
 
 pub versions_untold : {E : Type 0} (list : Result (List Change) E) (answer : Listed) → IfOk list AreRows → IfOk list (All (λ row. (is_of Sites row ≡ true) × (without_text row ≡ row)))
     → IfOk list (λ l. answer ≡ listed.Changes l) → OnErr list ((answer ≡ listed.Failed) ⊎ (answer ≡ listed.Memory)) → ListsVersions None answer

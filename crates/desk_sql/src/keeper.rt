@@ -1,29 +1,30 @@
-ghost use Rattle.std.specs.Prelude.{◌≡◌, ◌≢◌, ◌≤◌, ◌⊎◌, true, false, None, All, IfOk, IfSome, OnErr};
-ghost use Rattle.desk_base.specs.Counts.{Rose};
+ghost use Rattle.std.specs.Prelude.{◌≡◌, ◌⊎◌, true, None, All, IfOk, IfSome, IsTrue, OnErr};
+ghost use Rattle.desk_base.specs.Counts.{CountsFaults};
 ghost use Rattle.desk_keep.specs.Keys.{key_of, asked_key};
 ghost use Rattle.desk_keep.specs.Forms.{Fits};
 ghost use Rattle.desk_keep.specs.declared.table.Table.TheVariants.{Sites};
 ghost use Rattle.desk_keep.specs.Tables.{is_of, is_result_of, without_text, AreRows};
 
+use crate::database::Database;
 use crate::open_keep::OpenKeep;
 use crate::stop::Stop;
 use desk_keep::{Applied, Change, Changes, Counted, Find, Found, Keeper, Listed, Table};
 use rel_lexer::Text;
 
-/// A keeper in a SQLite file. It tells no rows. Each refusal of the database but want of memory is a fault, and so is a row of another form.
-/// After a fault of the disk the next call opens the file anew.
+/// A keeper in a database of SQL in a file. It tells no rows. Each refusal of the database but want of memory is a fault, and so is a row of
+/// another form. After a fault with which the database can't go on, the next call opens the file anew.
 #[derive(Drop)]
-pub struct SqlKeeper<'a> {
+pub struct SqlKeeper<'a, D: Database> {
     rt: &'a HostRuntime,
-    /// The file that was asked for last.
+    /// The file that was opened last. None where that failed, and after closing.
     place: Option<Text>,
-    keep: Option<OpenKeep>,
+    keep: Option<OpenKeep<D>>,
     faults: u64,
 }
 
-impl<'a> SqlKeeper<'a> {
+impl<'a, D: Database> SqlKeeper<'a, D> {
     /// A keeper of no file yet. Its faults are told on standard error.
-    pub fn new(rt: &'a HostRuntime) -> SqlKeeper<'a>
+    pub fn new(rt: &'a HostRuntime) -> SqlKeeper<'a, D>
         ensures { result.faults ≡ 0 }
     {
         SqlKeeper {
@@ -31,6 +32,31 @@ impl<'a> SqlKeeper<'a> {
             place: None,
             keep: None,
             faults: 0,
+        }
+    }
+
+    /// Closes the file, which alone holds all that was kept where the answer is `Done`. Nothing is open from then on. Where nothing was open,
+    /// nothing is done.
+    pub fn close(&mut self) -> Applied
+        ensures { CountsFaults (result ≡ Applied.Failed) self.old.faults self.new.faults }
+    {
+        let closed = self.let_go();
+        let applied = self.applied("close", closed);
+        self.place = None;
+        applied
+    }
+
+    /// Closes the file. One that was lost in a fault is opened anew for that, since what it holds may stand in two.
+    fn let_go(&mut self) -> Result<(), Stop>
+        ensures { self.new.faults ≡ self.old.faults }
+    {
+        if self.place.is_none() {
+            return Ok(());
+        }
+        self.reopen()?;
+        match self.keep.take() {
+            Some(keep) => keep.close(),
+            None => Ok(()),
         }
     }
 
@@ -48,11 +74,12 @@ impl<'a> SqlKeeper<'a> {
         Ok(())
     }
 
+    /// Lets go of the file of before, which may be the same, and opens one.
     fn open_at(&mut self, place: &Text) -> Result<(), Stop>
         ensures { self.new.faults ≡ self.old.faults }
     {
-        // the file of before is let go first, which may be the same
         self.keep = None;
+        self.place = None;
         self.place = Some(place.copy()?);
         self.reopen()
     }
@@ -126,14 +153,12 @@ impl<'a> SqlKeeper<'a> {
 
     /// Counts the fault of a call and tells it, and answers whether there was one: want of memory is none.
     fn is_fault(&mut self, call: &str, stop: Stop) -> bool
-        ensures rose { result ≡ true → Rose self.old.faults self.new.faults }
-        ensures later { self.old.faults ≤ self.new.faults }
-        ensures steady { result ≡ false → self.new.faults ≡ self.old.faults }
+        ensures { CountsFaults (IsTrue result) self.old.faults self.new.faults }
     {
         if let Stop::Memory = stop {
             return false;
         }
-        if stop.is_of_disk() {
+        if stop.is_last() {
             self.keep = None;
         }
         self.faults = self.faults.saturating_add(1);
@@ -146,9 +171,7 @@ impl<'a> SqlKeeper<'a> {
     }
 
     fn applied(&mut self, call: &str, done: Result<(), Stop>) -> Applied
-        ensures later { self.old.faults ≤ self.new.faults }
-        ensures failed { result ≡ Applied.Failed → Rose self.old.faults self.new.faults }
-        ensures steady { result ≢ Applied.Failed → self.new.faults ≡ self.old.faults }
+        ensures { CountsFaults (result ≡ Applied.Failed) self.old.faults self.new.faults }
     {
         match done {
             Ok(()) => Applied::Done,
@@ -164,9 +187,7 @@ impl<'a> SqlKeeper<'a> {
     fn listed(&mut self, call: &str, rows: Result<Changes, Stop>) -> Listed
         ensures ok { IfOk rows (λ list. result ≡ Listed.Changes list) }
         ensures err { OnErr rows ((result ≡ Listed.Failed) ⊎ (result ≡ Listed.Memory)) }
-        ensures later { self.old.faults ≤ self.new.faults }
-        ensures failed { result ≡ Listed.Failed → Rose self.old.faults self.new.faults }
-        ensures steady { result ≢ Listed.Failed → self.new.faults ≡ self.old.faults }
+        ensures counts { CountsFaults (result ≡ Listed.Failed) self.old.faults self.new.faults }
     {
         match rows {
             Ok(rows) => Listed::Changes(rows),
@@ -180,14 +201,18 @@ impl<'a> SqlKeeper<'a> {
     }
 }
 
-impl<'a> Keeper for SqlKeeper<'a> {
-    ghost rows = { λ _. None };
-
-    ghost faults = { λ k. k.faults };
+impl<'a, D: Database> Keeper for SqlKeeper<'a, D> {
+    ghost told = { λ k. record { rows = None; faults = k.faults } };
 
     fn open(&mut self, place: &Text) -> Applied {
-        let opened = self.open_at(place);
-        self.applied("open", opened)
+        match self.open_at(place) {
+            Ok(()) => Applied::Done,
+            Err(stop) => {
+                let applied = self.applied("open", Err(stop));
+                self.place = None;
+                applied
+            }
+        }
     }
 
     fn apply(&mut self, batch: &[Change]) -> Applied {

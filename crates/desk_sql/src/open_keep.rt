@@ -1,44 +1,49 @@
-ghost use Rattle.std.specs.Prelude.{◌≡◌, ◌++◌, [], ◌∷◌, true, All, IfOk, IfSome, OnOk};
+ghost use Rattle.std.specs.Prelude.{◌≡◌, true, All, IfOk, IfSome};
 ghost use Rattle.desk_keep.specs.Keys.{key_of, asked_key};
 ghost use Rattle.desk_keep.specs.Forms.{Fits};
 ghost use Rattle.desk_keep.specs.declared.table.Table.TheVariants.{Sites};
 ghost use Rattle.desk_keep.specs.Tables.{is_of, is_result_of, without_text, AreRows};
 
-use crate::Base;
 use crate::columns::{digits, text};
-use crate::reading::{row_of, version_of};
+use crate::counting::table_counts;
+use crate::database::{Database, Value, ask};
+use crate::listing::{listed, listed_results, listed_versions};
+use crate::reading::row_of;
+use crate::row::Row;
 use crate::schema::make_tables;
-use crate::statements::{Statements, table_counts};
 use crate::stop::Stop;
+use crate::table_texts::{RESULTS, VERSIONS, table_texts};
+use crate::transaction::{begin, end};
 use crate::writing::put_row;
 use desk_keep::{Change, Changes, Find, Table};
 use rel_lexer::Text;
-use sqlite::types::ValueRef;
-use sqlite::{Connection, Row};
 use std::alloc::Global;
 
-/// A database that is open, with its prepared statements, and how many rows its tables have.
+/// A database that is open, and how many rows its tables have.
 #[derive(Drop)]
-pub(crate) struct OpenKeep {
+pub(crate) struct OpenKeep<D: Database> {
     alloc: Global,
-    base: Base,
-    statements: Statements,
+    base: D,
     counts: [u64; 6],
 }
 
-impl OpenKeep {
+impl<D: Database> OpenKeep<D> {
     /// Opens the database in a file, and makes or migrates its tables where that is needed.
-    pub(crate) fn open(rt: &HostRuntime, place: &str) -> Result<OpenKeep, Stop> {
-        let mut base = Connection::open(rt, place)?;
+    pub(crate) fn open(rt: &HostRuntime, place: &str) -> Result<OpenKeep<D>, Stop> {
+        let mut base = D::open(rt, place)?;
         make_tables(&mut base)?;
-        let statements = Statements::prepare(&mut base)?;
         let counts = table_counts(&mut base)?;
         Ok(OpenKeep {
             alloc: rt.alloc(),
             base,
-            statements,
             counts,
         })
+    }
+
+    /// Puts all into the one file, and lets it go.
+    pub(crate) fn close(self) -> Result<(), Stop> {
+        self.base.close()?;
+        Ok(())
     }
 
     /// How many rows the table has.
@@ -48,20 +53,22 @@ impl OpenKeep {
 
     /// Puts all rows of a batch in one transaction.
     pub(crate) fn apply(&mut self, batch: &[Change]) -> Result<(), Stop> {
-        if !self.base.is_autocommit() {
-            return Err(Stop::OtherForm);
-        }
         let mut counts = self.counts;
-        let mut transaction = self.base.transaction();
+        begin(&mut self.base)?;
+        let put = self.put_all(batch, &mut counts);
+        end(&mut self.base, put)?;
+        self.counts = counts;
+        Ok(())
+    }
+
+    /// Puts the rows, and counts those of new keys.
+    fn put_all(&mut self, batch: &[Change], counts: &mut [u64; 6]) -> Result<(), Stop> {
         for row in batch {
-            let table = row.table();
-            if put_row(self.alloc, &mut transaction, self.statements.of(table), row)? {
-                let at = usize::from(table.number());
+            if put_row(self.alloc, &mut self.base, row)? {
+                let at = usize::from(row.table().number());
                 counts[at] = counts[at].saturating_add(1);
             }
         }
-        transaction.commit()?;
-        self.counts = counts;
         Ok(())
     }
 
@@ -70,8 +77,7 @@ impl OpenKeep {
         ensures { IfOk result (λ found. IfSome found (λ row. (key_of row ≡ asked_key find.now) × Fits row)) }
     {
         let table = find.table();
-        let rows = self.found(find)?;
-        let Some(row) = rows.first() else {
+        let Some(row) = self.found(find)? else {
             return Ok(None);
         };
         let row = row_of(self.alloc, table, row)?;
@@ -82,31 +88,27 @@ impl OpenKeep {
     }
 
     /// The columns of the row of a key, if there is one.
-    fn found(&mut self, find: &Find) -> Result<Vec<Row>, Stop> {
+    fn found(&mut self, find: &Find) -> Result<Option<Row>, Stop> {
         match find {
-            Find::Site(name) | Find::Computer(name) => self.query_key(find.table(), &[text(name)]),
+            Find::Site(name) | Find::Computer(name) => self.ask_key(find.table(), &[text(name)]),
             Find::Action(id) => match i64::try_from(*id) {
-                Ok(id) => self.query_key(Table::Actions, &[ValueRef::Int(id)]),
-                Err(_) => Ok(Vec::new(self.alloc)),
+                Ok(id) => self.ask_key(Table::Actions, &[Value::Number(id)]),
+                Err(_) => Ok(None),
             },
             Find::File(digest) => {
                 let digits = digits(self.alloc, digest)?;
-                self.query_key(Table::Files, &[ValueRef::Text(digits.as_slice())])
+                self.ask_key(Table::Files, &[Value::Text(digits.as_slice())])
             }
             Find::Report(name, at) | Find::Result(name, at) => match i64::try_from(*at) {
-                Ok(at) => self.query_key(find.table(), &[text(name), ValueRef::Int(at)]),
-                Err(_) => Ok(Vec::new(self.alloc)),
+                Ok(at) => self.ask_key(find.table(), &[text(name), Value::Number(at)]),
+                Err(_) => Ok(None),
             },
         }
     }
 
-    fn query_key(&mut self, table: Table, key: &[ValueRef<'_>]) -> Result<Vec<Row>, Stop> {
-        Ok(
-            self.statements
-                .of(table)
-                .find
-                .query_all(&mut self.base, key)?,
-        )
+    fn ask_key(&mut self, table: Table, key: &[Value<'_>]) -> Result<Option<Row>, Stop> {
+        let rows = ask(&mut self.base, table_texts(table).find, key)?;
+        Ok(rows.into_iter().next())
     }
 
     /// The rows of a table.
@@ -114,17 +116,8 @@ impl OpenKeep {
         ensures rows { IfOk result AreRows }
         ensures asked { IfOk result (All (λ row. is_of table row ≡ true)) }
     {
-        let rows = self
-            .statements
-            .of(table)
-            .list
-            .query_all(&mut self.base, &[])?;
-        let mut changes = Changes::new(self.alloc);
-        for row in &rows {
-            let change = row_of(self.alloc, table, row)?;
-            push_next(&mut changes, change)?;
-        }
-        Ok(changes)
+        let rows = ask(&mut self.base, table_texts(table).list, &[])?;
+        listed(self.alloc, table, rows)
     }
 
     /// The rows of the sites without their texts.
@@ -132,13 +125,8 @@ impl OpenKeep {
         ensures rows { IfOk result AreRows }
         ensures asked { IfOk result (All (λ row. (is_of Sites row ≡ true) × (without_text row ≡ row))) }
     {
-        let rows = self.statements.versions.query_all(&mut self.base, &[])?;
-        let mut changes = Changes::new(self.alloc);
-        for row in &rows {
-            let change = version_of(self.alloc, row)?;
-            push_next(&mut changes, change)?;
-        }
-        Ok(changes)
+        let rows = ask(&mut self.base, VERSIONS, &[])?;
+        listed_versions(self.alloc, rows.as_slice())
     }
 
     /// The results of a computer.
@@ -146,29 +134,7 @@ impl OpenKeep {
         ensures rows { IfOk result AreRows }
         ensures asked { IfOk result (All (λ row. is_result_of computer.now row ≡ true)) }
     {
-        let rows = self
-            .statements
-            .results
-            .query_all(&mut self.base, &[text(computer)])?;
-        let mut changes = Changes::new(self.alloc);
-        for row in &rows {
-            let change = row_of(self.alloc, Table::Results, row)?;
-            if !change.is_result_of(computer.as_str()) {
-                return Err(Stop::OtherForm);
-            }
-            push_next(&mut changes, change)?;
-        }
-        Ok(changes)
+        let rows = ask(&mut self.base, RESULTS, &[text(computer)])?;
+        listed_results(self.alloc, computer, rows)
     }
-}
-
-/// Appends a row that comes next.
-fn push_next(changes: &mut Changes, row: Change) -> Result<(), Stop>
-    ensures pushed { OnOk result (changes.new ≡ changes.old ++ row ∷ []) }
-    ensures rows { OnOk result (AreRows changes.old → AreRows changes.new) }
-{
-    if changes.push_next(row)? {
-        return Ok(());
-    }
-    Err(Stop::OtherForm)
 }

@@ -1,27 +1,35 @@
-use sqlite::{Error, ErrorCode};
 use std::alloc::AllocError;
-use std::fmt;
+use std::{fmt, io};
 
-/// Why a call did not end well.
+/// Why a call of a database, or of the keeper over it, did not end well.
 #[derive(Clone, Copy)]
-pub(crate) enum Stop {
-    /// The database refused, for this reason.
-    Refused(Error),
-    /// The tables or a row have another form than this keeper writes.
-    OtherForm,
-    /// Nothing was opened.
-    NotOpen,
+pub enum Stop {
     /// Memory ran out.
     Memory,
-}
-
-impl From<Error> for Stop {
-    fn from(error: Error) -> Stop {
-        match error {
-            Error::SqliteFailure(ErrorCode::OutOfMemory) => Stop::Memory,
-            _ => Stop::Refused(error),
-        }
-    }
+    /// The file was missing and couldn't be made.
+    NotMade(io::Error),
+    /// The file can't be opened.
+    CannotOpen,
+    /// Another has the file open.
+    Busy,
+    /// The file is no database, or its rows break its schema.
+    NoDatabase,
+    /// There is no room on the disk.
+    NoRoom,
+    /// The disk failed.
+    Disk,
+    /// What is on the disk is damaged.
+    Damaged,
+    /// An earlier fault of the disk closed the database.
+    Closed,
+    /// A transaction is open that can't be ended.
+    Transaction,
+    /// A statement doesn't fit the tables, or a row doesn't.
+    Statement,
+    /// The tables or a row have another form than a keeper writes.
+    OtherForm,
+    /// No file is open.
+    NotOpen,
 }
 
 impl From<AllocError> for Stop {
@@ -31,30 +39,31 @@ impl From<AllocError> for Stop {
 }
 
 impl Stop {
-    /// Whether the disk, or what is on it, is at fault, so that the file has to be opened anew.
-    pub(crate) fn is_of_disk(&self) -> bool {
-        match self {
-            Stop::Refused(Error::SqliteFailure(code)) => is_of_disk(*code),
-            _ => false,
-        }
-    }
-}
-
-fn is_of_disk(code: ErrorCode) -> bool {
-    match code {
-        ErrorCode::SystemIoFailure | ErrorCode::DiskFull | ErrorCode::Closed => true,
-        ErrorCode::DatabaseCorrupt | ErrorCode::TransactionState => true,
-        _ => false,
+    /// Whether the database can't go on, so that its file has to be opened anew.
+    pub(crate) fn is_last(&self) -> bool {
+        matches!(
+            self,
+            Stop::Disk | Stop::Damaged | Stop::Closed | Stop::Transaction
+        )
     }
 }
 
 impl fmt::Display for Stop {
     fn fmt<W: fmt::Write>(&self, f: &mut fmt::Formatter<W>) -> fmt::Result {
-        match self {
-            Stop::Refused(error) => write!(f, "{error}"),
-            Stop::OtherForm => write!(f, "the tables are not those of a desk"),
-            Stop::NotOpen => write!(f, "nothing is open"),
-            Stop::Memory => write!(f, "out of memory"),
-        }
+        f.write_str(match self {
+            Stop::Memory => "out of memory",
+            Stop::NotMade(error) => return write!(f, "{error}"),
+            Stop::CannotOpen => "the file can't be opened",
+            Stop::Busy => "another process has the file open",
+            Stop::NoDatabase => "the file is no database, or its rows break its schema",
+            Stop::NoRoom => "no room is left on the disk",
+            Stop::Disk => "the disk failed",
+            Stop::Damaged => "the file is damaged",
+            Stop::Closed => "an earlier fault of the disk closed the file",
+            Stop::Transaction => "a transaction can't be ended",
+            Stop::Statement => "a statement doesn't fit the tables",
+            Stop::OtherForm => "the tables are not those of a desk",
+            Stop::NotOpen => "nothing is open",
+        })
     }
 }

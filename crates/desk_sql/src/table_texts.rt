@@ -1,4 +1,19 @@
+use crate::database::Value;
 use desk_keep::Table;
+
+const NO_KEY_OF_ONE: &[Value<'static>] = &[Value::Null];
+
+const NO_KEY_OF_TWO: &[Value<'static>] = &[Value::Null, Value::Null];
+
+/// The tables, in their order.
+pub(crate) const TABLES: &[Table] = &[
+    Table::Sites,
+    Table::Actions,
+    Table::Files,
+    Table::Computers,
+    Table::Reports,
+    Table::Results,
+];
 
 /// The statements of a table.
 #[derive(Clone, Copy)]
@@ -9,6 +24,8 @@ pub(crate) struct TableTexts {
     pub(crate) replace: Option<&'static str>,
     pub(crate) find: &'static str,
     pub(crate) list: &'static str,
+    /// The parameters of `find` for a key that no row has.
+    pub(crate) no_key: &'static [Value<'static>],
     /// Counts the rows by an index, which has no texts and no bytes.
     pub(crate) count: &'static str,
 }
@@ -27,6 +44,7 @@ pub(crate) fn table_texts(table: Table) -> TableTexts {
             replace: Some("UPDATE sites SET version = ?2, text = ?3 WHERE name = ?1"),
             find: "SELECT name, version, text FROM sites WHERE name = ?1",
             list: "SELECT name, version, text FROM sites ORDER BY name",
+            no_key: NO_KEY_OF_ONE,
             count: "SELECT count(name) FROM sites",
         },
         Table::Actions => TableTexts {
@@ -34,6 +52,7 @@ pub(crate) fn table_texts(table: Table) -> TableTexts {
             replace: Some("UPDATE actions SET text = ?2, digest = ?3 WHERE id = ?1"),
             find: "SELECT id, text, digest FROM actions WHERE id = ?1",
             list: "SELECT id, text, digest FROM actions ORDER BY id",
+            no_key: NO_KEY_OF_ONE,
             count: "SELECT count(id) FROM actions",
         },
         Table::Files => TableTexts {
@@ -41,6 +60,7 @@ pub(crate) fn table_texts(table: Table) -> TableTexts {
             replace: Some("UPDATE files SET bytes = ?2 WHERE digest = ?1"),
             find: "SELECT digest, bytes FROM files WHERE digest = ?1",
             list: "SELECT digest, bytes FROM files ORDER BY digest",
+            no_key: NO_KEY_OF_ONE,
             count: "SELECT count(digest) FROM files",
         },
         Table::Computers => TableTexts {
@@ -48,6 +68,7 @@ pub(crate) fn table_texts(table: Table) -> TableTexts {
             replace: None,
             find: "SELECT name FROM computers WHERE name = ?1",
             list: "SELECT name FROM computers ORDER BY name",
+            no_key: NO_KEY_OF_ONE,
             count: "SELECT count(name) FROM computers",
         },
         Table::Reports => TableTexts {
@@ -55,6 +76,7 @@ pub(crate) fn table_texts(table: Table) -> TableTexts {
             replace: Some("UPDATE reports SET digest = ?3 WHERE computer = ?1 AND seq = ?2"),
             find: "SELECT computer, seq, digest FROM reports WHERE computer = ?1 AND seq = ?2",
             list: "SELECT computer, seq, digest FROM reports ORDER BY computer, seq",
+            no_key: NO_KEY_OF_TWO,
             count: "SELECT count(computer) FROM reports",
         },
         Table::Results => TableTexts {
@@ -64,6 +86,7 @@ pub(crate) fn table_texts(table: Table) -> TableTexts {
             ),
             find: "SELECT computer, action, number, outcome, begun, ended, exit, component, line, seq FROM results WHERE computer = ?1 AND action = ?2",
             list: "SELECT computer, action, number, outcome, begun, ended, exit, component, line, seq FROM results ORDER BY computer, action",
+            no_key: NO_KEY_OF_TWO,
             count: "SELECT count(computer) FROM results",
         },
     }

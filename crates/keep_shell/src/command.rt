@@ -4,15 +4,16 @@ use crate::shown::{show_found, show_listed};
 use act_rules::{Note, Outcome};
 use desk_base::Bytes;
 use desk_keep::{Applied, Change, Counted, Keeper, ReportRow, ResultRow};
+use desk_sql::{Database, SqlKeeper};
 use rel_lexer::Text;
 use std::alloc::{AllocError, Global};
 use std::io;
 use std::time::Instant;
 
 /// Obeys the command of a line.
-pub(crate) fn obey<K: Keeper>(
+pub(crate) fn obey<D: Database>(
     rt: &HostRuntime,
-    keeper: &mut K,
+    keeper: &mut SqlKeeper<'_, D>,
     batch: &mut Batch,
     line: &str,
 ) -> io::Result<()> {
@@ -26,6 +27,10 @@ pub(crate) fn obey<K: Keeper>(
             Ok(place) => open(rt, keeper, &place),
             Err(_) => println!(rt; "memory"),
         },
+        "close" => {
+            let closed = shown(keeper.close());
+            println!(rt; "{closed}")
+        }
         "row" => add(rt, batch, rest),
         "apply" => apply(rt, keeper, batch),
         "get" => match find(alloc, rest) {
@@ -184,5 +189,6 @@ fn time<K: Keeper>(rt: &HostRuntime, keeper: &mut K) -> io::Result<()> {
     let begun = Instant::now(rt)?;
     let _ = keeper.versions();
     let spent = begun.elapsed(rt)?;
+    println!(rt; "done")?;
     eprintln!(rt; "versions in {spent:?}")
 }

@@ -9,10 +9,11 @@ mod shown;
 
 use batch::Batch;
 use desk_sql::SqlKeeper;
+use sqlite_file::SqliteFile;
 use std::io;
 
 fn main(rt: HostRuntime) -> io::Result<()> {
-    let mut keeper = SqlKeeper::new(&rt);
+    let mut keeper: SqlKeeper<'_, SqliteFile> = SqlKeeper::new(&rt);
     let mut batch = Batch::new(rt.alloc());
     for line in rt.lines(rt.alloc()) {
         let line = line?;

@@ -3,7 +3,7 @@ use Rattle.desk_keep.specs.declared.table.Table.TheVariants.{Sites}
 use Rattle.desk_keep.specs.declared.change.Change.{Change}
 use Rattle.desk_keep.specs.Tables.{is_of, without_text}
 use Rattle.desk_sql.proofs.Telling.{none_yet, one_more}
-use Rattle.desk_sql.proofs.open_keep.OpenKeep.versions.Goals as goal
+use Rattle.desk_sql.proofs.listing.listed_versions.Goals as goal
 
 pub loop-row-init : goal.loop-row-init
 loop-row-init c = none_yet (λ (row : Change). (is_of Sites row ≡ true) × (without_text row ≡ row)) c.new-changes.result c.new-changes.ensures

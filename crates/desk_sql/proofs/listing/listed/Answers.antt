@@ -2,7 +2,7 @@ use Rattle.std.proofs.Common.{◌≡◌, true}
 use Rattle.desk_keep.specs.declared.change.Change.{Change}
 use Rattle.desk_keep.specs.Tables.{is_of}
 use Rattle.desk_sql.proofs.Telling.{none_yet, one_more}
-use Rattle.desk_sql.proofs.open_keep.OpenKeep.list.Goals as goal
+use Rattle.desk_sql.proofs.listing.listed.Goals as goal
 
 pub loop-row-init : goal.loop-row-init
 loop-row-init c = none_yet (λ (row : Change). is_of c.args.table row ≡ true) c.new-changes.result c.new-changes.ensures

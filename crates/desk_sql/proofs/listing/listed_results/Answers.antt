@@ -2,7 +2,7 @@ use Rattle.std.proofs.Common.{◌≡◌, true, sym, ap, ◌∙◌}
 use Rattle.desk_keep.specs.declared.change.Change.{Change}
 use Rattle.desk_keep.specs.Tables.{is_result_of}
 use Rattle.desk_sql.proofs.Telling.{none_yet, one_more}
-use Rattle.desk_sql.proofs.open_keep.OpenKeep.results.Goals as goal
+use Rattle.desk_sql.proofs.listing.listed_results.Goals as goal
 
 pub loop-row-init : goal.loop-row-init
 loop-row-init c = none_yet (λ (row : Change). is_result_of c.args.computer.now row ≡ true) c.new-changes.result c.new-changes.ensures

@@ -1,6 +1,6 @@
 use Rattle.std.proofs.Common.{◌≡◌, true, All}
 use Rattle.desk_keep.specs.Tables.{is_of, AreRows}
-use Rattle.desk_sql.proofs.open_keep.OpenKeep.list.Given as goal
+use Rattle.desk_sql.proofs.listing.listed.Given as goal
 
 abbrev pub invariant-loop-row : goal.invariant-loop-row
 invariant-loop-row l = AreRows l.changes × All (λ row. is_of l.table row ≡ true) l.changes
