@@ -1,8 +1,7 @@
 // Baselines: components that are passed over, that fail and that are held.
 use crate::played::{Faults, SOUND, Step};
 use crate::shown::Shown;
-use crate::stories::{Story, plays};
-use std::test::Fail;
+use crate::stories::Story;
 
 /// Three fixlets, of which the first isn't relevant and the second fails.
 const PARTS: &str = "site desk 1
@@ -60,7 +59,7 @@ state open
 end
 ";
 
-const ROWS: [Story; 7] = [
+pub(crate) const ROWS: [Story; 7] = [
     Story {
         faults: SOUND,
         saved: "",
@@ -136,14 +135,9 @@ const ROWS: [Story; 7] = [
     },
 ];
 
-#[test]
-fn components_are_run_in_order(rt: HostRuntime) -> Result<(), Fail> {
-    plays(rt.alloc(), &ROWS)
-}
-
 /// The baseline's own clause is asked once. The components up to the first relevant one are asked before it begins, and each is asked
 /// when its turn comes.
-const ASKED: [Story; 2] = [
+pub(crate) const ASKED: [Story; 2] = [
     Story {
         faults: SOUND,
         saved: "",
@@ -170,11 +164,6 @@ const ASKED: [Story; 2] = [
         wanted: "idle\n",
     },
 ];
-
-#[test]
-fn a_component_is_asked_when_its_turn_comes(rt: HostRuntime) -> Result<(), Fail> {
-    plays(rt.alloc(), &ASKED)
-}
 
 /// Two fixlets that wait, of which the second wants an exit code that it doesn't get, and a baseline of both.
 const WAITS: &str = "site desk 1
@@ -214,7 +203,7 @@ component 2
 end
 ";
 
-const HELD: Story = Story {
+pub(crate) const HELD: Story = Story {
     faults: SOUND,
     saved: "",
     lives: &[&[
@@ -243,11 +232,6 @@ attempt 1 1000 failed 1006 - 7 2 0
 ",
 };
 
-#[test]
-fn a_held_baseline_keeps_its_content(rt: HostRuntime) -> Result<(), Fail> {
-    plays(rt.alloc(), &[HELD])
-}
-
 /// A fixlet that waits, one that is relevant from the moment 1200 on, and a baseline of both.
 const LATER: &str = "site desk 1
 fixlet 1
@@ -269,7 +253,7 @@ end
 ";
 
 /// A component's relevance is asked at the moment of the turn that comes to it.
-const MOMENTS: [Story; 2] = [
+pub(crate) const MOMENTS: [Story; 2] = [
     Story {
         faults: SOUND,
         saved: "",
@@ -298,10 +282,44 @@ const MOMENTS: [Story; 2] = [
     },
 ];
 
-#[test]
-fn a_component_is_asked_at_the_moment_of_its_turn(rt: HostRuntime) -> Result<(), Fail> {
-    plays(rt.alloc(), &MOMENTS)
-}
+/// Two fixlets that make a folder of the date at which their action was issued, the first of which waits before, and a baseline of both.
+const DATES: &str = "site desk 1
+fixlet 1
+title Waits
+success lines
+| wait slow
+| folder create /{parameter \"action issue date\" of action}
+end
+fixlet 2
+title Comes in a later turn
+success lines
+| folder create /{parameter \"action issue date\" of action}
+end
+baseline 4
+title Both
+component 1
+component 2
+end
+";
+
+/// The date is told in the offset in which the attempt began, also in a component that begins in a later turn at another offset.
+pub(crate) const ISSUED: Story = Story {
+    faults: SOUND,
+    saved: "",
+    lives: &[&[
+        Step::Gather(&[DATES]),
+        Step::Gather(&[ACTION, STOP]),
+        Step::Turn(1000),
+        Step::TurnAt120(1001),
+        Step::TurnAt120(1002),
+        Step::TurnAt120(1003),
+    ]],
+    wanted: "began 7 held 1 1, start slow
+went on 7 held 1 1
+went on 7 held 1 1
+went on 7 fixed, make /Thu, 01 Jan 1970 01:15:00 +0100, make /Thu, 01 Jan 1970 01:15:00 +0100
+",
+};
 
 /// A fixlet that looks, and a baseline of it.
 const LOOKS: &str = "site desk 1
@@ -318,7 +336,7 @@ end
 ";
 
 /// The first look is the baseline's, the second the component's own.
-const FAULTS: [Story; 2] = [
+pub(crate) const FAULTS: [Story; 2] = [
     Story {
         faults: Faults {
             looks: &[2],
@@ -350,8 +368,3 @@ const FAULTS: [Story; 2] = [
         wanted: "machine fault\nno rows\nbegan 7 fixed, make /a\n",
     },
 ];
-
-#[test]
-fn a_machine_fault_in_a_component_fails_it(rt: HostRuntime) -> Result<(), Fail> {
-    plays(rt.alloc(), &FAULTS)
-}

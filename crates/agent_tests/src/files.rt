@@ -2,8 +2,7 @@
 use crate::played::{File, SOUND, Step};
 use crate::shown::Shown;
 use crate::sites::{ACTION, OPEN};
-use crate::stories::{Story, plays};
-use std::test::Fail;
+use crate::stories::Story;
 
 /// A fixlet that fetches the file `abc` twice.
 const FETCHES: &str = "site desk 1
@@ -15,7 +14,7 @@ success lines
 end
 ";
 
-const WANTED: [Story; 2] = [
+pub(crate) const WANTED: [Story; 2] = [
     Story {
         faults: SOUND,
         saved: "",
@@ -51,13 +50,8 @@ const WANTED: [Story; 2] = [
     },
 ];
 
-#[test]
-fn files_are_wanted_one_after_another(rt: HostRuntime) -> Result<(), Fail> {
-    plays(rt.alloc(), &WANTED)
-}
-
 /// Content 9 isn't gathered, content 2 waits, and content 1 makes a folder.
-const LEAST: Story = Story {
+pub(crate) const LEAST: Story = Story {
     faults: SOUND,
     saved: "",
     lives: &[&[
@@ -82,8 +76,3 @@ const LEAST: Story = Story {
     ]],
     wanted: "began 5 held 0 1, start slow\nwent on 5 held 0 1\nwent on 5 held 0 1\nwent on 5 fixed\nbegan 6 fixed, make /one\nidle\noutbox 3, last 3 of 1, 6 1 fixed\n",
 };
-
-#[test]
-fn the_least_due_action_begins_while_none_is_held(rt: HostRuntime) -> Result<(), Fail> {
-    plays(rt.alloc(), &[LEAST])
-}

@@ -1,15 +1,14 @@
 // Attempts that are held while other things change.
 use crate::played::{Faults, SOUND, Step};
 use crate::sites::{ACTION, OPEN, WAITS};
-use crate::stories::{Story, plays};
-use std::test::Fail;
+use crate::stories::Story;
 
 /// What it comes to to be held, whatever happens.
 const HELD: &str =
     "began 7 held 0 1, start slow\nwent on 7 held 0 1\nwent on 7 held 0 1\nwent on 7 fixed\nidle\n";
 
 /// The action is stopped, is for another computer and over, or is gone, or its fixlet has another script.
-const ROWS: [Story; 4] = [
+pub(crate) const ROWS: [Story; 4] = [
     Story {
         faults: SOUND,
         saved: "",
@@ -78,13 +77,8 @@ const ROWS: [Story; 4] = [
     },
 ];
 
-#[test]
-fn a_held_attempt_goes_on_as_it_began(rt: HostRuntime) -> Result<(), Fail> {
-    plays(rt.alloc(), &ROWS)
-}
-
 /// A fixlet that waits while a folder is there. The third look fails.
-const PAUSES: Story = Story {
+pub(crate) const PAUSES: Story = Story {
     faults: Faults {
         looks: &[3],
         acts: &[],
@@ -104,13 +98,8 @@ const PAUSES: Story = Story {
     wanted: "began 7 held 0 1\nwent on 7 held 0 1\nwent on 7 failed 0 1 43\nidle\n",
 };
 
-#[test]
-fn a_pause_is_asked_in_each_turn(rt: HostRuntime) -> Result<(), Fail> {
-    plays(rt.alloc(), &[PAUSES])
-}
-
 /// The agent is opened again while no site has its action: the attempt is broken, and tried again when the action has returned.
-const RETURNS: Story = Story {
+pub(crate) const RETURNS: Story = Story {
     faults: SOUND,
     saved: "",
     lives: &[
@@ -129,8 +118,3 @@ const RETURNS: Story = Story {
     ],
     wanted: "began 7 held 0 1, start slow\ninterrupted 7\nidle\nbegan 7 held 0 1, start slow\n",
 };
-
-#[test]
-fn a_broken_attempt_of_no_site_is_interrupted(rt: HostRuntime) -> Result<(), Fail> {
-    plays(rt.alloc(), &[RETURNS])
-}

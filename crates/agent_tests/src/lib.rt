@@ -6,6 +6,8 @@ mod attempts;
 #[cfg(test)]
 mod baselines;
 #[cfg(test)]
+mod book;
+#[cfg(test)]
 mod files;
 #[cfg(test)]
 mod histories;

@@ -2,8 +2,7 @@
 use crate::played::{Faults, SOUND, Step};
 use crate::shown::Shown;
 use crate::sites::{ACTION, OPEN};
-use crate::stories::{Story, plays};
-use std::test::Fail;
+use crate::stories::Story;
 
 /// Fixlets: one that isn't relevant, one whose clause errs, one that is relevant, and one whose script is refused.
 const FIXLETS: &str = "site desk 1
@@ -128,7 +127,7 @@ end
 ";
 
 /// Action 8 is in no site. Action 3 is tried as well, so it looks twice.
-const ALL: Story = Story {
+pub(crate) const ALL: Story = Story {
     faults: SOUND,
     saved: "agent 2
 computer pc1
@@ -185,17 +184,12 @@ end
 ",
 };
 
-#[test]
-fn each_ended_action_that_is_not_relevant_is_marked(rt: HostRuntime) -> Result<(), Fail> {
-    plays(rt.alloc(), &[ALL])
-}
-
 /// The text of an agent with a row of action 7 that isn't cleared, and with a mark at 1000.
 const OLD: &str = "agent 2\ncomputer pc1\nnext 1\naction 7\nattempt 1 900 fixed 900 - - - -\nend\n";
 
 /// A mark that is made counts in the same turn, so that what may run again once it was cleared is tried, and looks once more. It is
 /// saved once: the third save would fail, and the first was that of the text.
-const COUNTS: [Story; 2] = [
+pub(crate) const COUNTS: [Story; 2] = [
     Story {
         faults: Faults {
             looks: &[],
@@ -237,17 +231,12 @@ const COUNTS: [Story; 2] = [
     },
 ];
 
-#[test]
-fn a_mark_counts_in_its_turn_and_is_saved_once(rt: HostRuntime) -> Result<(), Fail> {
-    plays(rt.alloc(), &COUNTS)
-}
-
 /// Action 7, which is to be marked, and action 8, which is due.
 const TWO: [&str; 4] = [ACTION, OPEN, "action 8\nissued 900\ncontent desk 3\n", OPEN];
 
 /// A look that fails leaves no mark; a beginning that can't be saved leaves the marks, unsaved; a last save that fails does so as well.
 /// The first save is that of the text.
-const FALLS: [Story; 3] = [
+pub(crate) const FALLS: [Story; 3] = [
     Story {
         faults: Faults {
             looks: &[2],
@@ -304,8 +293,3 @@ const FALLS: [Story; 3] = [
         wanted: "pocket fault\nrows 1, cleared\nattempt 1 900 fixed 900 - - - -\nidle\nattempt 1 900 fixed 900 1000 - - -\n",
     },
 ];
-
-#[test]
-fn marks_fall_with_what_comes_after_them(rt: HostRuntime) -> Result<(), Fail> {
-    plays(rt.alloc(), &FALLS)
-}

@@ -1,8 +1,7 @@
 // The notes of rows: where an attempt failed, and an exit code.
 use crate::played::{Faults, SOUND, Step};
 use crate::shown::Shown;
-use crate::stories::{Story, plays};
-use std::test::Fail;
+use crate::stories::Story;
 
 /// Fixlets: one that ends with 7, one without a program, one that fails behind an exit code, one that isn't relevant, one that looks, one
 /// whose success isn't met, and one that fails without an exit code.
@@ -86,7 +85,7 @@ state open
 end
 ";
 
-const ROWS: [Story; 12] = [
+pub(crate) const ROWS: [Story; 12] = [
     Story {
         faults: SOUND,
         saved: "",
@@ -232,8 +231,3 @@ const ROWS: [Story; 12] = [
         wanted: "began 7 failed 0 0 49, start quick\nattempt 1 1000 failed 1000 - 7 0 0\n",
     },
 ];
-
-#[test]
-fn a_row_tells_where_it_failed_first_and_the_last_exit(rt: HostRuntime) -> Result<(), Fail> {
-    plays(rt.alloc(), &ROWS)
-}

@@ -1,6 +1,7 @@
 // Playing what happens to an agent. Each function owns one dear thing at most, which it drops once.
 ghost use Rattle.std.specs.Prelude.{◌≡◌, ℕ, length, IfSome};
 ghost use Rattle.fix_site.specs.Sites.{IsSite};
+ghost use Rattle.line_forms.specs.Numbers.{IsOffset};
 ghost use Rattle.agent_core.specs.Agents.{shown_state};
 ghost use Rattle.agent_core.specs.Stops.{HeldWaitsBelow};
 
@@ -67,6 +68,8 @@ pub(crate) enum Step {
     Gather(&'static [&'static str]),
     /// It makes a turn at this moment, at the offset 60.
     Turn(u32),
+    /// The same at the offset 120.
+    TurnAt120(u32),
     /// The report of this number is settled.
     Settle(u64, Verdict),
     /// A file is supplied.
@@ -128,13 +131,15 @@ fn turn(
     machine: &mut PlainMachine,
     pocket: &mut MemoryPocket,
     moment: u32,
+    offset: i64,
     out: &mut Text,
 ) -> Option<()>
+    requires offset { IsOffset offset }
     requires waits { HeldWaitsBelow (length machine.old.world.started) (shown_state agent.old).held }
     ensures waits { HeldWaitsBelow (length machine.new.world.started) (shown_state agent.new).held }
 {
     let acted = machine.acted().len();
-    let turned = agent.turn(alloc, machine, pocket, i64::from(moment), 60);
+    let turned = agent.turn(alloc, machine, pocket, i64::from(moment), offset);
     let said = told(alloc, &turned, out);
     drop(turned);
     said.ok()?;
@@ -204,7 +209,8 @@ fn one_step(
 {
     match step {
         Step::Gather(texts) => gather(alloc, agent, texts, out),
-        Step::Turn(moment) => turn(alloc, agent, machine, pocket, moment, out),
+        Step::Turn(moment) => turn(alloc, agent, machine, pocket, moment, 60, out),
+        Step::TurnAt120(moment) => turn(alloc, agent, machine, pocket, moment, 120, out),
         Step::Settle(seq, verdict) => settle(agent, seq, &verdict, out),
         Step::Supply(file) => supply(alloc, agent, file, out),
         Step::Delete(path) => delete(alloc, machine, path),

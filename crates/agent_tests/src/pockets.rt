@@ -15,10 +15,20 @@ fn named(loaded: &Loaded) -> &'static str {
     }
 }
 
-/// What a load answers, in a word.
+/// What a copy of the answer is.
+fn copied(loaded: &Loaded) -> &'static str {
+    let Ok(copy) = loaded.copy() else {
+        return "no copy";
+    };
+    let name = named(&copy);
+    drop(copy);
+    name
+}
+
+/// What a load answers, in a word, as a copy of it tells.
 fn loaded(pocket: &mut MemoryPocket) -> &'static str {
     let loaded = pocket.load();
-    let name = named(&loaded);
+    let name = copied(&loaded);
     drop(loaded);
     name
 }

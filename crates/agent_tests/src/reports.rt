@@ -1,7 +1,7 @@
 // Reports: what fits into one, and when none can be made.
 use crate::played::{Faults, SOUND, Step};
 use crate::shown::Shown;
-use crate::stories::{Story, plays, plays_from};
+use crate::stories::{Story, plays_from};
 use agent_core::Verdict;
 use std::alloc::Global;
 use std::test::Fail;
@@ -42,7 +42,7 @@ const FITS: Story = Story {
 #[test]
 fn what_does_not_fit_goes_into_the_next_report(rt: HostRuntime) -> Result<(), Fail> {
     let text = pending_actions(rt.alloc(), 501).ok_or("no memory")?;
-    plays_from(rt.alloc(), text.as_str(), &FITS)
+    plays_from(rt.alloc(), "what does not fit", text.as_str(), &FITS)
 }
 
 /// The text of an agent with this pending attempt and 1,000 reports.
@@ -74,7 +74,7 @@ const FULL: Story = Story {
 #[test]
 fn a_full_outbox_makes_no_report(rt: HostRuntime) -> Result<(), Fail> {
     let text = reports(rt.alloc(), "attempt 1 0 fixed 0 - 3 - -").ok_or("no memory")?;
-    plays_from(rt.alloc(), text.as_str(), &FULL)
+    plays_from(rt.alloc(), "a full outbox", text.as_str(), &FULL)
 }
 
 /// The interrupted turn saves once, and the settled report is saved by the third save, which fails. The row is reported as it then stands.
@@ -99,11 +99,16 @@ const STANDS: Story = Story {
 #[test]
 fn a_row_is_reported_as_it_then_stands(rt: HostRuntime) -> Result<(), Fail> {
     let text = reports(rt.alloc(), "attempt 1 0 running - - - - -").ok_or("no memory")?;
-    plays_from(rt.alloc(), text.as_str(), &STANDS)
+    plays_from(
+        rt.alloc(),
+        "a row as it then stands",
+        text.as_str(),
+        &STANDS,
+    )
 }
 
 /// The last number is used, and the one behind it isn't: an interrupted turn saves once then, and the third save is the next turn's.
-const NUMBERS: [Story; 3] = [
+pub(crate) const NUMBERS: [Story; 3] = [
     Story {
         faults: SOUND,
         saved: "agent 2\ncomputer pc1\nnext 9007199254740991\naction 7\nattempt 1 0 fixed 0 - 3 - -\npending 7\nend\n",
@@ -137,20 +142,10 @@ const NUMBERS: [Story; 3] = [
     },
 ];
 
-#[test]
-fn the_number_behind_the_last_is_not_used(rt: HostRuntime) -> Result<(), Fail> {
-    plays(rt.alloc(), &NUMBERS)
-}
-
 /// A failed attempt without a place is reported at 0 and 0.
-const OLD: Story = Story {
+pub(crate) const OLD: Story = Story {
     faults: SOUND,
     saved: "agent 1\ncomputer pc1\nnext 1\naction 7\nattempt 1 1000 failed 1000 -\npending 7\nend\n",
     lives: &[&[Step::Turn(1000), Step::Show(Shown::Saved)]],
     wanted: "idle\nagent 2\ncomputer pc1\nnext 2\naction 7\nattempt 1 1000 failed 1000 - - - -\nreport 2\ncomputer pc1\nseq 1\nrow 7 1 failed 1000 1000 - 0 0\nend\nend\n",
 };
-
-#[test]
-fn an_old_text_is_reported_and_saved_anew(rt: HostRuntime) -> Result<(), Fail> {
-    plays(rt.alloc(), &[OLD])
-}

@@ -2,7 +2,7 @@
 use crate::played::{Faults, SOUND, Step};
 use crate::shown::Shown;
 use crate::sites::{ACTION, FAILING, OPEN, REALISTIC, WAITS};
-use crate::stories::{Story, plays};
+use crate::stories::Story;
 use agent_core::{Agent, MemoryPocket, Opened, Pocket, Verdict};
 use line_forms::read_name;
 use rel_lexer::Text;
@@ -16,7 +16,7 @@ const RUNNING: &str =
 
 /// The save of a beginning fails, then the one that is made since it failed. A save that failed may have left the new text, whose row
 /// the agent doesn't have: the next turn saves what the agent has; an agent that is opened from it has a broken attempt.
-const BEGINNINGS: [Story; 3] = [
+pub(crate) const BEGINNINGS: [Story; 3] = [
     Story {
         faults: Faults {
             looks: &[],
@@ -75,13 +75,8 @@ const BEGINNINGS: [Story; 3] = [
     },
 ];
 
-#[test]
-fn a_beginning_that_cannot_be_saved_adds_no_row(rt: HostRuntime) -> Result<(), Fail> {
-    plays(rt.alloc(), &BEGINNINGS)
-}
-
 /// Reports that are not saved are hidden, and can be settled all the same.
-const HIDDEN: [Story; 2] = [
+pub(crate) const HIDDEN: [Story; 2] = [
     Story {
         faults: Faults {
             looks: &[],
@@ -126,14 +121,9 @@ const HIDDEN: [Story; 2] = [
     },
 ];
 
-#[test]
-fn reports_that_are_not_saved_are_hidden(rt: HostRuntime) -> Result<(), Fail> {
-    plays(rt.alloc(), &HIDDEN)
-}
-
 /// A broken attempt ends, also where that isn't saved; then the next turn saves it, goes on, and makes the report at its end. An
 /// interrupted turn saves twice.
-const BROKEN: [Story; 4] = [
+pub(crate) const BROKEN: [Story; 4] = [
     Story {
         faults: Faults {
             looks: &[],
@@ -194,13 +184,8 @@ const BROKEN: [Story; 4] = [
     },
 ];
 
-#[test]
-fn a_broken_attempt_ends_even_where_that_is_not_saved(rt: HostRuntime) -> Result<(), Fail> {
-    plays(rt.alloc(), &BROKEN)
-}
-
 /// Saves 1 and 2 are those of the turn at 1000, save 3 is that of what was settled. It is made also in a turn that falls back then.
-const SETTLED: [Story; 2] = [
+pub(crate) const SETTLED: [Story; 2] = [
     Story {
         faults: Faults {
             looks: &[],
@@ -239,13 +224,8 @@ const SETTLED: [Story; 2] = [
     },
 ];
 
-#[test]
-fn a_settled_report_is_saved_in_the_next_turn(rt: HostRuntime) -> Result<(), Fail> {
-    plays(rt.alloc(), &SETTLED)
-}
-
 /// Two saves in the turn that begins and is held, and two at the end: the third fails.
-const HELD: Story = Story {
+pub(crate) const HELD: Story = Story {
     faults: Faults {
         looks: &[],
         acts: &[],
@@ -267,13 +247,8 @@ const HELD: Story = Story {
     wanted: "began 7 held 0 1, start slow\nwent on 7 held 0 1\nwent on 7 held 0 1\noutbox 1, last 1 of 1, 7 1 running\npocket fault\noutbox 1, last 1 of 1, 7 1 running\nidle\noutbox 2, last 2 of 1, 7 1 fixed\n",
 };
 
-#[test]
-fn a_held_attempt_saves_nothing(rt: HostRuntime) -> Result<(), Fail> {
-    plays(rt.alloc(), &[HELD])
-}
-
 /// The fifth look is that of the success rule. What failed has the exit code of its run.
-const UNJUDGED: Story = Story {
+pub(crate) const UNJUDGED: Story = Story {
     faults: Faults {
         looks: &[5],
         acts: &[],
@@ -289,11 +264,6 @@ const UNJUDGED: Story = Story {
     ]],
     wanted: "began 7 held 0 8, delete __createfile, write __createfile, delete /etc/agentd/conf, copy __createfile /etc/agentd/conf, start upgrade agentd\nwent on 7 failed 0 0 43\nattempt 1 1000 failed 1010 - 0 0 0\n",
 };
-
-#[test]
-fn a_success_that_cannot_be_judged_is_a_failure(rt: HostRuntime) -> Result<(), Fail> {
-    plays(rt.alloc(), &[UNJUDGED])
-}
 
 /// What opening an agent answers, in a word.
 fn opened(alloc: Global, pocket: &mut MemoryPocket) -> Option<&'static str> {

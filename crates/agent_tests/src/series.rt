@@ -2,8 +2,7 @@
 use crate::played::{SOUND, Step};
 use crate::shown::Shown;
 use crate::sites::{ACTION, OPEN};
-use crate::stories::{Story, plays};
-use std::test::Fail;
+use crate::stories::Story;
 
 /// A fixlet that is relevant while there is no file `/etc/done`, and makes it.
 const MAKES: &str = "site desk 1
@@ -22,7 +21,7 @@ const AGAIN: &str =
 const WHILE: &str =
     "members stop\ntarget all\nstart none\nuntil none\nhours none\ndays 1111111\nretries 1 10\nreapply while 1 100\nstate open\nend\n";
 
-const CLEARED: Story = Story {
+pub(crate) const CLEARED: Story = Story {
     faults: SOUND,
     saved: "",
     lives: &[&[
@@ -46,12 +45,7 @@ idle
 ",
 };
 
-#[test]
-fn it_runs_again_once_it_was_cleared(rt: HostRuntime) -> Result<(), Fail> {
-    plays(rt.alloc(), &[CLEARED])
-}
-
-const NOT_CLEARED: [Story; 2] = [
+pub(crate) const NOT_CLEARED: [Story; 2] = [
     Story {
         faults: SOUND,
         saved: "",
@@ -78,13 +72,8 @@ const NOT_CLEARED: [Story; 2] = [
     },
 ];
 
-#[test]
-fn only_while_it_runs_again_without_being_cleared(rt: HostRuntime) -> Result<(), Fail> {
-    plays(rt.alloc(), &NOT_CLEARED)
-}
-
 /// Without a clause none is untrue; a clause that errs is.
-const JUDGED: [Story; 2] = [
+pub(crate) const JUDGED: [Story; 2] = [
     Story {
         faults: SOUND,
         saved: "",
@@ -111,13 +100,8 @@ const JUDGED: [Story; 2] = [
     },
 ];
 
-#[test]
-fn success_is_a_clause_that_is_not_true(rt: HostRuntime) -> Result<(), Fail> {
-    plays(rt.alloc(), &JUDGED)
-}
-
 /// An action that a newer site lacks has no tally, and keeps its rows. If it returns, its tally is made of its rows.
-const RETURNS: Story = Story {
+pub(crate) const RETURNS: Story = Story {
     faults: SOUND,
     saved: "agent 2\ncomputer pc1\nnext 1\naction 7\nattempt 1 1000 failed 1000 - - 0 1\nattempt 2 1060 failed 1060 - - 0 1\nend\n",
     lives: &[&[
@@ -136,8 +120,3 @@ const RETURNS: Story = Story {
     ]],
     wanted: "no tally\nnot owed\nno tally\nno tally\nrows 2\nnot owed\n",
 };
-
-#[test]
-fn a_tally_stands_for_the_rows(rt: HostRuntime) -> Result<(), Fail> {
-    plays(rt.alloc(), &[RETURNS])
-}

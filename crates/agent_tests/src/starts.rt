@@ -2,11 +2,10 @@
 use crate::played::{SOUND, Step};
 use crate::shown::Shown;
 use crate::sites::{ACTION, FAILED, FAILING, OPEN};
-use crate::stories::{Story, plays};
-use std::test::Fail;
+use crate::stories::Story;
 
 /// Actions, the moment of a turn, which is 76 minutes past midnight of a Thursday at 1000, and what it comes to.
-const ROWS: [Story; 17] = [
+pub(crate) const ROWS: [Story; 17] = [
     Story {
         faults: SOUND,
         saved: "",
@@ -230,12 +229,7 @@ const ROWS: [Story; 17] = [
     },
 ];
 
-#[test]
-fn an_action_begins_where_it_is_due(rt: HostRuntime) -> Result<(), Fail> {
-    plays(rt.alloc(), &ROWS)
-}
-
-const NOT_GATHERED: [Story; 3] = [
+pub(crate) const NOT_GATHERED: [Story; 3] = [
     Story {
         faults: SOUND,
         saved: "",
@@ -274,12 +268,7 @@ const NOT_GATHERED: [Story; 3] = [
     },
 ];
 
-#[test]
-fn what_has_no_script_is_not_looked_at(rt: HostRuntime) -> Result<(), Fail> {
-    plays(rt.alloc(), &NOT_GATHERED)
-}
-
-const CLAUSES: [Story; 4] = [
+pub(crate) const CLAUSES: [Story; 4] = [
     Story {
         faults: SOUND,
         saved: "",
@@ -330,8 +319,3 @@ const CLAUSES: [Story; 4] = [
         wanted: "idle\n",
     },
 ];
-
-#[test]
-fn a_clause_is_asked_up_to_the_first_that_is_not_true(rt: HostRuntime) -> Result<(), Fail> {
-    plays(rt.alloc(), &CLAUSES)
-}

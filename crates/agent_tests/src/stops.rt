@@ -2,8 +2,7 @@
 use crate::played::{Faults, SOUND, Step};
 use crate::shown::Shown;
 use crate::sites::{ACTION, FAILING, OPEN, REALISTIC};
-use crate::stories::{Story, plays};
-use std::test::Fail;
+use crate::stories::Story;
 
 /// An agent of the failing script makes a turn, and is thrown away. Another one is opened from its pocket, gathers, and makes three turns.
 const LIVES: &[&[Step]] = &[
@@ -25,7 +24,7 @@ const LIVES: &[&[Step]] = &[
 ];
 
 /// The order of the calls, where none fails: three looks, the save of the row, three commands, and the last save.
-const NEVER: Story = Story {
+pub(crate) const NEVER: Story = Story {
     faults: SOUND,
     saved: "",
     lives: LIVES,
@@ -41,7 +40,7 @@ attempt 2 1065 failed 1065 - - 0 3
 };
 
 /// Without a saved row nothing was done, and the next turn begins row 1.
-const BEFORE: [Story; 4] = [
+pub(crate) const BEFORE: [Story; 4] = [
     Story {
         faults: Faults {
             looks: &[1],
@@ -113,7 +112,7 @@ attempt 2 1200 failed 1200 - - 0 3
 ];
 
 /// What was done is of the saved row, which ends as interrupted; one row more is owed.
-const BEHIND: [Story; 4] = [
+pub(crate) const BEHIND: [Story; 4] = [
     Story {
         faults: Faults {
             looks: &[],
@@ -188,15 +187,8 @@ attempt 2 1200 failed 1200 - - 0 3
     },
 ];
 
-#[test]
-fn a_stop_loses_no_row_of_a_command(rt: HostRuntime) -> Result<(), Fail> {
-    plays(rt.alloc(), &[NEVER])?;
-    plays(rt.alloc(), &BEFORE)?;
-    plays(rt.alloc(), &BEHIND)
-}
-
 /// Every call from the first command on fails.
-const AGAIN: Story = Story {
+pub(crate) const AGAIN: Story = Story {
     faults: Faults {
         looks: &[],
         acts: &[1],
@@ -233,8 +225,3 @@ began 7 held 0 8, delete __createfile, write __createfile, delete /etc/agentd/co
 rows 2
 ",
 };
-
-#[test]
-fn a_stopped_agent_begins_again(rt: HostRuntime) -> Result<(), Fail> {
-    plays(rt.alloc(), &[AGAIN])
-}

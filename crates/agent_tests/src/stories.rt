@@ -67,19 +67,24 @@ fn played(alloc: Global, saved: &str, story: &Story) -> Option<Text> {
     Some(out)
 }
 
-/// Plays a story over a pocket with this text, and compares what is told of it.
-pub(crate) fn plays_from(alloc: Global, saved: &str, story: &Story) -> Result<(), Fail> {
+/// Plays a story over a pocket with this text, and compares what is told of it. What is told otherwise stands behind what it is about.
+pub(crate) fn plays_from(
+    alloc: Global,
+    about: &str,
+    saved: &str,
+    story: &Story,
+) -> Result<(), Fail> {
     let said = played(alloc, saved, story).ok_or("not played")?;
     if said.as_str() == story.wanted {
         return Ok(());
     }
-    Err(String::from_str(alloc, said.as_str())?.into())
+    Err(format!(in alloc; "{about}: {}", said.as_str())?.into())
 }
 
-/// Plays stories, and compares what is told of them.
-pub(crate) fn plays(alloc: Global, stories: &[Story]) -> Result<(), Fail> {
+/// Plays stories about one thing, and compares what is told of them.
+pub(crate) fn plays(alloc: Global, about: &str, stories: &[Story]) -> Result<(), Fail> {
     for story in stories {
-        plays_from(alloc, story.saved, story)?;
+        plays_from(alloc, about, story.saved, story)?;
     }
     Ok(())
 }

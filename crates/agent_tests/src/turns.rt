@@ -2,11 +2,10 @@
 use crate::played::{Faults, File, SOUND, Step};
 use crate::shown::Shown;
 use crate::sites::{ACTION, FAILING, OPEN, REALISTIC};
-use crate::stories::{Story, plays};
+use crate::stories::Story;
 use agent_core::Verdict;
-use std::test::Fail;
 
-const FIXED: Story = Story {
+pub(crate) const FIXED: Story = Story {
     faults: SOUND,
     saved: "",
     lives: &[&[
@@ -47,13 +46,8 @@ end
 ",
 };
 
-#[test]
-fn the_realistic_fixlet_is_held_and_fixed(rt: HostRuntime) -> Result<(), Fail> {
-    plays(rt.alloc(), &[FIXED])
-}
-
 /// Two saves in each turn that begins and ends, and none in an idle one: the fifth would fail.
-const FAILS: Story = Story {
+pub(crate) const FAILS: Story = Story {
     faults: Faults {
         looks: &[],
         acts: &[],
@@ -85,12 +79,7 @@ not owed
 ",
 };
 
-#[test]
-fn a_failing_script_is_retried_once(rt: HostRuntime) -> Result<(), Fail> {
-    plays(rt.alloc(), &[FAILS])
-}
-
-const OLDER: Story = Story {
+pub(crate) const OLDER: Story = Story {
     faults: SOUND,
     saved: "",
     lives: &[&[
@@ -116,8 +105,3 @@ not wanted
 not dropped
 ",
 };
-
-#[test]
-fn an_older_site_is_not_gathered(rt: HostRuntime) -> Result<(), Fail> {
-    plays(rt.alloc(), &[OLDER])
-}

@@ -2,8 +2,8 @@
 #![tactic(auto)]
 
 #[cfg(test)]
-mod memory;
-#[cfg(test)]
 mod next_rows;
 #[cfg(test)]
 mod rows;
+#[cfg(test)]
+mod talks;

@@ -1,4 +1,4 @@
-use crate::rows::{find, row, rows, shown};
+use crate::rows::{find, list_line, row, rows};
 use desk_keep::{Changes, Listed, Table};
 use std::alloc::Global;
 use std::test::Fail;
@@ -67,7 +67,7 @@ fn a_row_is_of_its_table_and_key(rt: HostRuntime) -> Result<(), Fail> {
         first.is_result_of("pc1") && !first.is_result_of("pc") && !second.is_result_of("pc1")
     );
     assert_eq!(rt;
-        shown(alloc, &Listed::Changes(some.copy()?))?.as_str(),
+        list_line(alloc, &Listed::Changes(some.copy()?))?.as_str(),
         "result pc1 7 2 from 1 failed 1060 -3 0 9, action 7 of 5, "
     );
     Ok(())

@@ -103,53 +103,92 @@ pub fn find(alloc: Global, table: Table, name: &str, number: u64) -> Result<Find
     })
 }
 
-/// Puts rows, and says what was answered.
-pub fn put<K: Keeper>(keeper: &mut K, rows: &[Change]) -> &'static str {
-    if !rows.iter().all(|row| row.fits()) {
-        return "not in form";
-    }
-    match keeper.apply(rows) {
+/// A line of its own.
+fn line_of(alloc: Global, text: &str) -> Result<String, Fail> {
+    let mut line = String::new(alloc);
+    line.push_str(text)?;
+    Ok(line)
+}
+
+/// What an apply or an opening was answered.
+fn applied(applied: &Applied) -> &'static str {
+    match applied {
         Applied::Done => "done",
         Applied::Failed => "failed",
         Applied::Memory => "memory",
     }
 }
 
-/// How many rows the table has, as it is answered.
-pub fn counted<K: Keeper>(keeper: &mut K, table: Table) -> Result<u64, Fail> {
-    match keeper.count(table) {
-        Counted::Rows(rows) => Ok(rows),
-        Counted::Failed => Err("failed".into()),
-        Counted::Memory => Err("no memory".into()),
-    }
+/// Opens the keeper.
+pub fn opened<K: Keeper>(alloc: Global, keeper: &mut K) -> Result<String, Fail> {
+    let place = Text::from_str(alloc, "k")?;
+    line_of(alloc, applied(&keeper.open(&place)))
 }
 
-/// The row of a key as a line.
-pub fn found<K: Keeper>(alloc: Global, keeper: &mut K, find: &Find) -> Result<String, Fail> {
+/// Puts the rows of plain data.
+pub fn put<K: Keeper>(alloc: Global, keeper: &mut K, plain: &[Plain]) -> Result<String, Fail> {
+    let rows = rows(alloc, plain)?;
+    line_of(alloc, put_rows(keeper, rows.as_slice()))
+}
+
+fn put_rows<K: Keeper>(keeper: &mut K, rows: &[Change]) -> &'static str {
+    if !rows.iter().all(|row| row.fits()) {
+        return "not in form";
+    }
+    applied(&keeper.apply(rows))
+}
+
+/// A number of rows, as it is answered.
+pub fn count_line(alloc: Global, counted: &Counted) -> Result<String, Fail> {
     let mut line = String::new(alloc);
-    match keeper.get(find) {
-        Found::Change(row) => show(&mut line, &row)?,
+    match counted {
+        Counted::Rows(rows) => write!(line, "{rows}")?,
+        Counted::Failed => line.push_str("failed")?,
+        Counted::Memory => line.push_str("memory")?,
+    }
+    Ok(line)
+}
+
+/// The row of the key of this table, name and number.
+pub fn found<K: Keeper>(
+    alloc: Global,
+    keeper: &mut K,
+    table: Table,
+    name: &str,
+    number: u64,
+) -> Result<String, Fail> {
+    let key = find(alloc, table, name, number)?;
+    found_line(alloc, &keeper.get(&key))
+}
+
+fn found_line(alloc: Global, found: &Found) -> Result<String, Fail> {
+    let mut line = String::new(alloc);
+    match found {
+        Found::Change(row) => show(&mut line, row)?,
         Found::Nothing => line.push_str("nothing")?,
         Found::Failed => line.push_str("failed")?,
-        Found::Memory => return Err("no memory".into()),
+        Found::Memory => line.push_str("memory")?,
     }
     Ok(line)
 }
 
 /// The rows that are answered, each behind the one before.
-pub fn shown(alloc: Global, listed: &Listed) -> Result<String, Fail> {
+pub fn list_line(alloc: Global, listed: &Listed) -> Result<String, Fail> {
     let mut line = String::new(alloc);
     match listed {
-        Listed::Changes(rows) => {
-            for row in rows.as_slice() {
-                show(&mut line, row)?;
-                line.push_str(", ")?;
-            }
-        }
+        Listed::Changes(rows) => show_all(&mut line, rows.as_slice())?,
         Listed::Failed => line.push_str("failed")?,
-        Listed::Memory => return Err("no memory".into()),
+        Listed::Memory => line.push_str("memory")?,
     }
     Ok(line)
+}
+
+fn show_all(line: &mut String, rows: &[Change]) -> Result<(), Fail> {
+    for row in rows {
+        show(line, row)?;
+        line.push_str(", ")?;
+    }
+    Ok(())
 }
 
 /// Appends a row.

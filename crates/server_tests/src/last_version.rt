@@ -1,15 +1,14 @@
-use crate::talk::{AMPLE, Said, answered, bytes, keeper, request, told};
+use crate::talk::{AMPLE, Said, answered, bytes, keeper, request};
 use crate::texts::*;
 use desk_base::Bytes;
-use desk_keep::{Applied, Change, Keeper};
+use desk_keep::{Applied, Change, Keeper, MemoryKeeper};
 use rel_lexer::Text;
-use server_core::Limits;
 use sha2::{Digest, Sha256};
 use std::alloc::Global;
 use std::test::Fail;
 
 /// The last version of a site.
-const LAST: u64 = 9_007_199_254_740_992;
+pub const LAST: u64 = 9_007_199_254_740_992;
 
 /// Puts rows, as a server left them.
 fn put<K: Keeper>(keeper: &mut K, rows: &[Change]) -> Result<(), Fail> {
@@ -40,37 +39,14 @@ fn action_7(alloc: Global, text: &str) -> Result<Change, Fail> {
     })
 }
 
-#[test]
-fn no_version_follows_the_last(rt: HostRuntime) -> Result<(), Fail> {
-    let alloc = rt.alloc();
+/// A keeper of the site of actions in a version, and of the first action with this text.
+pub fn begun(alloc: Global, version: u64, action: &str) -> Result<MemoryKeeper, Fail> {
     let mut keeper = keeper(alloc, &[], &[])?;
     put(
         &mut keeper,
-        &[actionsite(alloc, LAST - 1)?, action_7(alloc, ACTION_7)?],
+        &[actionsite(alloc, version)?, action_7(alloc, action)?],
     )?;
-    let one = Limits {
-        actions: 1,
-        ..AMPLE
-    };
-    let rows = [
-        (one, Said::Act(ACTION_8), "full 1\n"),
-        (AMPLE, Said::Act(ACTION_8), "ok\n"),
-        (AMPLE, Said::AskSites, "actionsite 9007199254740992\n"),
-        (AMPLE, Said::Act(ACTION_10), "full 9007199254740992\n"),
-        (one, Said::Act(ACTION_10), "full 1\n"),
-        (AMPLE, Said::Act(ACTION_7), "again\n"),
-        (AMPLE, Said::Act(OTHER_7), ACTION_7_STANDS),
-        (AMPLE, Said::Stop(7), "full 9007199254740992\n"),
-        (AMPLE, Said::Stop(9), "no such\n"),
-    ];
-    for (limits, said, wanted) in rows {
-        assert_eq!(rt; told(alloc, limits, &mut keeper, said)?.as_str(), wanted);
-    }
-    put(&mut keeper, &[action_7(alloc, STOPPED_7)?])?;
-    for said in [Said::Stop(7), Said::Act(ACTION_7)] {
-        assert_eq!(rt; told(alloc, AMPLE, &mut keeper, said)?.as_str(), "again\n");
-    }
-    Ok(())
+    Ok(keeper)
 }
 
 /// The row of an action whose text has so many bytes before its state.

@@ -137,6 +137,10 @@ pub const OF_PC2: &str = "report 1\ncomputer pc2\nseq 1\nend\n";
 pub const ABC_IS_KEPT: &str =
     "ok ba7816bf8f01cfea414140de5dae2223b00361a396177a9cb410ff61f20015ad\n";
 
+/// The file of no bytes is kept.
+pub const NOTHING_IS_KEPT: &str =
+    "ok e3b0c44298fc1c149afbf4c8996fb92427ae41e4649b934ca495991b7852b855\n";
+
 /// Another action stands there, which came as the first one.
 pub const ACTION_7_STANDS: &str =
     "conflict e9b9279d6f56f8b8605a13581cf8c83f4dbd9720f208d81a3129961e58abebad\n";

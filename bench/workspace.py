@@ -1,0 +1,81 @@
+"""What the programs of bench/ share: the desk that they measure, the workspace in which a program of their own is made, and bounds."""
+import os
+import re
+import shutil
+import subprocess
+import sys
+
+HERE = os.path.dirname(os.path.abspath(__file__))
+TOP = os.path.dirname(HERE)
+NAME = os.path.basename(sys.argv[0])
+
+
+def desk(words=()):
+    """The path of the desk: that of the first word, or bin/desk."""
+    path = os.path.realpath(words[0] if words else os.path.join(TOP, "bin", "desk"))
+    if not os.access(path, os.X_OK):
+        sys.exit(f"bench/{NAME}: there is no {path}; ./build makes bin/desk")
+    return path
+
+
+def below(*names):
+    """What these crates stand on, by crates.txt, each once."""
+    with open(os.path.join(TOP, "crates.txt"), encoding="utf-8") as file:
+        lines = file.read()
+    found = [re.search(rf"^{name}:(.*)$", lines, re.M) for name in names]
+    if None in found:
+        sys.exit(f"bench/{NAME}: crates.txt has no line of {names[found.index(None)]}")
+    return list(dict.fromkeys(word for line in found for word in line[1].split()))
+
+
+def crate(room, name, program, stands_on, taken=(), with_libraries=False):
+    """Makes a copy of the crates in a folder, and in it a program: that of a file of bench/, with files of other crates, as (crate, file),
+    whose functions it may call. Of what rt has made beside the crates the libraries alone are copied, if at all. Returns its folder."""
+
+    def unwanted(folder, files):
+        if with_libraries:
+            return [file for file in files if os.path.basename(folder) == "out" and file != "rlib"]
+        return [file for file in files if file == "out"]
+
+    shutil.copytree(os.path.join(TOP, "crates"), os.path.join(room, "crates"), ignore=unwanted)
+    folder = os.path.join(room, "crates", name)
+    os.makedirs(os.path.join(folder, "src"))
+    shutil.copy(os.path.join(HERE, program), os.path.join(folder, "src", "main.rt"))
+    for of, file in taken:
+        with open(os.path.join(room, "crates", of, "src", file), encoding="utf-8") as source:
+            text = re.sub(r"^fn ", "pub(crate) fn ", source.read(), flags=re.M)
+        with open(os.path.join(folder, "src", file), "w", encoding="utf-8") as copy:
+            copy.write(text)
+    with open(os.path.join(TOP, "crates.txt"), encoding="utf-8") as file:
+        lines = file.read()
+    with open(os.path.join(room, "crates.txt"), "w", encoding="utf-8") as file:
+        file.write(f"{lines}{name}: {' '.join(stands_on)}\n")
+    return folder
+
+
+def unproved(folder):
+    """What the program of a folder writes, unproved."""
+    run = subprocess.run(["rt", "try", "--seconds", "600"], cwd=folder, capture_output=True, text=True)
+    return run.stdout + run.stderr
+
+
+class Bounds:
+    """Bounds, each of which is told in a line as it is measured. The status of the whole is how many aren't kept."""
+
+    def __init__(self):
+        self.kept = self.broken = 0
+
+    def holds(self, name, is_so):
+        """What has to be so."""
+        self.kept, self.broken = self.kept + bool(is_so), self.broken + (not is_so)
+        print(f"  {'kept  ' if is_so else 'BROKEN'}  {name}")
+
+    def at_most(self, name, value, bound, unit=""):
+        self.holds(f"{name}: {value:.4g}{unit and ' ' + unit}, at most {bound:g}", value <= bound)
+
+    def at_least(self, name, value, bound, unit=""):
+        self.holds(f"{name}: {value:.4g}{unit and ' ' + unit}, at least {bound:g}", value >= bound)
+
+    def end(self):
+        print(f"{self.kept} bounds kept, {self.broken} broken")
+        sys.exit(min(self.broken, 100))
