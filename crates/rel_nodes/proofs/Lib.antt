@@ -19,5 +19,6 @@ pub mod Parts
 pub mod Walked
 pub mod Measures
 pub mod Lists
+pub mod TupleParts
 pub mod Ends
 pub mod Keeping

@@ -1,5 +1,5 @@
 -- Lists of parts, gone through from their beginning.
-use Rattle.std.proofs.Common.{◌≡◌, ℕ, ◌+◌, ◌-◌, ◌<◌, ◌≤◌, List, [], ◌∷◌, ◌++◌, length, get_or, take, drop, map, refl, sym, ap, ◌∙◌, subst, arith}
+use Rattle.std.proofs.Common.{◌≡◌, ℕ, ◌+◌, ◌-◌, ◌<◌, ◌≤◌, List, [], ◌∷◌, ◌++◌, length, get_or, take, map, refl, sym, ap, ◌∙◌, arith}
 use Rattle.std.proofs.lemmas.List.{map-append, take_more, take_all}
 use Rattle.rel_lexer.specs.declared.place.Place.{Place}
 use Rattle.rel_lexer.specs.declared.operator.BinarySign.{BinarySign}
@@ -12,14 +12,10 @@ use Rattle.rel_types.specs.declared.node.Node.{Node}
 use Rattle.rel_types.specs.declared.node.NodeList.{NodeList, out-NodeList}
 use Rattle.rel_types.specs.Plans.{PlainNode, PlainForm, LinkedNodes, no_links, more_links, Nodes, no_nodes, more_nodes}
 use Rattle.rel_types.specs.Views.{PlainLink, linked, listed, form_step, link_step, links_step, node_step, nodes_step, shown_node, shown_link, shown_links, shown_nodes}
-use Rattle.rel_trace.specs.declared.joining.Joining.{Joining}
-use Rattle.rel_trace.specs.declared.joining.Joining.TheVariants.{Pair, Push}
 use Rattle.rel_trace.specs.declared.logic.Logic.TheVariants.{And, Or}
-use Rattle.rel_trace.specs.Ones.{sign_kind, tuple_kind}
-use Rattle.rel_trace.specs.Twos.{then_kind, bar_kind, logic_kind, left_kind, turned_kind}
-use Rattle.rel_nodes.specs.Spans.{span_of_node}
-use Rattle.rel_nodes.specs.Meaning.{joining}
-use Rattle.rel_nodes.specs.Core.{Core, left_core, one_core, two_core, Alike, core_of, cast_arrow, casted_core, sign_arrow, infix_core, later_arrow, chained_core, tuple_core, behind_core, collected_core}
+use Rattle.rel_trace.specs.Ones.{sign_kind}
+use Rattle.rel_trace.specs.Twos.{then_kind, bar_kind, logic_kind, left_kind}
+use Rattle.rel_nodes.specs.Core.{Core, left_core, two_core, Alike, core_of, cast_arrow, casted_core, sign_arrow, infix_core, chained_core, collected_core}
 use Rattle.rel_nodes.proofs.Alikes.{alike_same, alike_one, alike_trans, alike_two}
 
 pub nodes-out : (l : NodeList) → shown_nodes l ≡ listed no_nodes (map shown_node (out-NodeList l).items.items)
@@ -73,10 +69,6 @@ all_of xs i h = let le : length xs ≤ i = omega arith in take_all i xs le
 
 nodes_all : (l : Nodes) (xs : List Node) (i : ℕ) → (i < length xs → ⊥) → nodes_to l xs i ≡ listed l (map shown_node xs)
 nodes_all l xs i h = ap (λ ys. listed l (map shown_node ys)) (all_of xs i h)
-
-first_of : {X : Type 0} (xs : List X) (x : X) → 0 < length xs → x ≡ get_or xs 0 x → xs ≡ x ∷ drop 1 xs
-first_of [] x h e = absurd (omega arith)
-first_of (y ∷ ys) x h e = ap (λ z. z ∷ ys) (sym e)
 
 same : (c : Core) → Alike c c
 same c w s a = refl
@@ -138,68 +130,3 @@ chained_all first c l xs i e h inv =
     alike_trans c (chained_core (links_to xs i) first) (chained_core (shown_links l) first) inv
     (alike_same (chained_core (links_to xs i) first) (chained_core (shown_links l) first)
     (ap (λ x. chained_core x first) (ap (λ ys. linked no_links (map shown_link ys)) (all_of xs i h ∙ e) ∙ sym (links-out l))))
-
--- tuples: how one more part joins these, and the span of the last of them
-abbrev pub EndsWith : Nodes → Joining → Place → Type 0
-EndsWith no_nodes j p = ⊥
-EndsWith (more_nodes ns n) j p = (j ≡ joining ns) × (p ≡ span_of_node n)
-
-later_alike : (j : Joining) (p : Place) (c d : Core) → Alike c d → Alike (later_arrow j p c) (later_arrow j p d)
-later_alike j p c d h = alike_two (turned_kind p) left_core left_core (one_core (tuple_kind j p) c) (one_core (tuple_kind j p) d) (same left_core) (alike_one (tuple_kind j p) c d h)
-
-ends_joining : (l : Nodes) (j : Joining) (p : Place) → EndsWith l j p → Push ≡ joining l
-ends_joining no_nodes j p h = absurd h
-ends_joining (more_nodes ns n) j p h = refl
-
-behind : (l : Nodes) (j : Joining) (p : Place) (c d m : Core) → EndsWith l j p → Alike c (tuple_core l) → Alike d m → Alike (two_core left_kind c (later_arrow j p d)) (behind_core l m)
-behind no_nodes j p c d m h inv q = absurd h
-behind (more_nodes ns n) j p c d m h inv q =
-    let before = behind_core ns (core_of n) in
-    alike_trans (two_core left_kind c (later_arrow j p d)) (two_core left_kind before (later_arrow j p m)) (two_core left_kind before (later_arrow (joining ns) (span_of_node n) m))
-    (alike_two left_kind c before (later_arrow j p d) (later_arrow j p m) inv (later_alike j p d m q))
-    (alike_same (two_core left_kind before (later_arrow j p m)) (two_core left_kind before (later_arrow (joining ns) (span_of_node n) m))
-    (ap (λ x. two_core left_kind before (later_arrow x p m)) h.0 ∙ ap (λ x. two_core left_kind before (later_arrow (joining ns) x m)) h.1))
-
--- what a tuple so far is known to be
-abbrev pub TupleTo : Nodes → Core → Joining → Place → Type 0
-TupleTo l c j p = EndsWith l j p × Alike c (tuple_core l)
-
-pub tuple_first : (n : PlainNode) (c d : Core) (j : Joining) (p : Place) → d ≡ c → Alike c (core_of n) → j ≡ joining no_nodes → p ≡ span_of_node n → TupleTo (more_nodes no_nodes n) d j p
-tuple_first n c d j p e h i k = ((i, k), alike_trans d c (core_of n) (alike_same d c e) h)
-
-pub tuple_more : (l : Nodes) (c d b e : Core) (j j' : Joining) (p p' : Place) (xs : List Node) (i : ℕ) (x : Node) → i < length xs → x ≡ get_or xs i x → TupleTo (nodes_to l xs i) c j p → Alike d (core_of (shown_node x)) → b ≡ later_arrow j p d → Alike e (two_core left_kind c b) → j' ≡ Push → p' ≡ span_of_node (shown_node x) → TupleTo (nodes_to l xs (i + 1)) e j' p'
-tuple_more l c d b e j j' p p' xs i x h g inv q r k u v =
-    let before = nodes_to l xs i in
-    let more = more_nodes before (shown_node x) in
-    let whole : Alike e (tuple_core more) =
-    alike_trans e (two_core left_kind c b) (tuple_core more) k
-    (alike_trans (two_core left_kind c b) (two_core left_kind c (later_arrow j p d)) (tuple_core more)
-    (alike_same (two_core left_kind c b) (two_core left_kind c (later_arrow j p d)) (ap (two_core left_kind c) r))
-    (behind before j p c d (core_of (shown_node x)) inv.0 inv.1 q)) in
-    subst (λ (ns : Nodes). TupleTo ns e j' p') (sym (nodes_more l xs i x h g)) ((u ∙ ends_joining before j p inv.0, v), whole)
-
-pub tuple_all : (c : Core) (l : NodeList) (all xs : List Node) (n : Node) (i : ℕ) (j : Joining) (p : Place) → all ≡ (out-NodeList l).items.items → 0 < length all → n ≡ get_or all 0 n → xs ≡ drop 1 all → (i < length xs → ⊥) → TupleTo (nodes_to (more_nodes no_nodes (shown_node n)) xs i) c j p → Alike c (tuple_core (shown_nodes l))
-tuple_all c l all xs n i j p e h g k over inv =
-    let start = more_nodes no_nodes (shown_node n) in
-    alike_trans c (tuple_core (nodes_to start xs i)) (tuple_core (shown_nodes l)) inv.1
-    (alike_same (tuple_core (nodes_to start xs i)) (tuple_core (shown_nodes l))
-    (ap tuple_core (nodes_all start xs i over
-    ∙ ap (λ ys. listed start (map shown_node ys)) k
-    ∙ ap (λ ys. listed no_nodes (map shown_node ys)) (sym (first_of all n h g) ∙ e)
-    ∙ sym (nodes-out l))))
-
-pub no_tuple : (l : NodeList) (xs : List Node) → xs ≡ (out-NodeList l).items.items → (0 < length xs → ⊥) → tuple_core no_nodes ≡ tuple_core (shown_nodes l)
-no_tuple l [] e h = ap (λ ys. tuple_core (listed no_nodes (map shown_node ys))) e ∙ ap tuple_core (sym (nodes-out l))
-no_tuple l (x ∷ xs) e h = absurd (h (omega arith))
-
--- the first of a list, however it is come by
-pub one_first : (xs ys : List Node) (x y : Node) → xs ≡ ys → 0 < length xs → x ≡ get_or xs 0 x → y ≡ get_or ys 0 y → x ≡ y
-one_first [] ys x y e h i k = absurd (omega arith)
-one_first (z ∷ zs) ys x y e h i k = i ∙ sym (subst (λ (l : List Node). y ≡ get_or l 0 y) (sym e) k)
-
-pub tuple_begun : (n x : Node) (c d : Core) (p : Place) → x ≡ n → d ≡ c → Alike c (core_of (shown_node x)) → p ≡ span_of_node (shown_node x) → TupleTo (more_nodes no_nodes (shown_node n)) d Pair p
-tuple_begun n x c d p i e h k = tuple_first (shown_node n) c d Pair p e (subst (λ (m : Node). Alike c (core_of (shown_node m))) i h) refl (subst (λ (m : Node). p ≡ span_of_node (shown_node m)) i k)
-
-pub rest_whole : (xs : List Node) → take (length xs - 1) (drop 1 xs) ≡ drop 1 xs
-rest_whole [] = refl
-rest_whole (x ∷ xs) = let le : length xs ≤ length (x ∷ xs) - 1 = omega arith in take_all (length (x ∷ xs) - 1) xs le

@@ -19,16 +19,16 @@ use Rattle.rel_inspect.specs.Props.{prop}
 use Rattle.rel_trace.specs.declared.joining.Joining.{Joining}
 use Rattle.rel_trace.specs.declared.logic.Logic.{Logic}
 use Rattle.rel_trace.specs.declared.logic.Logic.TheVariants.{And, Or}
-use Rattle.rel_trace.specs.Trace.{Turn, After, Trace, none, follow, each, turned, result_at}
+use Rattle.rel_trace.specs.Trace.{Trace, none, follow, each, turned, result_at}
 use Rattle.rel_trace.specs.Draws.{sifted}
 use Rattle.rel_trace.specs.Folds.{held_first}
-use Rattle.rel_trace.specs.Joins.{barred, chosen, decided, tied, tupled}
+use Rattle.rel_trace.specs.Joins.{barred, chosen, decided, tupled}
 use Rattle.rel_trace.specs.Scopes.{Around, with_it, with_argument, with_left}
 use Rattle.rel_trace.specs.Ones.{fold_kind}
 use Rattle.rel_trace.specs.Twos.{left_kind}
 use Rattle.rel_nodes.specs.Spans.{span_of_node}
 use Rattle.rel_nodes.specs.Meaning.{placed, singly, casted, prefixed, infixed, fold_of, aggregated, joining, mean, form_mean, argued, over, gathered, filtered, chained, tuple_mean, last_behind, collected}
-use Rattle.rel_nodes.specs.Core.{Core, property_core, one_core, two_core, core, singly_core, cast_arrow, casted_core, prefix_kind, infix_core, later_arrow, is_there, core_of, form_core, argued_core, over_core, gathered_core, filtered_core, chained_core, tuple_core, behind_core, collected_core}
+use Rattle.rel_nodes.specs.Core.{Core, property_core, one_core, two_core, core, singly_core, cast_arrow, casted_core, prefix_kind, infix_core, is_there, core_of, form_core, argued_core, over_core, gathered_core, filtered_core, chained_core, tuple_core, behind_core, collected_core}
 use Rattle.rel_nodes.proofs.Compositions.{follow_none}
 use Rattle.rel_nodes.proofs.Folding.{same_folded, unargued}
 
@@ -98,10 +98,8 @@ aggregate_means w s p k g no_node o a h =
 aggregate_means w s p k g (a_node n) o a h = λ y. ap (aggregated (fold_of g k (a_node n)) p (Some y)) (h (with_argument a y))
 
 -- and to a tuple alone
-later_means : (w : WorldState) (s : Scene) (j : Joining) (p : Place) (t : Trace) (c : Core) (m : Option Plain → Trace) (a : Around) → ((e : Around) → core w s c e ≡ m e.it) → each t (λ v. core w s (later_arrow j p c) (with_left a v)) ≡ each t (tupled j p (m a.it))
-later_means w s j p t c m a h =
-    ap (each t) (λ i v. (ap (After (Turn p)) (follow_none (each (core w s c (with_left a v)) (λ y. result_at p (tied j v y))))
-    ∙ ap (λ u. turned p (each u (λ y. result_at p (tied j v y)))) (h (with_left a v))) i)
+later_means : (w : WorldState) (s : Scene) (j : Joining) (p : Place) (t : Trace) (c : Core) (m : Option Plain → Trace) (a : Around) → ((e : Around) → core w s c e ≡ m e.it) → each t (λ v. tupled j p (core w s c (with_left a v)) v) ≡ each t (tupled j p (m a.it))
+later_means w s j p t c m a h = ap (each t) (λ i v. tupled j p (h (with_left a v) i) v)
 
 mutual
   pub means : (w : WorldState) (s : Scene) (n : PlainNode) (a : Around) → core w s (core_of n) a ≡ mean w s n a.it
@@ -146,14 +144,14 @@ mutual
       infix_means w s g p (chained_core ls c) (core_of n) (mean w s n) a (means w s n)
       ∙ ap (λ t. infixed g p t (mean w s n a.it)) (chained_means w s ls c a)
 
-  tuple_means : (w : WorldState) (s : Scene) (ns : Nodes) (a : Around) → core w s (tuple_core ns) a ≡ tuple_mean w s ns a.it
+  pub tuple_means : (w : WorldState) (s : Scene) (ns : Nodes) (a : Around) → core w s (tuple_core ns) a ≡ tuple_mean w s ns a.it
   tuple_means w s no_nodes a = refl
   tuple_means w s (more_nodes ns n) a = behind_means w s ns (core_of n) (mean w s n) a (means w s n)
 
   behind_means : (w : WorldState) (s : Scene) (ns : Nodes) (c : Core) (m : Option Plain → Trace) (a : Around) → ((e : Around) → core w s c e ≡ m e.it) → core w s (behind_core ns c) a ≡ last_behind w s ns (m a.it) a.it
   behind_means w s no_nodes c m a h = h a
   behind_means w s (more_nodes ns n) c m a h =
-      ap (λ t. each t (λ v. core w s (later_arrow (joining ns) (span_of_node n) c) (with_left a v))) (behind_means w s ns (core_of n) (mean w s n) a (means w s n))
+      ap (λ t. each t (λ v. tupled (joining ns) (span_of_node n) (core w s c (with_left a v)) v)) (behind_means w s ns (core_of n) (mean w s n) a (means w s n))
       ∙ later_means w s (joining ns) (span_of_node n) (last_behind w s ns (mean w s n a.it) a.it) c m a h
 
   collected_means : (w : WorldState) (s : Scene) (ns : Nodes) (a : Around) → core w s (collected_core ns) a ≡ collected w s ns a.it

@@ -1,5 +1,5 @@
 -- A node never has more quiet steps before it than its plan allows. Other crates may cite these lemmas.
-use Rattle.std.proofs.Common.{ℕ, ◌≡◌, ◌∙◌, ◌+◌, ◌*◌, ◌≤◌, ◌<◌, ap, arith, refl, sym, subst, Bool, true, false, Option, Some, None}
+use Rattle.std.proofs.Common.{ℕ, ◌≡◌, ◌+◌, ◌*◌, ◌≤◌, ◌<◌, ap, arith, sym, subst, Bool, true, false, Option, Some, None}
 use Rattle.rel_trace.specs.declared.choice.Choice.{Choice}
 use Rattle.rel_trace.specs.declared.choice.Choice.TheVariants as choice
 use Rattle.rel_trace.specs.declared.handing.Hand.{Hand}
@@ -22,7 +22,7 @@ use Rattle.rel_nodes.specs.declared.pure.Pure.TheVariants as pure
 use Rattle.rel_nodes.specs.declared.node.Node.{Node}
 use Rattle.rel_nodes.specs.declared.node.Node.TheVariants as node
 use Rattle.rel_nodes.specs.Nodes.{pure_shape, shape}
-use Rattle.rel_nodes.specs.Measure.{two_cap, cap, choice_cap, property_quiet, quiet}
+use Rattle.rel_nodes.specs.Measure.{two_cap, cap, property_quiet, quiet}
 use Rattle.rel_nodes.proofs.Going.{nearer}
 use Rattle.rel_nodes.proofs.Walked.{values_le}
 
@@ -120,35 +120,6 @@ nearer_as most most' m k q q' e l h f =
 -- what goes on comes nearer to its end by a look or a turn, and else by what is quiet
 pub step_nearer : (n n' : Node) (m k : ℕ) → shape n' ≡ shape n → k ≤ m → (k ≡ m → quiet n' < quiet n) → k * (cap (shape n') + 1) + quiet n' < m * (cap (shape n) + 1) + quiet n
 step_nearer n n' m k e h f = nearer_as (cap (shape n)) (cap (shape n')) m k (quiet n) (quiet n') (ap cap e) (quiet_le_cap n') h f
-
-pub property_nearer : (walk walk' : Option Walking) (m k : ℕ) → k ≤ m → (k ≡ m → property_quiet walk' < property_quiet walk) → k * (2 + 1) + property_quiet walk' < m * (2 + 1) + property_quiet walk
-property_nearer walk walk' m k h f = nearer_as 2 2 m k (property_quiet walk) (property_quiet walk') refl (property_le walk') h f
-
-pub one_nearer : (a a' : Node) (s s' : One) (m k : ℕ) → shape a' ≡ shape a → k ≤ m → (k ≡ m → one_quiet s' (quiet a') < one_quiet s (quiet a)) →
-    k * (cap (shape a') + 1 + 1) + one_quiet s' (quiet a') < m * (cap (shape a) + 1 + 1) + one_quiet s (quiet a)
-one_nearer a a' s s' m k e h f =
-    nearer_as (cap (shape a) + 1) (cap (shape a') + 1) m k (one_quiet s (quiet a)) (one_quiet s' (quiet a')) (ap (λ c. cap c + 1) e)
-    (omega (arith, quiet_le_cap a', one_le s' (quiet a'))) h f
-
-pub two_nearer : (a a' b b' : Node) (s s' : Two) (m k : ℕ) → shape a' ≡ shape a → shape b' ≡ shape b → two_kind s' ≡ two_kind s → k ≤ m →
-    (k ≡ m → two_quiet s' (quiet a') (quiet b') (cap (shape b')) < two_quiet s (quiet a) (quiet b) (cap (shape b))) →
-    k * (two_cap (two_kind s') (cap (shape a')) (cap (shape b')) + 1) + two_quiet s' (quiet a') (quiet b') (cap (shape b'))
-    < m * (two_cap (two_kind s) (cap (shape a)) (cap (shape b)) + 1) + two_quiet s (quiet a) (quiet b) (cap (shape b))
-two_nearer a a' b b' s s' m k x y z h f =
-    nearer_as (two_cap (two_kind s) (cap (shape a)) (cap (shape b))) (two_cap (two_kind s') (cap (shape a')) (cap (shape b'))) m k
-    (two_quiet s (quiet a) (quiet b) (cap (shape b))) (two_quiet s' (quiet a') (quiet b') (cap (shape b')))
-    (ap (λ t. two_cap t (cap (shape a')) (cap (shape b'))) z ∙ ap (λ c. two_cap (two_kind s) (cap c) (cap (shape b'))) x ∙ ap (λ c. two_cap (two_kind s) (cap (shape a)) (cap c)) y)
-    (two_le s' (quiet a') (quiet b') (cap (shape a')) (cap (shape b')) (quiet_le_cap a') (quiet_le_cap b')) h f
-
-pub choice_nearer : (t t' y y' n n' : Node) (s s' : Choice) (m k : ℕ) → shape t' ≡ shape t → shape y' ≡ shape y → shape n' ≡ shape n → k ≤ m →
-    (k ≡ m → choice_quiet s' (quiet t') (quiet y') (quiet n') (cap (shape y')) (cap (shape n')) < choice_quiet s (quiet t) (quiet y) (quiet n) (cap (shape y)) (cap (shape n))) →
-    k * (choice_cap (cap (shape t')) (cap (shape y')) (cap (shape n')) + 1) + choice_quiet s' (quiet t') (quiet y') (quiet n') (cap (shape y')) (cap (shape n'))
-    < m * (choice_cap (cap (shape t)) (cap (shape y)) (cap (shape n)) + 1) + choice_quiet s (quiet t) (quiet y) (quiet n) (cap (shape y)) (cap (shape n))
-choice_nearer t t' y y' n n' s s' m k e f g h l =
-    nearer_as (choice_cap (cap (shape t)) (cap (shape y)) (cap (shape n))) (choice_cap (cap (shape t')) (cap (shape y')) (cap (shape n'))) m k
-    (choice_quiet s (quiet t) (quiet y) (quiet n) (cap (shape y)) (cap (shape n))) (choice_quiet s' (quiet t') (quiet y') (quiet n') (cap (shape y')) (cap (shape n')))
-    (ap (λ c. choice_cap (cap c) (cap (shape y')) (cap (shape n'))) e ∙ ap (λ c. choice_cap (cap (shape t)) (cap c) (cap (shape n'))) f ∙ ap (λ c. choice_cap (cap (shape t)) (cap (shape y)) (cap c)) g)
-    (choice_le s' (quiet t') (quiet y') (quiet n') (cap (shape t')) (cap (shape y')) (cap (shape n')) (quiet_le_cap t') (quiet_le_cap y') (quiet_le_cap n')) h l
 
 falls_below : (x : Step) (a b b' : ℕ) → Falls x a b → b' ≤ b → Falls x a b'
 falls_below step.Quiet a b b' h k = omega arith

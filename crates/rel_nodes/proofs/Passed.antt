@@ -1,12 +1,13 @@
 -- What was passed over before a step, and the step behind it.
 use Rattle.std.proofs.Common.{◌≡◌, ◌≤◌, ◌∙◌, ℕ, Bool, List, Some, arith, refl, subst, sym}
+use Rattle.desk_base.specs.Counts.{CountsIf}
 use Rattle.bf_machine.specs.Views.{MachineView, OnlyLooks}
 use Rattle.bf_machine.proofs.Looking.{OnlyLooks-refl, OnlyLooks-trans}
 use Rattle.bf_world.specs.Worlds.{WorldState}
 use Rattle.bf_world.specs.declared.key.Key.{Key}
 use Rattle.rel_trace.specs.declared.step.Step.{Step}
 use Rattle.rel_trace.specs.declared.step.Step.TheVariants as step
-use Rattle.rel_trace.specs.Steps.{AsRoom, Falls, Goes, HasCause, IsTold}
+use Rattle.rel_trace.specs.Steps.{AsRoom, Falls, Goes, has_failed, IsTold}
 use Rattle.rel_nodes.specs.Steps.{Advances, PassedOver, Remainder, StepsOn, WentOn, has_room}
 use Rattle.rel_nodes.proofs.Going.{advance_none, advance_over, advance_then, falls_then, over_falls, over_within, went_once, went_same}
 
@@ -27,7 +28,7 @@ passed_none a n x = record {
   looks = OnlyLooks-refl a;
 }
 
-over_steady : (r : Step) (m k a b : ℕ) → PassedOver m r k → HasCause a b r → b ≡ a
+over_steady : (r : Step) (m k a b : ℕ) → PassedOver m r k → CountsIf (has_failed r) a b → b ≡ a
 over_steady step.Quiet m k a b on h = h
 over_steady (step.Looked p) m k a b on h = h
 over_steady (step.Turned p) m k a b on h = h
@@ -52,7 +53,7 @@ passed_on {a} {b} {c} {n} {m} {l} {k} {x} {y} {z} {r} i e on =
 pub steps_after : {a b c : MachineView} {n m k : ℕ} {x y z : Remainder} {r : Step} → Passed a n x b m y → StepsOn b m y r c k z → StepsOn a n x r c k z
 steps_after {a} {b} {c} {n} {m} {k} {x} {y} {z} {r} i e = record {
   goes = λ w h. advance_then a.looked b.looked c.looked n m k (x.trace w) (y.trace w) (z.trace w) r (i.goes w h) (e.goes w (i.looks.world ∙ h));
-  cause = subst (λ f. HasCause f c.faults r) i.steady e.cause;
+  cause = subst (λ f. CountsIf (has_failed r) f c.faults) i.steady e.cause;
   as_room = e.as_room;
   within = omega (arith, e.within, i.within);
   falls = λ q. falls_then r x.most y.most z.most (i.nearer (omega (arith, q, e.within, i.within))) (e.falls (omega (arith, q, e.within, i.within)));
@@ -74,7 +75,7 @@ steps_once {a} {b} {n} {x} {y} {r} h = record {
   looks = h.looks;
 }
 
-told_cause : (r : Step) (count : ℕ) → IsTold r → HasCause count count r
+told_cause : (r : Step) (count : ℕ) → IsTold r → CountsIf (has_failed r) count count
 told_cause step.Quiet count t = absurd t
 told_cause (step.Looked p) count t = absurd t
 told_cause (step.Turned p) count t = absurd t
@@ -103,11 +104,11 @@ steps_told a n x y r goes told falls = steps_once (record {
 -- the step of a part becomes one of the form around it
 pub steps_by : {a b : MachineView} {n m : ℕ} {x y x' y' : Remainder} {s r : Step} → StepsOn a n x s b m y →
     ((w : WorldState) → Advances a.looked n (x.trace w) s b.looked m (y.trace w) → Advances a.looked n (x'.trace w) r b.looked m (y'.trace w)) →
-    ((i j : ℕ) → HasCause i j s → HasCause i j r) → ((room : Bool) → AsRoom room s → AsRoom room r) → (Falls s x.most y.most → Falls r x'.most y'.most) →
+    has_failed r ≡ has_failed s → ((room : Bool) → AsRoom room s → AsRoom room r) → (Falls s x.most y.most → Falls r x'.most y'.most) →
     StepsOn a n x' r b m y'
-steps_by {a} {b} {n} {m} {x} {y} {x'} {y'} {s} {r} h goes cause room falls = record {
+steps_by {a} {b} {n} {m} {x} {y} {x'} {y'} {s} {r} h goes failed room falls = record {
   goes = λ w e. goes w (h.goes w e);
-  cause = cause a.faults b.faults h.cause;
+  cause = subst (λ c. CountsIf c a.faults b.faults) (sym failed) h.cause;
   as_room = room (has_room m) h.as_room;
   within = h.within;
   falls = λ e. falls (h.falls e);

@@ -89,9 +89,9 @@ abbrev pub infix_core : BinarySign → Place → Core → Core → Core
 infix_core sign.Bar p c d = two_core bar_kind c d
 infix_core g p c d = two_core left_kind c (sign_arrow g p d)
 
--- what a later part of a tuple makes of what stands to its left, whose last part has this span
-abbrev pub later_arrow : Joining → Place → Core → Core
-later_arrow j p d = two_core (turned_kind p) left_core (one_core (tuple_kind j p) d)
+-- the tuples of what stands before a comma and of what stands behind it, after a turn at the span of the part before
+abbrev pub comma_core : Joining → Place → Core → Core → Core
+comma_core j p c d = two_core (turned_kind p) c (one_core (tuple_kind j p) d)
 
 abbrev pub is_there : HeldNode → Bool
 is_there no_node = false
@@ -142,7 +142,7 @@ abbrev mutual
 
   pub behind_core : Nodes → Core → Core
   behind_core no_nodes last = last
-  behind_core (more_nodes ns n) last = two_core left_kind (behind_core ns (core_of n)) (later_arrow (joining ns) (span_of_node n) last)
+  behind_core (more_nodes ns n) last = comma_core (joining ns) (span_of_node n) (behind_core ns (core_of n)) last
 
   pub collected_core : Nodes → Core
   collected_core no_nodes = nothing_core

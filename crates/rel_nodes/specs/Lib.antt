@@ -6,5 +6,6 @@ pub mod SoundWalks
 pub mod Nodes
 pub mod HeldParts
 pub mod Runs
+pub mod Tuples
 pub mod Measure
 pub mod Remainders

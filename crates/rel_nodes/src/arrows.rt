@@ -1,6 +1,6 @@
 // What is made of the value to the left.
 ghost use Rattle.std.specs.Prelude.{◌≡◌, IfOk};
-ghost use Rattle.rel_nodes.specs.Core.{Alike, cast_arrow, casted_core, infix_core, later_arrow, left_core, sign_arrow};
+ghost use Rattle.rel_nodes.specs.Core.{Alike, cast_arrow, casted_core, infix_core, left_core, sign_arrow};
 ghost use Rattle.rel_nodes.specs.Nodes.{boxed_shape};
 ghost use Rattle.rel_nodes.specs.Runs.{run_core};
 
@@ -8,7 +8,7 @@ use crate::make::{pure, with_one, with_two};
 use crate::runs::{Joint, Run};
 use crate::{Node, Pure};
 use rel_lexer::{BinarySign, Place};
-use rel_trace::{Joining, Logic, One, Two};
+use rel_trace::{Logic, One, Two};
 use rel_types::{CastStep, CastSteps};
 use std::alloc::{AllocError, Global};
 
@@ -73,17 +73,4 @@ pub(crate) fn linked(
             run.with(alloc, Joint::Left, arrow)
         }
     }
-}
-
-/// A later part of a tuple. The part before it has this span.
-pub(crate) fn later_arrow(
-    alloc: Global,
-    joining: Joining,
-    before: Place,
-    part: Box<Node>,
-) -> Result<Box<Node>, AllocError>
-    ensures { IfOk result (λ n. boxed_shape n ≡ later_arrow joining before (boxed_shape part)) }
-{
-    let tuple = with_one(alloc, part, One::tuple(joining, before))?;
-    with_two(alloc, left(alloc)?, tuple, Two::turned(before))
 }

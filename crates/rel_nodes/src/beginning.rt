@@ -6,13 +6,14 @@ ghost use Rattle.rel_nodes.specs.Core.{Alike, chained_core, collected_core, cons
 ghost use Rattle.rel_nodes.specs.Nodes.{boxed_shape, shape};
 ghost use Rattle.rel_nodes.specs.HeldParts.{AlikeHeld, part_shape};
 
-use crate::arrows::{casted, later_arrow, linked};
+use crate::arrows::{casted, linked};
 use crate::held_parts::{argued, filtered, headed, over};
 use crate::make::{on_heap, prefix, pure, singly, with_choice, with_one};
 use crate::runs::{Joint, Run};
+use crate::tuples::{Section, tuple_of};
 use crate::{Node, Pure, span};
 use rel_lexer::Text;
-use rel_trace::{Held, Joining};
+use rel_trace::Held;
 use rel_types::{Form, Links, NodeList};
 use rel_value::{Kind, Value};
 use std::alloc::{AllocError, Global};
@@ -139,26 +140,20 @@ fn chained(alloc: Global, links: &Links, first: Box<Node>) -> Result<Box<Node>, 
     run.whole(alloc)
 }
 
-/// The tuples of some parts: each part joins those before it.
+/// The tuples of some parts.
 #[cycle(begun)]
 fn tupled(alloc: Global, parts: &NodeList) -> Result<Box<Node>, AllocError>
     ensures { IfOk result (λ n. Alike (boxed_shape n) (tuple_core (shown_nodes parts.now))) }
 {
-    let [first, rest @ ..] = parts.as_slice() else {
-        return on_heap(alloc, Node::Nothing);
-    };
-    let start = begun(alloc, first)?;
-    let mut run = Run::new(alloc, Joint::Left, start);
-    let mut joining = Joining::Pair;
-    let mut before = span(first);
-    for part in rest {
-        let next = begun(alloc, part)?;
-        let arrow = later_arrow(alloc, joining, before, next)?;
-        run = run.with(alloc, Joint::Left, arrow)?;
-        joining = Joining::Push;
-        before = span(part);
+    let mut sections = Vec::new(alloc);
+    for part in parts.as_slice() {
+        let node = begun(alloc, part)?;
+        sections.push(Section {
+            node,
+            last: span(part),
+        })?;
     }
-    run.whole(alloc)
+    tuple_of(alloc, sections)
 }
 
 /// Some parts one after another.

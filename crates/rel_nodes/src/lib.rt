@@ -12,6 +12,7 @@ mod property;
 mod pure;
 mod runs;
 mod spans;
+mod tuples;
 mod walking;
 
 pub use beginning::begin;

@@ -1,7 +1,5 @@
 ghost use Rattle.std.specs.Prelude.{◌≡◌, ◌≤◌, ℕ, false, true};
 ghost use Rattle.bf_world.specs.Worlds.{WorldState};
-ghost use Rattle.desk_base.specs.Moments.{IsMoment};
-ghost use Rattle.line_forms.specs.Numbers.{IsOffset};
 ghost use Rattle.rel_sources.specs.declared.scene.Scene.{Scene};
 ghost use Rattle.rel_trace.specs.Ones.{one_kind};
 ghost use Rattle.rel_trace.specs.Scopes.{Around, seen};
@@ -100,9 +98,29 @@ impl Node {
         machine: &mut M,
         budget: &mut u64,
     ) -> Step
-        requires moment { IsMoment scene.now.moment }
-        requires offset { IsOffset scene.now.offset }
         ensures stop { IsStop budget.new result }
+        ensures shape { shape self.new ≡ shape self.old }
+        ensures steps { StepsOn (M.told machine.old) budget.old (of_node scene.now self.old (seen scope.now))
+            result (M.told machine.new) budget.new (of_node scene.now self.new (seen scope.now)) }
+    {
+        loop {
+            let step = self.event(alloc, scope, scene, machine, budget);
+            if !pass_over(&step, budget) {
+                return step;
+            }
+        }
+    }
+
+    /// One event of the form itself, or none, behind the looks and turns of its parts.
+    #[cycle(step)]
+    fn event<M: Machine>(
+        &mut self,
+        alloc: Global,
+        scope: &Scope<'_>,
+        scene: &Scene,
+        machine: &mut M,
+        budget: &mut u64,
+    ) -> Step
         ensures shape { shape self.new ≡ shape self.old }
         ensures steps { StepsOn (M.told machine.old) budget.old (of_node scene.now self.old (seen scope.now))
             result (M.told machine.new) budget.new (of_node scene.now self.new (seen scope.now)) }
@@ -110,55 +128,28 @@ impl Node {
         match self {
             Node::Nothing => Step::Over,
             Node::Pure { pure, given } => pure.tell_once(given, alloc, scope, scene),
-            Node::Property(property) => property.step(alloc, scope, scene, machine, budget),
+            Node::Property(property) => property.go_on(alloc, scope, scene, machine, *budget > 0),
             Node::WithOne { part, state } => {
-                step_one(part, state, alloc, scope, scene, machine, budget)
+                go_on_one(part, state, alloc, scope, scene, machine, budget)
             }
             Node::WithTwo {
                 first,
                 second,
                 state,
-            } => step_two(first, second, state, alloc, scope, scene, machine, budget),
+            } => go_on_two(first, second, state, alloc, scope, scene, machine, budget),
             Node::WithChoice {
                 test,
                 yes,
                 no,
                 state,
-            } => step_choice(test, yes, no, state, alloc, scope, scene, machine, budget),
-        }
-    }
-}
-
-/// Goes on to the next value, the end or an error of a form with one part, as `Node::step` does.
-#[cycle(step)]
-#[inline(never)]
-fn step_one<M: Machine>(
-    part: &mut Node,
-    state: &mut One,
-    alloc: Global,
-    scope: &Scope<'_>,
-    scene: &Scene,
-    machine: &mut M,
-    budget: &mut u64,
-) -> Step
-    requires moment { IsMoment scene.now.moment }
-    requires offset { IsOffset scene.now.offset }
-    ensures stop { IsStop budget.new result }
-    ensures part { shape part.new ≡ shape part.old }
-    ensures kind { one_kind state.new ≡ one_kind state.old }
-    ensures steps { StepsOn (M.told machine.old) budget.old (of_one scene.now part.old state.old (seen scope.now))
-        result (M.told machine.new) budget.new (of_one scene.now part.new state.new (seen scope.now)) }
-{
-    loop {
-        let step = go_on_one(part, state, alloc, scope, scene, machine, budget);
-        if !pass_over(&step, budget) {
-            return step;
+            } => go_on_choice(test, yes, no, state, alloc, scope, scene, machine, budget),
         }
     }
 }
 
 /// One event of a form with one part, or none, behind the looks and turns of the part.
 #[cycle(step)]
+#[inline(never)]
 fn go_on_one<M: Machine>(
     part: &mut Node,
     state: &mut One,
@@ -168,8 +159,6 @@ fn go_on_one<M: Machine>(
     machine: &mut M,
     budget: &mut u64,
 ) -> Step
-    requires moment { IsMoment scene.now.moment }
-    requires offset { IsOffset scene.now.offset }
     ensures part { shape part.new ≡ shape part.old }
     ensures kind { one_kind state.new ≡ one_kind state.old }
     ensures steps { StepsOn (M.told machine.old) budget.old (of_one scene.now part.old state.old (seen scope.now))
@@ -182,38 +171,9 @@ fn go_on_one<M: Machine>(
     state.after(alloc, step, *scope, scene.offset)
 }
 
-/// Goes on to the next value, the end or an error of a form with two parts, as `Node::step` does.
-#[cycle(step)]
-#[inline(never)]
-fn step_two<M: Machine>(
-    first: &mut Node,
-    second: &mut Node,
-    state: &mut Two,
-    alloc: Global,
-    scope: &Scope<'_>,
-    scene: &Scene,
-    machine: &mut M,
-    budget: &mut u64,
-) -> Step
-    requires moment { IsMoment scene.now.moment }
-    requires offset { IsOffset scene.now.offset }
-    ensures stop { IsStop budget.new result }
-    ensures first { shape first.new ≡ shape first.old }
-    ensures second { shape second.new ≡ shape second.old }
-    ensures kind { two_kind state.new ≡ two_kind state.old }
-    ensures steps { StepsOn (M.told machine.old) budget.old (of_two scene.now first.old second.old state.old (seen scope.now))
-        result (M.told machine.new) budget.new (of_two scene.now first.new second.new state.new (seen scope.now)) }
-{
-    loop {
-        let step = go_on_two(first, second, state, alloc, scope, scene, machine, budget);
-        if !pass_over(&step, budget) {
-            return step;
-        }
-    }
-}
-
 /// One event of a form with two parts, or none, behind the looks and turns of the parts.
 #[cycle(step)]
+#[inline(never)]
 fn go_on_two<M: Machine>(
     first: &mut Node,
     second: &mut Node,
@@ -224,8 +184,6 @@ fn go_on_two<M: Machine>(
     machine: &mut M,
     budget: &mut u64,
 ) -> Step
-    requires moment { IsMoment scene.now.moment }
-    requires offset { IsOffset scene.now.offset }
     ensures first { shape first.new ≡ shape first.old }
     ensures second { shape second.new ≡ shape second.old }
     ensures kind { two_kind state.new ≡ two_kind state.old }
@@ -250,7 +208,7 @@ fn go_on_two<M: Machine>(
     next.step
 }
 
-/// Gives up what was handed to a second part that has nothing left: a long tuple would keep all its beginnings otherwise.
+/// Gives up what was handed to a second part that has nothing left: a long tuple would keep all its first halves otherwise.
 fn release(second: &Node, state: &mut Two)
     ensures kind { two_kind state.new ≡ two_kind state.old }
     ensures rest { (w : WorldState) (s : Scene) (t : Trace) (f : Around → Trace) (a : Around)
@@ -262,40 +220,9 @@ fn release(second: &Node, state: &mut Two)
     }
 }
 
-/// Goes on to the next value, the end or an error of a form with a test and two branches, as `Node::step` does.
-#[cycle(step)]
-#[inline(never)]
-fn step_choice<M: Machine>(
-    test: &mut Node,
-    yes: &mut Node,
-    no: &mut Node,
-    state: &mut Choice,
-    alloc: Global,
-    scope: &Scope<'_>,
-    scene: &Scene,
-    machine: &mut M,
-    budget: &mut u64,
-) -> Step
-    requires moment { IsMoment scene.now.moment }
-    requires offset { IsOffset scene.now.offset }
-    ensures stop { IsStop budget.new result }
-    ensures test { shape test.new ≡ shape test.old }
-    ensures yes { shape yes.new ≡ shape yes.old }
-    ensures no { shape no.new ≡ shape no.old }
-    ensures steps { StepsOn
-        (M.told machine.old) budget.old (of_choice scene.now test.old yes.old no.old state.old (seen scope.now))
-        result (M.told machine.new) budget.new (of_choice scene.now test.new yes.new no.new state.new (seen scope.now)) }
-{
-    loop {
-        let step = go_on_choice(test, yes, no, state, alloc, scope, scene, machine, budget);
-        if !pass_over(&step, budget) {
-            return step;
-        }
-    }
-}
-
 /// One event of a form with a test and two branches, or none, behind the looks and turns of the parts.
 #[cycle(step)]
+#[inline(never)]
 fn go_on_choice<M: Machine>(
     test: &mut Node,
     yes: &mut Node,
@@ -307,8 +234,6 @@ fn go_on_choice<M: Machine>(
     machine: &mut M,
     budget: &mut u64,
 ) -> Step
-    requires moment { IsMoment scene.now.moment }
-    requires offset { IsOffset scene.now.offset }
     ensures test { shape test.new ≡ shape test.old }
     ensures yes { shape yes.new ≡ shape yes.old }
     ensures no { shape no.new ≡ shape no.old }

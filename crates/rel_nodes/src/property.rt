@@ -1,5 +1,4 @@
 ghost use Rattle.std.specs.Prelude.{◌≡◌, Bool, Option, None, Some};
-ghost use Rattle.desk_base.specs.Moments.{IsMoment};
 ghost use Rattle.bf_machine.specs.Views.{MachineView};
 ghost use Rattle.rel_sources.specs.declared.scene.Scene.{Scene};
 ghost use Rattle.rel_inspect.specs.Facets.{IsSoundOffer, offered};
@@ -7,10 +6,9 @@ ghost use Rattle.rel_trace.specs.Scopes.{lent, seen};
 ghost use Rattle.rel_nodes.specs.Core.{asked_for};
 ghost use Rattle.rel_nodes.specs.Nodes.{row_core};
 ghost use Rattle.rel_nodes.specs.Remainders.{of_property};
-ghost use Rattle.rel_nodes.specs.Steps.{IsStop, StepsOn, WentOn};
+ghost use Rattle.rel_nodes.specs.Steps.{WentOn};
 
 use crate::Walking;
-use crate::counting::pass_over;
 use bf_machine::Machine;
 use rel_inspect::{Scene, inspect};
 use rel_lexer::Place;
@@ -42,32 +40,9 @@ impl Property {
         put(&mut self.walk, None);
     }
 
-    /// Goes on to the next value, the end or an error, as a node does.
+    /// One event, or none. A look is made where there is room for it.
     #[inline(never)]
-    pub(crate) fn step<M: Machine>(
-        &mut self,
-        alloc: Global,
-        scope: &Scope<'_>,
-        scene: &Scene,
-        machine: &mut M,
-        budget: &mut u64,
-    ) -> Step
-        requires { IsMoment scene.now.moment }
-        ensures stop { IsStop budget.new result }
-        ensures row { row_core self.new ≡ row_core self.old }
-        ensures steps { StepsOn (M.told machine.old) budget.old (of_property scene.now self.old (seen scope.now))
-            result (M.told machine.new) budget.new (of_property scene.now self.new (seen scope.now)) }
-    {
-        loop {
-            let step = self.go_on(alloc, scope, scene, machine, *budget > 0);
-            if !pass_over(&step, budget) {
-                return step;
-            }
-        }
-    }
-
-    /// One event, or none.
-    fn go_on<M: Machine>(
+    pub(crate) fn go_on<M: Machine>(
         &mut self,
         alloc: Global,
         scope: &Scope<'_>,
@@ -75,7 +50,6 @@ impl Property {
         machine: &mut M,
         room: bool,
     ) -> Step
-        requires moment { IsMoment scene.now.moment }
         ensures row { row_core self.new ≡ row_core self.old }
         ensures steps { WentOn room (M.told machine.old) (of_property scene.now self.old (seen scope.now))
             result (M.told machine.new) (of_property scene.now self.new (seen scope.now)) }

@@ -1,7 +1,6 @@
 ghost use Rattle.std.specs.Prelude.{◌≡◌, IfSome, List, Some};
 ghost use Rattle.bf_world.specs.declared.key.Key.{Key};
 ghost use Rattle.bf_world.specs.Worlds.{WorldState};
-ghost use Rattle.line_forms.specs.Numbers.{IsOffset};
 ghost use Rattle.rel_sources.specs.declared.scene.Scene.{Scene};
 ghost use Rattle.rel_trace.specs.Ones.{apply_kind, single_kind, unless, zero_if};
 ghost use Rattle.rel_trace.specs.Scalars.{plain};
@@ -44,7 +43,6 @@ impl Pure {
         scope: &Scope<'_>,
         scene: &Scene,
     ) -> Step
-        requires { IsOffset scene.now.offset }
         ensures goes { (w : WorldState) (l : List Key)
             → Goes l (unless is_given.old (core w scene.now (pure_shape self.now) (seen scope.now)))
             result l (unless is_given.new (core w scene.now (pure_shape self.now) (seen scope.now))) }
@@ -86,7 +84,6 @@ impl Pure {
     /// Its one value, its error, or that it gives none.
     #[cycle(tell)]
     fn tell(&self, alloc: Global, scope: &Scope<'_>, scene: &Scene) -> Step
-        requires { IsOffset scene.now.offset }
         ensures goes { (w : WorldState) (l : List Key)
             → Goes l (core w scene.now (pure_shape self.now) (seen scope.now)) result l none }
         ensures told { IsTold result }
@@ -119,7 +116,6 @@ impl Pure {
 #[cycle(tell)]
 #[inline(never)]
 fn applied(part: &Pure, apply: Apply, alloc: Global, scope: &Scope<'_>, scene: &Scene) -> Step
-    requires { IsOffset scene.now.offset }
     ensures goes { (w : WorldState) (l : List Key)
         → Goes l (core w scene.now (one_core (apply_kind apply) (pure_shape part.now)) (seen scope.now)) result l none }
     ensures told { IsTold result }
@@ -138,7 +134,6 @@ fn applied(part: &Pure, apply: Apply, alloc: Global, scope: &Scope<'_>, scene: &
 #[cycle(tell)]
 #[inline(never)]
 fn single(part: &Pure, place: Place, alloc: Global, scope: &Scope<'_>, scene: &Scene) -> Step
-    requires { IsOffset scene.now.offset }
     ensures goes { (w : WorldState) (l : List Key)
         → Goes l (core w scene.now (one_core (single_kind place) (pure_shape part.now)) (seen scope.now)) result l none }
     ensures told { IsTold result }
@@ -153,7 +148,6 @@ fn single(part: &Pure, place: Place, alloc: Global, scope: &Scope<'_>, scene: &S
 #[cycle(tell)]
 #[inline(never)]
 fn joined(first: &Pure, second: &Pure, alloc: Global, scope: &Scope<'_>, scene: &Scene) -> Step
-    requires { IsOffset scene.now.offset }
     ensures goes { (w : WorldState) (l : List Key)
         → Goes l (core w scene.now (two_core left_kind (pure_shape first.now) (pure_shape second.now)) (seen scope.now))
         result l none }

@@ -1,10 +1,9 @@
 ghost use Rattle.std.specs.Prelude.{◌≡◌, ℕ, Bool, List, Option};
 ghost use Rattle.bf_world.specs.declared.key.Key.{Key};
-ghost use Rattle.desk_base.specs.Moments.{IsMoment};
 ghost use Rattle.rel_inspect.specs.Left.{IsSoundWalk};
 ghost use Rattle.rel_sources.specs.Steps as walks;
 ghost use Rattle.rel_sources.specs.Traces as walk_traces;
-ghost use Rattle.rel_trace.specs.Steps.{AsRoom, Falls, HasCause};
+ghost use Rattle.rel_trace.specs.Steps.{AsRoom, Falls, has_failed};
 ghost use Rattle.rel_nodes.specs.Meaning.{placed};
 ghost use Rattle.rel_nodes.specs.SoundWalks.{walk-prop};
 ghost use Rattle.rel_nodes.specs.Steps.{Went, WentOn, of_walk};
@@ -37,7 +36,6 @@ impl Walking {
         machine: &mut M,
         room: bool,
     ) -> Step
-        requires moment { IsMoment scene.now.moment }
         ensures { WentOn room (M.told machine.old) (of_walk scene.now head self.old.walk)
             result (M.told machine.new) (of_walk scene.now head self.new.walk) }
     {
@@ -51,7 +49,7 @@ fn placed(event: WalkEvent, head: Place) -> Step
     requires { walks.GivesSound event }
     ensures goes { (l l' : Option (List Key)) (t t' : walk_traces.Trace) → walks.Goes l t event l' t'
         → Went l (placed head t) result l' (placed head t') }
-    ensures cause { (a b : ℕ) → walks.HasCause a b event → HasCause a b result }
+    ensures failed { has_failed result ≡ walks.has_failed event }
     ensures room { (r : Bool) → walks.AsRoom r event → AsRoom r result }
     ensures falls { (q q' : ℕ) → walks.Falls event q q' → Falls result q q' }
 {

@@ -1,5 +1,5 @@
 -- What follows a row's result, and how a step of a part goes through it.
-use Rattle.std.proofs.Common.{◌≡◌, ℕ, List, refl, sym, subst}
+use Rattle.std.proofs.Common.{◌≡◌, false, List, refl, sym, ap, subst, ◌∙◌}
 use Rattle.rel_lexer.specs.declared.place.Place.{Place}
 use Rattle.bf_world.specs.declared.key.Key.{Key}
 use Rattle.rel_value.specs.Plain.{Plain}
@@ -7,7 +7,7 @@ use Rattle.rel_value.specs.Outcomes.{Outcome, gives, fails, no_row}
 use Rattle.rel_trace.specs.declared.step.Step.{Step}
 use Rattle.rel_trace.specs.declared.step.Step.TheVariants.{Given}
 use Rattle.rel_trace.specs.Trace.{Give, Trace, After, follow, each, result_at}
-use Rattle.rel_trace.specs.Steps.{Goes, HasCause}
+use Rattle.rel_trace.specs.Steps.{Goes, has_failed}
 
 pub result-follow : (p : Place) (o : Outcome) (t u : Trace) → follow (follow (result_at p o) t) u ≡ follow (result_at p o) (follow t u)
 result-follow p (gives v) t u = refl
@@ -26,8 +26,6 @@ applied-goes p g v l l' t t' r h k =
     subst (λ (x : Trace). Goes l (each x f) r l' (each t' f)) (sym k.0)
     (subst (λ (m : List Key). Goes l (each (After (Give v) t') f) r m (each t' f)) (sym k.1) (h l (each t' f)))
 
--- what is made of a value leaves the count as it was
-pub given-cause : (x : Step) (v : Plain) (r : Step) → x ≡ Given v → ((count : ℕ) → HasCause count count r) → (a b : ℕ) → HasCause a b x → HasCause a b r
-given-cause x v r e h a b k =
-    let same : b ≡ a = subst (HasCause a b) e k in
-    subst (λ m. HasCause a m r) (sym same) (h a)
+-- what is made of a value is no look that failed
+pub given-failed : (x : Step) (v : Plain) (r : Step) → x ≡ Given v → has_failed r ≡ false → has_failed r ≡ has_failed x
+given-failed x v r e h = h ∙ sym (ap has_failed e)

@@ -4,3 +4,4 @@ pub mod Follows
 pub mod Measures
 pub mod Folds
 pub mod Hands
+pub mod Tuples

@@ -3,12 +3,12 @@ use Rattle.std.specs.Prelude.{Bool, not, if◌then◌else◌, Option, None, Some
 use Rattle.rel_lexer.specs.declared.place.Place.{Place}
 use Rattle.rel_lexer.specs.declared.operator.BinarySign.{BinarySign}
 use Rattle.rel_value.specs.Outcomes.{Outcome, gives, no_row}
-use Rattle.rel_value.specs.Plain.{Plain, boolean, tuple, no_parts, more_parts}
+use Rattle.rel_value.specs.Plain.{Plain, boolean, tuple, Parts, no_parts, more_parts}
 use Rattle.rel_value.specs.Signs.{op}
 use Rattle.rel_trace.specs.declared.logic.Logic.{Logic}
 use Rattle.rel_trace.specs.declared.logic.Logic.TheVariants.{And, Or}
 use Rattle.rel_trace.specs.declared.joining.Joining.{Joining}
-use Rattle.rel_trace.specs.declared.joining.Joining.TheVariants.{Pair, Push}
+use Rattle.rel_trace.specs.declared.joining.Joining.TheVariants.{Pair, Push, Append}
 use Rattle.rel_trace.specs.Kinds.{is_caught}
 use Rattle.rel_trace.specs.Trace.{Stop, Error, Trace, Ends, After, one, each, turned, result_at, is_true}
 
@@ -40,11 +40,23 @@ barred (After e t) u = After e (barred t u)
 abbrev pub chosen : Trace → Trace → Plain → Trace
 chosen t u x = if is_true x then t else u
 
--- two values as a tuple, or a tuple with a value at its end
+-- some parts and then others
+abbrev pub parts_then : Parts → Parts → Parts
+parts_then ps no_parts = ps
+parts_then ps (more_parts qs v) = more_parts (parts_then ps qs) v
+
+-- some parts and then those of a tuple
+abbrev pub appended : Parts → Plain → Outcome
+appended ps (tuple qs) = gives (tuple (parts_then ps qs))
+appended ps _ = no_row
+
+-- two values as a tuple, a tuple with a value at its end, or the parts of two tuples as one
 abbrev pub tied : Joining → Plain → Plain → Outcome
 tied Pair x y = gives (tuple (more_parts (more_parts no_parts x) y))
 tied Push (tuple ps) y = gives (tuple (more_parts ps y))
 tied Push _ y = no_row
+tied Append (tuple ps) y = appended ps y
+tied Append _ y = no_row
 
 -- the same of the left value in scope; where there is none, nothing
 abbrev pub tied_left : Joining → Option Plain → Plain → Outcome

@@ -1,6 +1,5 @@
 -- One step of what gives a trace.
 use Rattle.std.specs.Prelude.{◌≡◌, ℕ, ◌<◌, List, [], ◌∷◌, ◌++◌, Bool, true, false}
-use Rattle.desk_base.specs.Counts.{Rose}
 use Rattle.rel_lexer.specs.declared.place.Place.{Place}
 use Rattle.bf_world.specs.declared.key.Key.{Key}
 use Rattle.rel_trace.specs.declared.step.Step.{Step}
@@ -23,10 +22,10 @@ Goes l t (Full p) l' t' = LooksAt p t × (t ≡ t') × (l' ≡ l)
 Goes l t (Failed p) l' t' = LooksAt p t × (t ≡ t') × (l' ≡ l)
 Goes l t Memory l' t' = l' ≡ l
 
--- A look fails only where the count of faults went up, and else the count stays.
-abbrev pub HasCause : ℕ → ℕ → Step → Type 0
-HasCause old new (Failed p) = Rose old new
-HasCause old new _ = new ≡ old
+-- a look failed
+abbrev pub has_failed : Step → Bool
+has_failed (Failed p) = true
+has_failed _ = false
 
 -- a look is made, or fails, only where there is room for one more event, and only there it isn't told that there is none
 abbrev pub AsRoom : Bool → Step → Type 0

@@ -3,7 +3,7 @@ ghost use Rattle.bf_world.specs.declared.key.Key.{Key};
 ghost use Rattle.line_forms.specs.Numbers.{IsOffset};
 ghost use Rattle.rel_value.specs.Plain.{Plain};
 ghost use Rattle.rel_trace.specs.Trace.{Trace, each, none, one};
-ghost use Rattle.rel_trace.specs.Steps.{AsRoom, Falls, Goes, HasCause, IsTold};
+ghost use Rattle.rel_trace.specs.Steps.{AsRoom, Falls, Goes, has_failed, IsTold};
 ghost use Rattle.rel_trace.specs.Ones.{applied, apply_place, made};
 ghost use Rattle.rel_trace.specs.Scalars.{plain, scalar_made};
 ghost use Rattle.rel_trace.specs.Scopes.{lent};
@@ -63,7 +63,7 @@ impl Apply {
         ensures goes { (l l' : List Key) (t t' : Trace) → Goes l t step l' t'
             → Goes l (each t (applied self offset (lent left.entry)))
             result l' (each t' (applied self offset (lent left.entry))) }
-        ensures cause { (a b : ℕ) → HasCause a b step → HasCause a b result }
+        ensures failed { has_failed result ≡ has_failed step }
         ensures room { (r : Bool) → AsRoom r step → AsRoom r result }
         ensures falls { (q q' : ℕ) → Falls step q q' → Falls result q q' }
     {

@@ -2,7 +2,7 @@ ghost use Rattle.std.specs.Prelude.{◌≡◌, ℕ, List, Bool, true, false, not
 ghost use Rattle.bf_world.specs.declared.key.Key.{Key};
 ghost use Rattle.rel_trace.specs.Trace.{Trace};
 ghost use Rattle.rel_trace.specs.declared.step.Step.TheVariants.{Memory};
-ghost use Rattle.rel_trace.specs.Steps.{Goes, HasCause, AsRoom, Falls};
+ghost use Rattle.rel_trace.specs.Steps.{Goes, has_failed, AsRoom, Falls};
 ghost use Rattle.rel_trace.specs.Scopes.{Around};
 ghost use Rattle.rel_trace.specs.Choices.{branch_left, branch_quiet, choice_left, choice_quiet, choice_whole, is_test};
 ghost use Rattle.rel_trace.specs.Twos.{begun, begun_quiet};
@@ -38,7 +38,7 @@ impl Choice {
         ensures goes { (l l' : List Key) (t t' : Trace) (b c f g : Around → Trace) (s : Around) → Goes l t step l' t'
             → Goes l (choice_left self.old t b c f g s)
             result.step l' (choice_left self.new t' (begun result.begins b f) (begun result.begins c g) f g s) }
-        ensures cause { (a b : ℕ) → HasCause a b step → HasCause a b result.step }
+        ensures failed { has_failed result.step ≡ has_failed step }
         ensures room { (r : Bool) → AsRoom r step → AsRoom r result.step }
         ensures begins { result.begins ≡ not (is_test self.new) }
         ensures memory { result.step ≡ Memory → step ≡ Memory }
@@ -68,7 +68,7 @@ impl Choice {
         ensures goes { (l l' : List Key) (a : Trace) (b c b' c' f g : Around → Trace) (s : Around)
             → Goes l (branch_left self.old b c s) step l' (branch_left self.old b' c' s)
             → Goes l (choice_left self.old a b c f g s) result l' (choice_left self.new a b' c' f g s) }
-        ensures cause { (a b : ℕ) → HasCause a b step → HasCause a b result }
+        ensures failed { has_failed result ≡ has_failed step }
         ensures room { (r : Bool) → AsRoom r step → AsRoom r result }
         ensures memory { result ≡ Memory → step ≡ Memory }
         ensures falls { (q r w r' w' c d : ℕ) → Falls step (branch_quiet self.old r w) (branch_quiet self.old r' w')

@@ -1,7 +1,7 @@
 ghost use Rattle.std.specs.Prelude.{◌≡◌, ℕ, ◌+◌, ℤ, List, Bool, false};
 ghost use Rattle.bf_world.specs.declared.key.Key.{Key};
 ghost use Rattle.rel_trace.specs.Trace.{Trace};
-ghost use Rattle.rel_trace.specs.Steps.{Goes, HasCause, AsRoom, Falls};
+ghost use Rattle.rel_trace.specs.Steps.{Goes, has_failed, AsRoom, Falls};
 ghost use Rattle.rel_trace.specs.Ones.{draw_done, draw_kind, draw_left, one_whole, zero_if};
 ghost use Rattle.rel_trace.specs.Scopes.{Around};
 
@@ -54,7 +54,7 @@ impl Draw {
         ensures kind { draw_kind self.new ≡ draw_kind self.old }
         ensures goes { (l l' : List Key) (t t' : Trace) → Goes l t step l' t'
             → Goes l (draw_left self.old t) result l' (draw_left self.new t') }
-        ensures cause { (a b : ℕ) → HasCause a b step → HasCause a b result }
+        ensures failed { has_failed result ≡ has_failed step }
         ensures room { (r : Bool) → AsRoom r step → AsRoom r result }
         ensures falls { (q q' : ℕ) → Falls step q q'
             → Falls result (zero_if (draw_done self.old) (q + 1)) (zero_if (draw_done self.new) (q' + 1)) }

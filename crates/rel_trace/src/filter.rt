@@ -2,7 +2,7 @@ ghost use Rattle.std.specs.Prelude.{◌≡◌, ℕ, List, Bool, true, false, Non
 ghost use Rattle.bf_world.specs.declared.key.Key.{Key};
 ghost use Rattle.rel_trace.specs.Trace.{Trace};
 ghost use Rattle.rel_trace.specs.declared.step.Step.TheVariants.{Memory};
-ghost use Rattle.rel_trace.specs.Steps.{Goes, HasCause, AsRoom, Falls};
+ghost use Rattle.rel_trace.specs.Steps.{Goes, has_failed, AsRoom, Falls};
 ghost use Rattle.rel_trace.specs.Scopes.{Around, seen};
 ghost use Rattle.rel_trace.specs.Twos.{begun, begun_quiet, filter_kind, filter_rest, filter_on, filter_quiet, two_whole, with_tested};
 
@@ -64,7 +64,7 @@ impl Filter {
         ensures kind { filter_kind self.new ≡ filter_kind self.old }
         ensures goes { (l l' : List Key) (t t' : Trace) (b f : Around → Trace) (s : Around) → Goes l t step l' t'
             → Goes l (filter_rest self.old t b f s) result.step l' (filter_rest self.new t' (begun result.begins b f) f s) }
-        ensures cause { (a b : ℕ) → HasCause a b step → HasCause a b result.step }
+        ensures failed { has_failed result.step ≡ has_failed step }
         ensures room { (r : Bool) → AsRoom r step → AsRoom r result.step }
         ensures begins { result.begins ≡ filter_on self.new }
         ensures memory { result.step ≡ Memory → step ≡ Memory }
@@ -89,7 +89,7 @@ impl Filter {
         ensures goes { (l l' : List Key) (a : Trace) (b b' f : Around → Trace) (s : Around)
             → Goes l (b (with_tested self.old.held s)) step l' (b' (with_tested self.old.held s))
             → Goes l (filter_rest self.old a b f s) result l' (filter_rest self.new a b' f s) }
-        ensures cause { (a b : ℕ) → HasCause a b step → HasCause a b result }
+        ensures failed { has_failed result ≡ has_failed step }
         ensures room { (r : Bool) → AsRoom r step → AsRoom r result }
         ensures memory { result ≡ Memory → step ≡ Memory }
         ensures falls { (q r r' c : ℕ) → Falls step r r'

@@ -3,7 +3,7 @@ ghost use Rattle.bf_world.specs.declared.key.Key.{Key};
 ghost use Rattle.rel_value.specs.Outcomes.{Outcome};
 ghost use Rattle.rel_value.specs.Plain.{Plain};
 ghost use Rattle.rel_trace.specs.Trace.{Trace};
-ghost use Rattle.rel_trace.specs.Steps.{Goes, HasCause, AsRoom, Falls};
+ghost use Rattle.rel_trace.specs.Steps.{Goes, has_failed, AsRoom, Falls};
 ghost use Rattle.rel_trace.specs.Folds.{folded, held_first, onward};
 ghost use Rattle.rel_trace.specs.Ones.{fold_kind, fold_left, one_whole, zero_if};
 ghost use Rattle.rel_trace.specs.Scopes.{Around, lent};
@@ -53,7 +53,7 @@ impl Folding {
         ensures place { self.new.place ≡ self.old.place }
         ensures goes { (l l' : List Key) (t t' : Trace) → Goes l t step l' t'
             → Goes l (fold_left self.old (lent separator.entry) t) result l' (fold_left self.new (lent separator.entry) t') }
-        ensures cause { (a b : ℕ) → HasCause a b step → HasCause a b result }
+        ensures failed { has_failed result ≡ has_failed step }
         ensures room { (r : Bool) → AsRoom r step → AsRoom r result }
         ensures falls { (q q' : ℕ) → Falls step q q'
             → Falls result (zero_if self.old.done (q + 1)) (zero_if self.new.done (q' + 1)) }
@@ -83,7 +83,7 @@ impl Folding {
         ensures goes { (o : Outcome) (separator : Option Plain) (l : List Key) (t : Trace) → Works o worked
             → Goes l (onward self.old.fold self.old.place o (λ h. folded self.old.fold separator self.old.place (Some h) t))
             result l (fold_left self.new separator t) }
-        ensures cause { (count : ℕ) → HasCause count count result }
+        ensures failed { has_failed result ≡ false }
         ensures room { (r : Bool) → AsRoom r result }
         ensures falls { (q q' : ℕ) → q' < q → Falls result (q + 1) (zero_if self.new.done (q' + 1)) }
     {

@@ -2,7 +2,7 @@ ghost use Rattle.std.specs.Prelude.{◌≡◌, ◌≤◌, ◌<◌, ◌+◌, ℕ,
 ghost use Rattle.bf_world.specs.declared.key.Key.{Key};
 ghost use Rattle.rel_trace.specs.Trace.{Trace, follow, none};
 ghost use Rattle.rel_trace.specs.declared.step.Step.TheVariants.{Memory};
-ghost use Rattle.rel_trace.specs.Steps.{Goes, HasCause, AsRoom, Falls};
+ghost use Rattle.rel_trace.specs.Steps.{Goes, has_failed, AsRoom, Falls};
 ghost use Rattle.rel_trace.specs.Scopes.{Around, seen};
 ghost use Rattle.rel_trace.specs.Twos.{begun, begun_quiet, first_quiet, handed_down, handing_kind, handing_rest, handing_on, handing_quiet, led, two_whole, with_handed};
 
@@ -34,7 +34,7 @@ impl Hand {
     /// The step before the second part.
     fn opening(self) -> Step
         ensures goes { (l : List Key) (t u : Trace) → Goes l (follow (led self t) u) result l (follow t u) }
-        ensures cause { (count : ℕ) → HasCause count count result }
+        ensures failed { has_failed result ≡ false }
         ensures room { (r : Bool) → AsRoom r result }
         ensures memory { result ≡ Memory → ⊥ }
         ensures falls { (q q' c : ℕ) → q' < q → Falls result (first_quiet self q c) (first_quiet self q' c + (c + 1)) }
@@ -121,7 +121,7 @@ impl Handing {
         ensures kind { handing_kind self.new ≡ handing_kind self.old }
         ensures goes { (l l' : List Key) (t t' : Trace) (b f : Around → Trace) (s : Around) → Goes l t step l' t'
             → Goes l (handing_rest self.old t b f s) result.step l' (handing_rest self.new t' (begun result.begins b f) f s) }
-        ensures cause { (a b : ℕ) → HasCause a b step → HasCause a b result.step }
+        ensures failed { has_failed result.step ≡ has_failed step }
         ensures room { (r : Bool) → AsRoom r step → AsRoom r result.step }
         ensures begins { result.begins ≡ handing_on self.new }
         ensures memory { result.step ≡ Memory → step ≡ Memory }
@@ -145,7 +145,7 @@ impl Handing {
         ensures goes { (l l' : List Key) (a : Trace) (b b' f : Around → Trace) (s : Around)
             → Goes l (b (handed_down self.old s)) step l' (b' (handed_down self.old s))
             → Goes l (handing_rest self.old a b f s) result l' (handing_rest self.new a b' f s) }
-        ensures cause { (a b : ℕ) → HasCause a b step → HasCause a b result }
+        ensures failed { has_failed result ≡ has_failed step }
         ensures room { (r : Bool) → AsRoom r step → AsRoom r result }
         ensures memory { result ≡ Memory → step ≡ Memory }
         ensures falls { (q r r' c : ℕ) → Falls step r r'

@@ -1,16 +1,17 @@
+ghost use Rattle.std.specs.Prelude.{◌≡◌, IfOk};
 ghost use Rattle.rel_value.specs.Operands.{AreSound, IsSound};
 ghost use Rattle.rel_value.specs.Outcomes.{gives};
-ghost use Rattle.rel_value.specs.Plain.{more_parts, tuple};
+ghost use Rattle.rel_value.specs.Plain.{Parts, more_parts, no_parts, tuple};
 ghost use Rattle.rel_value.specs.Views.{shown, shown_parts};
-ghost use Rattle.rel_trace.specs.declared.joining.Joining.TheVariants.{Pair, Push};
-ghost use Rattle.rel_trace.specs.Joins.{tied, tied_left};
+ghost use Rattle.rel_trace.specs.declared.joining.Joining.TheVariants.{Append, Push};
+ghost use Rattle.rel_trace.specs.Joins.{appended, parts_then, tied, tied_left};
 ghost use Rattle.rel_trace.specs.Scopes.{lent};
 ghost use Rattle.rel_trace.specs.Works.{Works};
 
 use crate::Held;
 use crate::worked::Worked;
 use rel_value::{Value, Values};
-use std::alloc::Global;
+use std::alloc::{AllocError, Global};
 
 /// How a value joins those before it in a tuple.
 #[derive(Clone, Copy)]
@@ -19,6 +20,8 @@ pub enum Joining {
     Pair,
     /// A further one is put at the end of the tuple.
     Push,
+    /// Those of a further tuple are put at the end of the tuple.
+    Append,
 }
 
 impl Joining {
@@ -32,59 +35,92 @@ impl Joining {
         }
     }
 
-    /// The tuple of an earlier value, or of the parts of an earlier tuple, and a later one.
+    /// The tuple of an earlier value, or of the parts of an earlier tuple, and a later one, or the parts of a later one.
     fn tie(self, alloc: Global, earlier: &Held, later: &Held) -> Worked
         ensures { Works (tied self earlier.now later.now) result }
     {
-        match later.copy() {
-            Ok(later) => match self {
-                Joining::Pair => paired(alloc, earlier, later),
-                Joining::Push => pushed(earlier.value(), later),
-            },
-            Err(_) => Worked::Memory,
+        match self {
+            Joining::Pair => tuple(paired(alloc, earlier, later)),
+            Joining::Push => pushed(earlier.value(), later),
+            Joining::Append => appended(earlier.value(), later.value()),
         }
     }
 }
 
-fn paired(alloc: Global, earlier: &Held, later: Held) -> Worked
-    ensures { Works (tied Pair earlier.now later) result }
+/// The tuple of these parts, if there was memory for them.
+fn tuple(parts: Result<Values, AllocError>) -> Worked
+    requires { IfOk parts (λ list. AreSound (shown_parts list)) }
+    ensures { (ps : Parts) → IfOk parts (λ list. shown_parts list ≡ ps) → Works (gives (tuple ps)) result }
 {
-    match earlier.copy() {
-        Ok(earlier) => match Values::pair(alloc, earlier.into_value(), later.into_value()) {
-            Ok(parts) => Worked::Given(Held::new(Value::Tuple(parts))),
-            Err(_) => Worked::Memory,
-        },
+    match parts {
+        Ok(parts) => Worked::Given(Held::new(Value::Tuple(parts))),
         Err(_) => Worked::Memory,
     }
 }
 
-fn pushed(earlier: &Value, later: Held) -> Worked
+fn paired(alloc: Global, earlier: &Held, later: &Held) -> Result<Values, AllocError>
+    ensures same { IfOk result (λ list. shown_parts list ≡ more_parts (more_parts no_parts earlier.now) later.now) }
+    ensures sound { IfOk result (λ list. AreSound (shown_parts list)) }
+{
+    let earlier = earlier.copy()?;
+    let later = later.copy()?;
+    Values::pair(alloc, earlier.into_value(), later.into_value())
+}
+
+fn pushed(earlier: &Value, later: &Held) -> Worked
     requires { IsSound (shown earlier.now) }
-    ensures { Works (tied Push (shown earlier.now) later) result }
+    ensures { Works (tied Push (shown earlier.now) later.now) result }
 {
     match earlier {
-        Value::Tuple(parts) => lengthened(parts, later),
+        Value::Tuple(parts) => tuple(lengthened(parts, later)),
         _ => Worked::Without,
     }
 }
 
-fn lengthened(earlier: &Values, later: Held) -> Worked
+fn lengthened(earlier: &Values, later: &Held) -> Result<Values, AllocError>
     requires { AreSound (shown_parts earlier.now) }
-    ensures { Works (gives (tuple (more_parts (shown_parts earlier.now) later))) result }
+    ensures same { IfOk result (λ list. shown_parts list ≡ more_parts (shown_parts earlier.now) later.now) }
+    ensures sound { IfOk result (λ list. AreSound (shown_parts list)) }
 {
-    match earlier.copy() {
-        Ok(parts) => with_last(parts, later),
-        Err(_) => Worked::Memory,
+    let mut parts = earlier.copy()?;
+    let later = later.copy()?;
+    parts.push(later.into_value())?;
+    Ok(parts)
+}
+
+fn appended(earlier: &Value, later: &Value) -> Worked
+    requires earlier { IsSound (shown earlier.now) }
+    requires later { IsSound (shown later.now) }
+    ensures { Works (tied Append (shown earlier.now) (shown later.now)) result }
+{
+    match earlier {
+        Value::Tuple(parts) => behind(parts, later),
+        _ => Worked::Without,
     }
 }
 
-fn with_last(earlier: Values, last: Held) -> Worked
-    requires { AreSound (shown_parts earlier) }
-    ensures { Works (gives (tuple (more_parts (shown_parts earlier) last))) result }
+/// The parts of a later tuple behind these.
+fn behind(earlier: &Values, later: &Value) -> Worked
+    requires earlier { AreSound (shown_parts earlier.now) }
+    requires later { IsSound (shown later.now) }
+    ensures { Works (appended (shown_parts earlier.now) (shown later.now)) result }
 {
-    let mut parts = earlier;
-    match parts.push(last.into_value()) {
-        Ok(()) => Worked::Given(Held::new(Value::Tuple(parts))),
-        Err(_) => Worked::Memory,
+    match later {
+        Value::Tuple(parts) => tuple(together(earlier, parts)),
+        _ => Worked::Without,
     }
+}
+
+fn together(earlier: &Values, later: &Values) -> Result<Values, AllocError>
+    requires earlier { AreSound (shown_parts earlier.now) }
+    requires later { AreSound (shown_parts later.now) }
+    ensures same { IfOk result (λ list. shown_parts list ≡ parts_then (shown_parts earlier.now) (shown_parts later.now)) }
+    ensures sound { IfOk result (λ list. AreSound (shown_parts list)) }
+{
+    let mut parts = earlier.copy()?;
+    for value in later.as_slice() {
+        let copied = value.copy()?;
+        parts.push(copied)?;
+    }
+    Ok(parts)
 }

@@ -2,7 +2,7 @@ ghost use Rattle.std.specs.Prelude.{◌≡◌, ℕ, ℤ, List, Bool, true, false
 ghost use Rattle.bf_world.specs.declared.key.Key.{Key};
 ghost use Rattle.line_forms.specs.Numbers.{IsOffset};
 ghost use Rattle.rel_trace.specs.Trace.{Trace, none};
-ghost use Rattle.rel_trace.specs.Steps.{Goes, HasCause, AsRoom, Falls};
+ghost use Rattle.rel_trace.specs.Steps.{Goes, has_failed, AsRoom, Falls};
 ghost use Rattle.rel_trace.specs.Ones.{cast_kind, ends_with_part, exists_kind, fold_kind, is_done, negate_kind, not_kind, one_kind, one_left, one_quiet, one_whole, sign_kind, single_kind, tuple_kind};
 ghost use Rattle.rel_trace.specs.Scopes.{Around, seen};
 
@@ -137,7 +137,7 @@ impl One {
         ensures kind { one_kind self.new ≡ one_kind self.old }
         ensures goes { (l l' : List Key) (t t' : Trace) → Goes l t step l' t'
             → Goes l (one_left self.old (seen scope.entry) offset t) result l' (one_left self.new (seen scope.entry) offset t') }
-        ensures cause { (a b : ℕ) → HasCause a b step → HasCause a b result }
+        ensures failed { has_failed result ≡ has_failed step }
         ensures room { (r : Bool) → AsRoom r step → AsRoom r result }
         ensures falls { (q q' : ℕ) → Falls step q q' → Falls result (one_quiet self.old q) (one_quiet self.new q') }
     {

@@ -2,7 +2,7 @@ ghost use Rattle.std.specs.Prelude.{◌≡◌, ℕ, List, Bool, true, false};
 ghost use Rattle.bf_world.specs.declared.key.Key.{Key};
 ghost use Rattle.rel_trace.specs.Trace.{Trace};
 ghost use Rattle.rel_trace.specs.declared.step.Step.TheVariants.{Memory};
-ghost use Rattle.rel_trace.specs.Steps.{Goes, HasCause, AsRoom, Falls};
+ghost use Rattle.rel_trace.specs.Steps.{Goes, has_failed, AsRoom, Falls};
 ghost use Rattle.rel_trace.specs.Scopes.{Around};
 ghost use Rattle.rel_trace.specs.Twos.{begun, begun_quiet, sequence_kind, sequence_rest, sequence_on, sequence_quiet, two_whole};
 
@@ -51,7 +51,7 @@ impl Sequence {
         ensures kind { sequence_kind self.new ≡ sequence_kind self.old }
         ensures goes { (l l' : List Key) (t t' : Trace) (b f : Around → Trace) (s : Around) → Goes l t step l' t'
             → Goes l (sequence_rest self.old t b f s) result.step l' (sequence_rest self.new t' (begun result.begins b f) f s) }
-        ensures cause { (a b : ℕ) → HasCause a b step → HasCause a b result.step }
+        ensures failed { has_failed result.step ≡ has_failed step }
         ensures room { (r : Bool) → AsRoom r step → AsRoom r result.step }
         ensures begins { result.begins ≡ sequence_on self.new }
         ensures memory { result.step ≡ Memory → step ≡ Memory }
@@ -99,7 +99,7 @@ impl Sequence {
         ensures kind { sequence_kind self.new ≡ sequence_kind self.old }
         ensures goes { (l l' : List Key) (a : Trace) (b b' f : Around → Trace) (s : Around) → Goes l (b s) step l' (b' s)
             → Goes l (sequence_rest self.old a b f s) result l' (sequence_rest self.new a b' f s) }
-        ensures cause { (a b : ℕ) → HasCause a b step → HasCause a b result }
+        ensures failed { has_failed result ≡ has_failed step }
         ensures room { (r : Bool) → AsRoom r step → AsRoom r result }
         ensures memory { result ≡ Memory → step ≡ Memory }
         ensures falls { (q r r' c : ℕ) → Falls step r r'

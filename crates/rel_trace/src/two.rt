@@ -2,7 +2,7 @@ ghost use Rattle.std.specs.Prelude.{◌≡◌, ◌≤◌, ◌&&◌, ℕ, List, B
 ghost use Rattle.bf_world.specs.declared.key.Key.{Key};
 ghost use Rattle.rel_trace.specs.Trace.{Trace, none};
 ghost use Rattle.rel_trace.specs.declared.step.Step.TheVariants.{Memory};
-ghost use Rattle.rel_trace.specs.Steps.{Goes, HasCause, AsRoom, Falls};
+ghost use Rattle.rel_trace.specs.Steps.{Goes, has_failed, AsRoom, Falls};
 ghost use Rattle.rel_trace.specs.Scopes.{Around, seen};
 ghost use Rattle.rel_trace.specs.Twos.{argument_kind, bar_kind, begun, begun_quiet, each_kind, ends_with_first, left_kind, logic_kind, on_second, second_around, sift_kind, then_kind, turned_kind, two_kind, two_left, two_quiet, two_whole, waits_for_end};
 
@@ -129,7 +129,7 @@ impl Two {
         ensures kind { two_kind self.new ≡ two_kind self.old }
         ensures goes { (l l' : List Key) (t t' : Trace) (b f : Around → Trace) (s : Around) → Goes l t step l' t'
             → Goes l (two_left self.old t b f s) result.step l' (two_left self.new t' (begun result.begins b f) f s) }
-        ensures cause { (a b : ℕ) → HasCause a b step → HasCause a b result.step }
+        ensures failed { has_failed result.step ≡ has_failed step }
         ensures room { (r : Bool) → AsRoom r step → AsRoom r result.step }
         ensures begins { result.begins ≡ on_second self.new }
         ensures memory { result.step ≡ Memory → step ≡ Memory }
@@ -151,7 +151,7 @@ impl Two {
         ensures goes { (l l' : List Key) (a : Trace) (b b' f : Around → Trace) (s : Around)
             → Goes l (b (second_around self.old s)) step l' (b' (second_around self.old s))
             → Goes l (two_left self.old a b f s) result l' (two_left self.new a b' f s) }
-        ensures cause { (a b : ℕ) → HasCause a b step → HasCause a b result }
+        ensures failed { has_failed result ≡ has_failed step }
         ensures room { (r : Bool) → AsRoom r step → AsRoom r result }
         ensures memory { result ≡ Memory → step ≡ Memory }
         ensures falls { (q r r' c : ℕ) → Falls step r r' → Falls result (two_quiet self.old q r c) (two_quiet self.new q r' c) }

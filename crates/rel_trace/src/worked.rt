@@ -1,9 +1,9 @@
-ghost use Rattle.std.specs.Prelude.{ℕ, ◌<◌, Bool, List, IfOk};
+ghost use Rattle.std.specs.Prelude.{ℕ, ◌<◌, Bool, List, IfOk, false, ◌≡◌};
 ghost use Rattle.bf_world.specs.declared.key.Key.{Key};
 ghost use Rattle.rel_value.specs.Operands.{IsSound};
 ghost use Rattle.rel_value.specs.Outcomes.{Answers, Outcome};
 ghost use Rattle.rel_value.specs.Views.{shown};
-ghost use Rattle.rel_trace.specs.Steps.{AsRoom, Falls, Goes, HasCause, IsTold};
+ghost use Rattle.rel_trace.specs.Steps.{AsRoom, Falls, Goes, has_failed, IsTold};
 ghost use Rattle.rel_trace.specs.Trace.{Trace, follow, none, result_at};
 ghost use Rattle.rel_trace.specs.Works.{HasRow, Works};
 
@@ -38,7 +38,7 @@ impl Worked {
     pub(crate) fn at(self, place: Place) -> Step
         ensures goes { (o : Outcome) → Works o self → (l : List Key) (t : Trace)
             → Goes l (follow (result_at place o) t) result l t }
-        ensures cause { (count : ℕ) → HasCause count count result }
+        ensures failed { has_failed result ≡ false }
         ensures room { (r : Bool) → AsRoom r result }
         ensures falls { (q q' : ℕ) → q' < q → Falls result q q' }
     {

@@ -1,25 +1,24 @@
 -- What is made of each form, and of lists of parts.
-use Rattle.std.proofs.Common.{◌≡◌, ◌-◌, List, SFits, w64, arith, rules, refl, sym, ap, ◌∙◌, length, take, drop, get_or}
+use Rattle.std.proofs.Common.{◌≡◌, SFits, w64, arith, rules, refl, sym, ap, ◌∙◌, take}
 use Rattle.std.proofs.lemmas.Int.{to_z-of_z}
+use Rattle.std.proofs.lemmas.Result.{IfOk-weaker}
 use Rattle.rel_value.specs.Plain.{integer, words}
 use Rattle.rel_value.specs.Views.{shown_kind}
-use Rattle.rel_types.specs.declared.node.Node.{Node, out-Node}
-use Rattle.rel_types.specs.declared.node.NodeList.{out-NodeList}
-use Rattle.rel_types.specs.Plans.{no_nodes, more_nodes}
-use Rattle.rel_trace.specs.declared.joining.Joining.TheVariants.{Push}
+use Rattle.rel_types.specs.declared.node.Node.{out-Node}
 use Rattle.rel_trace.specs.Ones.{one_kind}
-use Rattle.rel_nodes.specs.declared.node.Node.TheVariants as node
 use Rattle.rel_types.specs.Views.{shown_form, shown_held, shown_links, shown_node, shown_nodes}
 use Rattle.rel_nodes.specs.Core.{nothing_core, it_core, one_core, choice_core, casted_core, chained_core, collected_core, constant_core, core_of, form_core, singly_core, tuple_core}
 use Rattle.rel_nodes.specs.HeldParts.{part_shape}
 use Rattle.rel_nodes.specs.Nodes.{boxed_shape, shape}
 use Rattle.rel_nodes.specs.Runs.{run_core}
-use Rattle.rel_nodes.proofs.Alikes.{alike_same, on_alike, on_node, on_same}
+use Rattle.rel_nodes.specs.Tuples.{traces}
+use Rattle.rel_nodes.proofs.Alikes.{alike_same, on_alike, on_same}
 use Rattle.rel_nodes.proofs.HeldParts.{boxed, head_held, argued_held, over_held, filtered_held}
 use Rattle.rel_nodes.proofs.Joining.{same}
-use Rattle.rel_nodes.proofs.Lists.{chained_all, chained_more, collected_all, collected_more, no_tuple, one_first, rest_whole, tuple_all, tuple_begun, tuple_more}
+use Rattle.rel_nodes.proofs.Lists.{chained_all, chained_more, collected_all, collected_more}
 use Rattle.rel_nodes.proofs.Made.{number_made, literal_made, it_made, phrase_made, body_made, cast_made, unary_made, chain_made, if_made, tuple_made, collection_made}
 use Rattle.rel_nodes.proofs.Shown.{node-shown, shown-integer}
+use Rattle.rel_nodes.proofs.TupleParts.{meant_leftless, meant_more, tuple_meant}
 use Rattle.rel_nodes.proofs.beginning.+begun.Goals as goal
 
 pub begun-returns : goal.begun-returns
@@ -103,26 +102,22 @@ chained-returns t c =
     on_alike c.whole.result (run_core c.loop-link.run) (chained_core (shown_links c.args.links.now) (boxed_shape c.args.first)) c.whole.ensures
     (chained_all (boxed_shape c.args.first) (run_core c.loop-link.run) c.args.links.now c.as_slice-link-items.result.now c.loop-link.link-index c.as_slice-link-items.ensures (λ h. omega (arith, h)) c.loop-link.invariant)
 
-pub tupled-returns-in_default : goal.tupled-returns-in_default
-tupled-returns-in_default t c = on_node c.on_heap.result node.Nothing (tuple_core (shown_nodes c.args.parts.now)) c.on_heap.ensures (alike_same nothing_core (tuple_core (shown_nodes c.args.parts.now)) (no_tuple c.args.parts.now c.as_slice.result.now c.as_slice.ensures (λ h. omega (arith, h, c.in_default.len_below))))
-
 pub tupled-loop-part-init : goal.tupled-loop-part-init
-tupled-loop-part-init t c = λ n e.
-    let one = one_first c.as_slice.result.now (out-NodeList c.args.parts.now).items.items c.first-item.result n c.as_slice.ensures (omega (arith, c.in-len1-up.len_at_least)) c.first-item.is e in
-    tuple_begun n c.first-item.result (boxed_shape c.in_ok-start.start) (run_core c.new-run.result) c.span-before.result one c.new-run.ensures.first c.in_ok-start.ensures c.span-before.ensures
+tupled-loop-part-init t c = λ w s a. ap (traces w s a) c.new-sections.ensures.items
 
 pub tupled-loop-part-preserved : goal.tupled-loop-part-preserved
-tupled-loop-part-preserved t c = λ n e.
-    tuple_more (more_nodes no_nodes (shown_node n)) (run_core c.loop-part.run) (boxed_shape c.in_ok-next.next) (boxed_shape c.in_ok-arrow.arrow) (run_core c.in_ok-run.run')
-    c.loop-part.joining Push c.loop-part.before c.span-before-in-loop-part.result (take (length c.as_slice.result.now - 1) (drop 1 c.as_slice.result.now)) c.loop-part.part-index c.part-item.result
-    (omega arith) c.part-item.is (c.loop-part.invariant n e) c.in_ok-next.ensures c.in_ok-arrow.ensures c.in_ok-run.ensures refl c.span-before-in-loop-part.ensures
+tupled-loop-part-preserved t c =
+    meant_more c.loop-part.sections.items c.push.new.self.items (record { node = c.in_ok-node.node; last = c.span.result }) c.as_slice-part-items.result.now c.loop-part.part-index c.part-item.result
+    c.loop-part.invariant c.in_ok-push.ensures.items (omega arith) c.part-item.is c.in_ok-node.ensures c.span.ensures
+
+pub tupled-tuple_of-requires : goal.tupled-tuple_of-requires
+tupled-tuple_of-requires t c = meant_leftless c.loop-part.sections.items (take c.loop-part.part-index c.as_slice-part-items.result.now) c.loop-part.invariant
 
 pub tupled-returns : goal.tupled-returns
 tupled-returns t c =
-    let first = c.first-item.is ∙ ap (λ (xs : List Node). get_or xs 0 c.first-item.result) c.as_slice.ensures in
-    on_alike c.whole.result (run_core c.loop-part.run) (tuple_core (shown_nodes c.args.parts.now)) c.whole.ensures
-    (tuple_all (run_core c.loop-part.run) c.args.parts.now c.as_slice.result.now (take (length c.as_slice.result.now - 1) (drop 1 c.as_slice.result.now)) c.first-item.result c.loop-part.part-index c.loop-part.joining c.loop-part.before
-    c.as_slice.ensures (omega (arith, c.in-len1-up.len_at_least)) c.first-item.is (rest_whole c.as_slice.result.now) (λ h. omega (arith, h)) (c.loop-part.invariant c.first-item.result first))
+    IfOk-weaker c.tuple_of.result _ _
+    (λ n e. tuple_meant (boxed_shape n) c.loop-part.sections.items c.args.parts.now c.as_slice-part-items.result.now c.loop-part.part-index e c.loop-part.invariant (λ h. omega (arith, h)) c.as_slice-part-items.ensures)
+    c.tuple_of.ensures
 
 pub collected-loop-part-init : goal.collected-loop-part-init
 collected-loop-part-init t c = alike_same (run_core c.new-run.result) nothing_core (c.new-run.ensures.first ∙ ap shape c.in_ok-nothing.ensures)

@@ -1,7 +1,9 @@
 -- What a pure part tells.
-use Rattle.std.proofs.Common.{ap, SFits, w64, rules, refl, subst, sym}
+use Rattle.std.proofs.Common.{◌≡◌, ℤ, ap, SFits, w64, rules, refl, subst, sym}
 use Rattle.std.proofs.lemmas.Int.{to_z-of_z}
+use Rattle.rel_sources.specs.declared.scene.Scene.{Scene}
 use Rattle.rel_trace.specs.Draws.{single}
+use Rattle.rel_trace.specs.Ones.{applied}
 use Rattle.rel_trace.specs.Scopes.{seen, with_left}
 use Rattle.rel_trace.specs.Steps.{Goes}
 use Rattle.rel_trace.specs.Trace.{Trace, none}
@@ -12,13 +14,21 @@ use Rattle.rel_nodes.proofs.pure.+tell.Goals as goal
 
 pub applied-returns-in-Some-clause-goes : goal.applied-returns-in-Some-clause-goes
 applied-returns-in-Some-clause-goes t c = λ w l.
-    let fits : SFits w64 c.args.scene.now.offset = search rules in
-    applied_given c.args.apply (seen c.args.scope.now) c.args.scene.now.offset c.in-Some.value.now c.tell.result l (core w c.args.scene.now (pure_shape c.args.part.now) (seen c.args.scope.now)) (c.in-Some.ensures w c.args.scene.now) (simp to_z-of_z at (c.tell.ensures.goes l))
+    let offset = c.scene.inside.offset in
+    let fits : SFits w64 offset = search rules in
+    let same : offset ≡ c.args.scene.now.offset = ap (λ (s : Scene). s.offset) c.scene.view_is in
+    let Tells : ℤ → Type 0 = λ z. Goes l (applied c.args.apply z (seen c.args.scope.now).left c.in-Some.value.now) c.tell.result l none in
+    let known : Tells offset = simp to_z-of_z at (c.tell.ensures.goes l) in
+    applied_given c.args.apply (seen c.args.scope.now) c.args.scene.now.offset c.in-Some.value.now c.tell.result l (core w c.args.scene.now (pure_shape c.args.part.now) (seen c.args.scope.now)) (c.in-Some.ensures w c.args.scene.now) (subst Tells same known)
 
 pub applied-returns-in-Given-clause-goes : goal.applied-returns-in-Given-clause-goes
 applied-returns-in-Given-clause-goes t c = λ w l.
-    let fits : SFits w64 c.args.scene.now.offset = search rules in
-    applied_given c.args.apply (seen c.args.scope.now) c.args.scene.now.offset c.in-Given.value c.tell-in-Given.result l (core w c.args.scene.now (pure_shape c.args.part.now) (seen c.args.scope.now)) (c.in-Given.ensures.goes w l).0 (simp to_z-of_z at (c.tell-in-Given.ensures.goes l))
+    let offset = c.scene.inside.offset in
+    let fits : SFits w64 offset = search rules in
+    let same : offset ≡ c.args.scene.now.offset = ap (λ (s : Scene). s.offset) c.scene.view_is in
+    let Tells : ℤ → Type 0 = λ z. Goes l (applied c.args.apply z (seen c.args.scope.now).left c.in-Given.value) c.tell-in-Given.result l none in
+    let known : Tells offset = simp to_z-of_z at (c.tell-in-Given.ensures.goes l) in
+    applied_given c.args.apply (seen c.args.scope.now) c.args.scene.now.offset c.in-Given.value c.tell-in-Given.result l (core w c.args.scene.now (pure_shape c.args.part.now) (seen c.args.scope.now)) (c.in-Given.ensures.goes w l).0 (subst Tells same known)
 
 pub applied-returns-in_default-tell : goal.applied-returns-in_default-tell
 applied-returns-in_default-tell t c = record {
