@@ -1,5 +1,5 @@
 -- Counts of faults and calls. A count is a u64 that stands still at its last value.
-use Rattle.std.specs.Prelude.{◌≡◌, ℕ, ◌+◌, ◌-◌, ◌^◌, ◌≤◌, min, max, ⊤, None, Some}
+use Rattle.std.specs.Prelude.{◌≡◌, Bool, true, false, ℕ, ◌+◌, ◌-◌, ◌^◌, ◌≤◌, min, max, ⊤, None, Some}
 use Rattle.std.specs.declared.option.Option.{Option}
 
 -- a count that went up by one, or stands still
@@ -9,6 +9,11 @@ one_more count = max count (min (count + 1) (2 ^ 64 - 1))
 -- A count went up, or stands still.
 abbrev pub Rose : ℕ → ℕ → Type 0
 Rose before now = one_more before ≤ now
+
+-- The count of faults rose if a call failed, and else stayed.
+abbrev pub CountsIf : Bool → ℕ → ℕ → Type 0
+CountsIf true old new = Rose old new
+CountsIf false old new = new ≡ old
 
 -- The count of faults rose where a call failed, and stayed where it did not.
 pub record CountsFaults (failed : Type 0) (old new : ℕ) : Type 0 where

@@ -1,9 +1,9 @@
-ghost use Rattle.std.specs.Prelude.{◌≡◌, ◌+◌};
+ghost use Rattle.std.specs.Prelude.{◌≡◌, ◌+◌, IfOk};
 ghost use Rattle.desk_base.specs.Counts.{CountsAtMost, CountsFaults};
 ghost use Rattle.desk_base.specs.Whole.{ReadsAll, StopsAtEnd};
 
 use crate::{Bytes, Got, Source};
-use std::alloc::Global;
+use std::alloc::{AllocError, Global};
 
 /// What reading a source to its end answers.
 #[derive(Drop)]
@@ -16,6 +16,20 @@ pub enum Whole {
     Failed,
     /// Memory ran out.
     Memory,
+}
+
+impl Whole {
+    /// The same answer once more. The error is want of memory.
+    pub fn copy(&self) -> Result<Whole, AllocError>
+        ensures { IfOk result (λ whole. whole ≡ self.now) }
+    {
+        Ok(match self {
+            Whole::Read(bytes) => Whole::Read(bytes.copy()?),
+            Whole::TooLong => Whole::TooLong,
+            Whole::Failed => Whole::Failed,
+            Whole::Memory => Whole::Memory,
+        })
+    }
 }
 
 /// Reads a source to its end, unless it gives more bytes than the limit. What was taken stays taken.

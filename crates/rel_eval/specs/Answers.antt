@@ -1,9 +1,9 @@
 -- What preparing a question answers, and what an answer hands over and looks up.
-use Rattle.std.specs.Prelude.{◌≡◌, ◌⊎◌, ⊤, ℕ, List, [], ◌∷◌, Result, Ok, Err}
+use Rattle.std.specs.Prelude.{◌≡◌, ◌⊎◌, ⊤, Bool, true, false, ℕ, List, [], ◌∷◌, Result, Ok, Err}
 use Rattle.std.specs.declared.option.Option.{Option}
-use Rattle.desk_base.specs.Counts.{Rose}
 use Rattle.bf_machine.specs.Told.{Grows}
 use Rattle.bf_world.specs.declared.key.Key.{Key}
+use Rattle.rel_grammar.specs.Trees.{Plain as Tree}
 use Rattle.rel_value.specs.Plain.{Plain}
 use Rattle.rel_trace.specs.Steps.{LooksAt}
 use Rattle.rel_trace.specs.Trace.{Stop, Error, Event, Give, Trace, Ends, After}
@@ -15,14 +15,23 @@ use Rattle.rel_eval.specs.declared.taker.Ended.{Ended}
 use Rattle.rel_eval.specs.declared.taker.Ended.TheVariants as ended
 use Rattle.rel_eval.specs.declared.taker.Take.{Take}
 use Rattle.rel_eval.specs.declared.taker.Take.TheVariants as take
-use Rattle.rel_eval.specs.Questions.{IsPlanOf, IsRefusedAs, IsUndefined, plan_of}
+use Rattle.rel_eval.specs.Questions.{Reading, question, refused, undefined, Reads, TreeReads, plan_of}
 
--- A question comes exactly where the text is one, with its plan, and a refusal exactly as the text is refused.
+-- The answer is what something is: a question comes exactly where it is one, with its plan, and a refusal exactly as it is refused. Want of
+-- memory tells nothing of it.
+abbrev pub PreparesAs : (Reading → Type 0) → Result Question Refusal → Type 0
+PreparesAs Is (Ok prepared) = Is (question (plan_of prepared))
+PreparesAs Is (Err (At kind place)) = Is (refused kind place)
+PreparesAs Is (Err (NotDefined place words)) = Is (undefined place words)
+PreparesAs Is (Err Memory) = ⊤
+
+-- The answer is what the text is.
 abbrev pub Prepares : List ℕ → Result Question Refusal → Type 0
-Prepares text (Ok question) = IsPlanOf text (plan_of question)
-Prepares text (Err (At kind place)) = IsRefusedAs text kind place
-Prepares text (Err (NotDefined place words)) = IsUndefined text place words
-Prepares text (Err Memory) = ⊤
+Prepares text answer = PreparesAs (Reads text) answer
+
+-- The answer is what the tree is.
+abbrev pub PreparesTree : Tree → Result Question Refusal → Type 0
+PreparesTree tree answer = PreparesAs (TreeReads tree) answer
 
 -- what a taker does with a value: it was this, is handed the value, answers so and is that
 abbrev pub Takes : Type 0 → Type 1
@@ -72,7 +81,7 @@ Handed takes old ended.Enough new = (vs : List Plain) × (last : Plain) × TookL
 Handed takes old ended.Memory new = ((vs : List Plain) × Took takes old vs new) ⊎ ((vs : List Plain) × (last : Plain) × TookLast takes old vs last take.Memory new)
 Handed takes old _ new = (vs : List Plain) × Took takes old vs new
 
--- A look fails only where the count of faults went up, and else the count stays.
-abbrev pub EndHasCause : ℕ → ℕ → Ended → Type 0
-EndHasCause old new (ended.Failed place) = Rose old new
-EndHasCause old new _ = new ≡ old
+-- a look failed
+abbrev pub end_has_failed : Ended → Bool
+end_has_failed (ended.Failed place) = true
+end_has_failed _ = false

@@ -1,6 +1,5 @@
 -- What a cursor has still to give, and what a pull leaves of it.
-use Rattle.std.specs.Prelude.{◌≡◌, ◌≢◌, ℕ, ◌+◌, ◌*◌, ◌<◌, None}
-use Rattle.desk_base.specs.Counts.{Rose}
+use Rattle.std.specs.Prelude.{◌≡◌, ◌≢◌, Bool, true, false, ℕ, ◌+◌, ◌*◌, ◌<◌, None}
 use Rattle.bf_world.specs.Worlds.{WorldState}
 use Rattle.rel_value.specs.Operands.{IsSound}
 use Rattle.rel_value.specs.Views.{shown}
@@ -28,7 +27,7 @@ state_rest Shut t = t
 
 -- what a cursor has still to give in a world
 abbrev pub cursor_rest : WorldState → Cursor → Trace
-cursor_rest w c = state_rest c.state (cut c.budget (rest w c.scene.scene c.node alone))
+cursor_rest w c = state_rest c.state (cut c.budget (rest w c.scene c.node alone))
 
 -- how many steps it can make at most
 abbrev pub weight : Cursor → ℕ
@@ -39,10 +38,10 @@ abbrev pub Nearer : Pulled → ℕ → ℕ → Type 0
 Nearer (pulled.Value v) old new = new < old
 Nearer _ old new = Unit {0}
 
--- A look fails only where the count of faults went up, and else the count stays.
-abbrev pub HasCause : ℕ → ℕ → Pulled → Type 0
-HasCause old new (pulled.Failed place) = Rose old new
-HasCause old new _ = new ≡ old
+-- a look failed
+abbrev pub has_failed : Pulled → Bool
+has_failed (pulled.Failed place) = true
+has_failed _ = false
 
 -- a value that is given is sound
 abbrev pub GivesSound : Pulled → Type 0

@@ -1,7 +1,6 @@
 -- Drawing a question for its one value. No public contract speaks of it.
-use Rattle.std.specs.Prelude.{◌≡◌, ℕ, List}
+use Rattle.std.specs.Prelude.{Bool, true, false, List}
 use Rattle.std.specs.declared.option.Option.{Option}
-use Rattle.desk_base.specs.Counts.{Rose}
 use Rattle.bf_machine.specs.Told.{Grows}
 use Rattle.bf_world.specs.declared.key.Key.{Key}
 use Rattle.rel_value.specs.Operands.{IsSound}
@@ -27,6 +26,7 @@ abbrev pub OneIsSound : OneValue → Type 0
 OneIsSound (drawn.Value v) = IsSound (shown v)
 OneIsSound _ = Unit {0}
 
-abbrev pub OneHasCause : ℕ → ℕ → OneValue → Type 0
-OneHasCause old new (drawn.Failed place) = Rose old new
-OneHasCause old new _ = new ≡ old
+-- a look failed
+abbrev pub one_has_failed : OneValue → Bool
+one_has_failed (drawn.Failed place) = true
+one_has_failed _ = false

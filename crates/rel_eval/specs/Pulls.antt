@@ -3,6 +3,7 @@ use Rattle.std.specs.Prelude.{◌≡◌, List, []}
 use Rattle.std.specs.declared.option.Option.{Option}
 use Rattle.bf_machine.specs.Told.{Grows}
 use Rattle.bf_world.specs.declared.key.Key.{Key}
+use Rattle.rel_value.specs.Plain.{Plain}
 use Rattle.rel_value.specs.Views.{shown}
 use Rattle.rel_trace.specs.Steps.{LooksAt}
 use Rattle.rel_trace.specs.Trace.{Stop, Error, Event, Give, Trace, Ends, After}
@@ -27,6 +28,16 @@ Pulls t (pulled.Error kind place) looks rest = Skips t looks (Ends (Error kind p
 Pulls t (pulled.Failed place) looks rest = Skips t looks rest × LooksAt place rest
 Pulls t pulled.Memory looks rest = (u : Trace) × Skips t looks u
 Pulls t pulled.Closed looks rest = looks ≡ []
+
+-- the answer is this value
+abbrev pub GivesValue : Plain → Pulled → Type 0
+GivesValue plain (pulled.Value v) = shown v ≡ plain
+GivesValue plain other = ⊥
+
+-- the answers are the same
+abbrev pub AreAlike : Pulled → Pulled → Type 0
+AreAlike (pulled.Value v) copy = GivesValue (shown v) copy
+AreAlike other copy = copy ≡ other
 
 -- The keys that a machine tells grow by those of the looks that were made.
 abbrev pub Draws : Option (List Key) → Trace → Pulled → Option (List Key) → Trace → Type 0

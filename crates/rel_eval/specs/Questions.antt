@@ -17,9 +17,29 @@ use Rattle.rel_trace.specs.declared.kind.RelKind.{RelKind}
 use Rattle.rel_eval.specs.declared.question.Question.{Question}
 use Rattle.rel_eval.specs.Refusals.{IsLexRefusal, IsParseRefusal, IsTypeRefusal}
 
+-- what a text can be
+pub data Reading : Type 0 where
+  -- a question, which is well typed
+  question : (plan : PlainNode) → Reading
+  -- refused for a kind of fault
+  refused : (kind : RelKind) (place : Place) → Reading
+  -- refused since nothing is defined of some words
+  undefined : (place : Place) (words : List ℕ) → Reading
+
+-- The tree is this: it is well typed and this is its plan, or the checker refuses it for this, at this place, or finds that nothing is
+-- defined of these words, at this place.
+abbrev pub TreeReads : Plain → Reading → Type 0
+TreeReads tree (question plan) = typed None tree ≡ Ok plan
+TreeReads tree (refused kind place) = (error : TypeError) × (typed None tree ≡ Err error) × IsTypeRefusal error kind place
+TreeReads tree (undefined place words) = typed None tree ≡ Err (typing.NotDefined place words)
+
+-- The text has a tree, which is this.
+abbrev pub HasTree : List ℕ → Reading → Type 0
+HasTree text reading = (tree : Plain) × IsTreeOf text tree × TreeReads tree reading
+
 -- The text has a tree, which is well typed, and this is its plan.
 abbrev pub IsPlanOf : List ℕ → PlainNode → Type 0
-IsPlanOf text plan = (tree : Plain) × IsTreeOf text tree × (typed None tree ≡ Ok plan)
+IsPlanOf text plan = HasTree text (question plan)
 
 -- The lexer refuses the text for this, at this place.
 abbrev pub LexerRefuses : List ℕ → RelKind → Place → Type 0
@@ -31,7 +51,7 @@ ParserRefuses text kind place = (tokens : Tokens) × Lexed text (Ok tokens) × (
 
 -- The text has a tree, which the checker refuses for this, at this place.
 abbrev pub CheckerRefuses : List ℕ → RelKind → Place → Type 0
-CheckerRefuses text kind place = (tree : Plain) × IsTreeOf text tree × ((error : TypeError) × (typed None tree ≡ Err error) × IsTypeRefusal error kind place)
+CheckerRefuses text kind place = HasTree text (refused kind place)
 
 -- The text is refused for this, at this place.
 abbrev pub IsRefusedAs : List ℕ → RelKind → Place → Type 0
@@ -39,16 +59,7 @@ IsRefusedAs text kind place = LexerRefuses text kind place ⊎ ParserRefuses tex
 
 -- The text has a tree, in which nothing is defined of these words at this place, and there is no fault before it.
 abbrev pub IsUndefined : List ℕ → Place → List ℕ → Type 0
-IsUndefined text place words = (tree : Plain) × IsTreeOf text tree × (typed None tree ≡ Err (typing.NotDefined place words))
-
--- what a text can be
-pub data Reading : Type 0 where
-  -- a question, which is well typed
-  question : (plan : PlainNode) → Reading
-  -- refused for a kind of fault
-  refused : (kind : RelKind) (place : Place) → Reading
-  -- refused since nothing is defined of some words
-  undefined : (place : Place) (words : List ℕ) → Reading
+IsUndefined text place words = HasTree text (undefined place words)
 
 -- The text is this.
 abbrev pub Reads : List ℕ → Reading → Type 0

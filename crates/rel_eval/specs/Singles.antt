@@ -1,7 +1,6 @@
 -- Questions that are asked for one truth or one text.
-use Rattle.std.specs.Prelude.{◌≡◌, ℕ, ℤ, true, false, nat_le, if◌then◌else◌, List, length}
+use Rattle.std.specs.Prelude.{ℤ, Bool, true, false, nat_le, if◌then◌else◌, List, length}
 use Rattle.std.specs.declared.option.Option.{Option}
-use Rattle.desk_base.specs.Counts.{Rose}
 use Rattle.bf_machine.specs.Told.{Grows}
 use Rattle.bf_world.specs.declared.key.Key.{Key}
 use Rattle.rel_lexer.specs.declared.place.Place.{Place}
@@ -56,11 +55,11 @@ Judges old t result new = (looks : List Key) × Grows old new looks × TellsTrut
 abbrev pub Words : Option (List Key) → Trace → OneText → Option (List Key) → Type 0
 Words old t result new = (looks : List Key) × Grows old new looks × TellsText t result looks
 
--- A look fails only where the count of faults went up, and else the count stays.
-abbrev pub TruthHasCause : ℕ → ℕ → Truth → Type 0
-TruthHasCause old new (truth.Failed place) = Rose old new
-TruthHasCause old new _ = new ≡ old
+-- a look failed
+abbrev pub truth_has_failed : Truth → Bool
+truth_has_failed (truth.Failed place) = true
+truth_has_failed _ = false
 
-abbrev pub TextHasCause : ℕ → ℕ → OneText → Type 0
-TextHasCause old new (one_text.Failed place) = Rose old new
-TextHasCause old new _ = new ≡ old
+abbrev pub text_has_failed : OneText → Bool
+text_has_failed (one_text.Failed place) = true
+text_has_failed _ = false

@@ -1,9 +1,8 @@
 ghost use Rattle.std.specs.Prelude.{◌≡◌, Some};
-ghost use Rattle.desk_base.specs.Moments.{IsMoment};
+ghost use Rattle.desk_base.specs.Counts.{CountsIf};
 ghost use Rattle.bf_machine.specs.Views.{OnlyLooks};
-ghost use Rattle.line_forms.specs.Numbers.{IsOffset};
 ghost use Rattle.bf_world.specs.Worlds.{WorldState};
-ghost use Rattle.rel_eval.specs.Answers.{Answers, EndHasCause, Handed};
+ghost use Rattle.rel_eval.specs.Answers.{Answers, Handed, end_has_failed};
 ghost use Rattle.rel_eval.specs.Cuts.{meaning};
 ghost use Rattle.rel_eval.specs.Questions.{plan_of};
 
@@ -23,13 +22,11 @@ impl Question {
         scene: &Scene,
         taker: &mut T,
     ) -> Ended
-        requires moment { IsMoment scene.now.moment }
-        requires offset { IsOffset scene.now.offset }
         ensures answers { (w : WorldState) → (M.told machine.old).world ≡ Some w
             → Answers T.takes (M.told machine.old).looked (meaning w scene.now (plan_of self.now)) taker.old result
             (M.told machine.new).looked taker.new }
         ensures handed { Handed T.takes taker.old result taker.new }
-        ensures cause { EndHasCause (M.told machine.old).faults (M.told machine.new).faults result }
+        ensures cause { CountsIf (end_has_failed result) (M.told machine.old).faults (M.told machine.new).faults }
         ensures looks { OnlyLooks (M.told machine.old) (M.told machine.new) }
     {
         let mut cursor = match self.open(alloc, scene) {

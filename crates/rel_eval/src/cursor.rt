@@ -1,22 +1,23 @@
-ghost use Rattle.std.specs.Prelude.{◌≡◌, ◌≢◌, ℕ, List, [], Some};
+ghost use Rattle.std.specs.Prelude.{◌≡◌, ◌≢◌, ℕ, List, [], IfOk, Some};
+ghost use Rattle.desk_base.specs.Counts.{CountsIf};
 ghost use Rattle.bf_machine.specs.Views.{OnlyLooks};
 ghost use Rattle.bf_world.specs.declared.key.Key.{Key};
 ghost use Rattle.bf_world.specs.Worlds.{WorldState};
 ghost use Rattle.rel_trace.specs.Steps as steps;
 ghost use Rattle.rel_trace.specs.Trace.{Trace};
 ghost use Rattle.rel_nodes.specs.Steps.{IsStop, has_room};
-ghost use Rattle.rel_eval.specs.Cursors.{AsState, GivesSound, HasCause, Nearer, after_pull, cursor_rest, weight};
+ghost use Rattle.rel_eval.specs.Cursors.{AsState, GivesSound, has_failed, Nearer, after_pull, cursor_rest, weight};
 ghost use Rattle.rel_eval.specs.Cuts.{cut, limit};
-ghost use Rattle.rel_eval.specs.Pulls.{Draws};
+ghost use Rattle.rel_eval.specs.Pulls.{AreAlike, Draws};
 ghost use Rattle.rel_eval.specs.Stops.{IsNotClosed, Meets};
 
-use crate::sound_scene::SoundScene;
 use bf_machine::Machine;
+use rel_inspect::Scene;
 use rel_lexer::Place;
 use rel_nodes::Node;
 use rel_trace::{RelKind, Scope, Step};
 use rel_value::Value;
-use std::alloc::Global;
+use std::alloc::{AllocError, Global};
 
 /// The most looks and turns of one evaluation.
 const LIMIT: u64 = 1_000_000;
@@ -45,6 +46,22 @@ pub enum Pulled {
     Closed,
 }
 
+impl Pulled {
+    /// The same answer once more. The error is want of memory.
+    pub fn copy(&self) -> Result<Pulled, AllocError>
+        ensures { IfOk result (λ copy. AreAlike self.now copy) }
+    {
+        Ok(match self {
+            Pulled::Value(value) => Pulled::Value(value.copy()?),
+            Pulled::End => Pulled::End,
+            Pulled::Error(kind, place) => Pulled::Error(*kind, *place),
+            Pulled::Failed(place) => Pulled::Failed(*place),
+            Pulled::Memory => Pulled::Memory,
+            Pulled::Closed => Pulled::Closed,
+        })
+    }
+}
+
 /// Whether a cursor can go on.
 #[derive(Clone, Copy)]
 pub enum State {
@@ -61,7 +78,7 @@ pub enum State {
 #[derive(Drop)]
 pub struct Cursor {
     node: Node,
-    scene: SoundScene,
+    scene: Scene,
     /// How many looks and turns it may still make.
     budget: u64,
     state: State,
@@ -70,7 +87,7 @@ pub struct Cursor {
 
 impl Cursor {
     /// A cursor over a node that is at its beginning.
-    pub(crate) fn new(alloc: Global, node: Node, scene: SoundScene) -> Cursor
+    pub(crate) fn new(alloc: Global, node: Node, scene: Scene) -> Cursor
         ensures node { result.node ≡ node }
         ensures scene { result.scene ≡ scene }
         ensures budget { result.budget ≡ limit }
@@ -95,7 +112,7 @@ impl Cursor {
         ensures still { self.old.state ≢ State.Open → machine.new ≡ machine.old }
         ensures sound { GivesSound result }
         ensures nearer { Nearer result (weight self.old) (weight self.new) }
-        ensures cause { HasCause (M.told machine.old).faults (M.told machine.new).faults result }
+        ensures cause { CountsIf (has_failed result) (M.told machine.old).faults (M.told machine.new).faults }
         ensures looks { OnlyLooks (M.told machine.old) (M.told machine.new) }
     {
         match self.state {
@@ -104,11 +121,10 @@ impl Cursor {
             State::Erred(kind, place) => return Pulled::Error(kind, place),
             State::Shut => return Pulled::Closed,
         }
-        let kept = &self.scene;
         let budget = &mut self.budget;
         let step = self
             .node
-            .step(self.alloc, &ALONE, &kept.scene, machine, budget);
+            .step(self.alloc, &ALONE, &self.scene, machine, budget);
         let pulled = into_pulled(step, self.budget);
         self.state = pulled.state();
         pulled
@@ -124,7 +140,7 @@ fn into_pulled(step: Step, budget: u64) -> Pulled
     ensures not_closed { IsNotClosed result }
     ensures sound { GivesSound result }
     ensures nearer { (q r : ℕ) → steps.Falls step q r → Nearer result q r }
-    ensures cause { (before now : ℕ) → steps.HasCause before now step → HasCause before now result }
+    ensures failed { has_failed result ≡ steps.has_failed step }
 {
     match step {
         Step::Given(value) => Pulled::Value(value.into_value()),

@@ -1,5 +1,5 @@
-ghost use Rattle.std.specs.Prelude.{◌≡◌, ℕ, true, false, List, [], Some};
-ghost use Rattle.desk_base.specs.Moments.{IsMoment};
+ghost use Rattle.std.specs.Prelude.{◌≡◌, true, false, List, [], Some};
+ghost use Rattle.desk_base.specs.Counts.{CountsIf};
 ghost use Rattle.bf_machine.specs.Views.{OnlyLooks};
 ghost use Rattle.line_forms.specs.Numbers.{IsOffset};
 ghost use Rattle.bf_world.specs.declared.key.Key.{Key};
@@ -11,8 +11,8 @@ ghost use Rattle.rel_types.specs.Plans.{is_plural};
 ghost use Rattle.rel_nodes.specs.Spans.{span_of_node};
 ghost use Rattle.rel_eval.specs.Cuts.{meaning};
 ghost use Rattle.rel_eval.specs.Questions.{plan_of};
-ghost use Rattle.rel_eval.specs.Ones.{OneHasCause, OneIsSound, TellsOne};
-ghost use Rattle.rel_eval.specs.Singles.{TellsText, TextHasCause, Words, one_text_of, worded};
+ghost use Rattle.rel_eval.specs.Ones.{OneIsSound, TellsOne, one_has_failed};
+ghost use Rattle.rel_eval.specs.Singles.{TellsText, Words, one_text_of, text_has_failed, worded};
 
 use crate::one_value::{OneValue, one_value};
 use crate::question::Question;
@@ -32,15 +32,13 @@ pub fn one_text<M: Machine>(
     machine: &mut M,
     scene: &Scene,
 ) -> OneText
-    requires moment { IsMoment scene.now.moment }
-    requires offset { IsOffset scene.now.offset }
     ensures plural { is_plural (plan_of question.now) ≡ true
         → (result ≡ OneText.Error RelKind.NotSingular (span_of_node (plan_of question.now))) × (machine.new ≡ machine.old) }
     ensures words { is_plural (plan_of question.now) ≡ false → (w : WorldState) → (M.told machine.old).world ≡ Some w
         → Words (M.told machine.old).looked
         (one_text_of (span_of_node (plan_of question.now)) scene.now.offset (meaning w scene.now (plan_of question.now))) result
         (M.told machine.new).looked }
-    ensures cause { TextHasCause (M.told machine.old).faults (M.told machine.new).faults result }
+    ensures cause { CountsIf (text_has_failed result) (M.told machine.old).faults (M.told machine.new).faults }
     ensures looks { OnlyLooks (M.told machine.old) (M.told machine.new) }
 {
     let span = question.span();
@@ -61,7 +59,7 @@ fn told(alloc: Global, drawn: OneValue, offset: i64, span: Place) -> OneText
     requires sound { OneIsSound drawn }
     ensures tells { (t : Trace) (looks : List Key) → TellsOne t drawn looks
         → TellsText (each t (worded span offset)) result looks }
-    ensures cause { (before now : ℕ) → OneHasCause before now drawn → TextHasCause before now result }
+    ensures failed { text_has_failed result ≡ one_has_failed drawn }
 {
     match drawn {
         OneValue::Value(value) => worded(alloc, &value, offset, span),
@@ -76,7 +74,7 @@ fn worded(alloc: Global, value: &Value, offset: i64, span: Place) -> OneText
     requires offset { IsOffset offset }
     requires sound { IsSound (shown value.now) }
     ensures tells { TellsText (worded span offset (shown value.now)) result [] }
-    ensures cause { (count : ℕ) → TextHasCause count count result }
+    ensures failed { text_has_failed result ≡ false }
 {
     match text(alloc, value, offset) {
         Ok(text) => OneText::Text(text),

@@ -1,8 +1,7 @@
 // Drawing a question to its end for the one value that it gives.
 ghost use Rattle.std.specs.Prelude.{◌≡◌, Some};
-ghost use Rattle.desk_base.specs.Moments.{IsMoment};
+ghost use Rattle.desk_base.specs.Counts.{CountsIf};
 ghost use Rattle.bf_machine.specs.Views.{OnlyLooks};
-ghost use Rattle.line_forms.specs.Numbers.{IsOffset};
 ghost use Rattle.bf_world.specs.Worlds.{WorldState};
 ghost use Rattle.rel_value.specs.Operands.{IsSound};
 ghost use Rattle.rel_value.specs.Views.{shown};
@@ -11,7 +10,7 @@ ghost use Rattle.rel_nodes.specs.Spans.{span_of_node};
 ghost use Rattle.rel_eval.specs.Cursors.{cursor_rest};
 ghost use Rattle.rel_eval.specs.Cuts.{meaning};
 ghost use Rattle.rel_eval.specs.Questions.{plan_of};
-ghost use Rattle.rel_eval.specs.Ones.{Ones, OneHasCause, OneIsSound};
+ghost use Rattle.rel_eval.specs.Ones.{Ones, OneIsSound, one_has_failed};
 
 use crate::cursor::{Cursor, Pulled};
 use crate::question::Question;
@@ -38,14 +37,12 @@ pub(crate) fn one_value<M: Machine>(
     machine: &mut M,
     scene: &Scene,
 ) -> OneValue
-    requires moment { IsMoment scene.now.moment }
-    requires offset { IsOffset scene.now.offset }
     ensures goes { (w : WorldState) → (M.told machine.old).world ≡ Some w
         → Ones (M.told machine.old).looked
         (single (span_of_node (plan_of question.now)) (meaning w scene.now (plan_of question.now))) result
         (M.told machine.new).looked }
     ensures sound { OneIsSound result }
-    ensures cause { OneHasCause (M.told machine.old).faults (M.told machine.new).faults result }
+    ensures cause { CountsIf (one_has_failed result) (M.told machine.old).faults (M.told machine.new).faults }
     ensures looks { OnlyLooks (M.told machine.old) (M.told machine.new) }
 {
     let span = question.span();
@@ -70,7 +67,7 @@ fn only<M: Machine>(value: Value, cursor: &mut Cursor, span: Place, machine: &mu
         → Ones (M.told machine.old).looked (single_from span (Some (shown value)) (cursor_rest w cursor.old)) result
         (M.told machine.new).looked }
     ensures sound { OneIsSound result }
-    ensures cause { OneHasCause (M.told machine.old).faults (M.told machine.new).faults result }
+    ensures cause { CountsIf (one_has_failed result) (M.told machine.old).faults (M.told machine.new).faults }
     ensures looks { OnlyLooks (M.told machine.old) (M.told machine.new) }
 {
     match cursor.pull(machine) {

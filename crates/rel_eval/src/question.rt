@@ -1,22 +1,20 @@
 ghost use Rattle.std.specs.Prelude.{◌≡◌, IfOk, None};
-ghost use Rattle.desk_base.specs.Moments.{IsMoment};
-ghost use Rattle.line_forms.specs.Numbers.{IsOffset};
 ghost use Rattle.bf_world.specs.Worlds.{WorldState};
+ghost use Rattle.rel_grammar.specs.Views.{shown};
 ghost use Rattle.rel_sources.specs.declared.scene.Scene.{Scene};
 ghost use Rattle.rel_nodes.specs.Meaning.{mean};
 ghost use Rattle.rel_nodes.specs.Nodes.{rest};
 ghost use Rattle.rel_nodes.specs.Spans.{span_of_node};
 ghost use Rattle.rel_types.specs.Views.{shown_node};
 ghost use Rattle.rel_eval.specs.declared.cursor.State.{State};
-ghost use Rattle.rel_eval.specs.Answers.{Prepares};
+ghost use Rattle.rel_eval.specs.Answers.{Prepares, PreparesTree};
 ghost use Rattle.rel_eval.specs.Cursors.{alone, cursor_rest};
 ghost use Rattle.rel_eval.specs.Cuts.{meaning};
 ghost use Rattle.rel_eval.specs.Questions.{plan_of};
 
 use crate::cursor::Cursor;
 use crate::refusal::Refusal;
-use crate::sound_scene::SoundScene;
-use rel_grammar::parse;
+use rel_grammar::{Tree, parse};
 use rel_inspect::Scene;
 use rel_lexer::{Place, tokens};
 use rel_nodes::{Node, begin, span};
@@ -36,7 +34,14 @@ pub fn prepare(alloc: Global, text: &[u8]) -> Result<Question, Refusal>
 {
     let tokens = tokens(alloc, text)?;
     let tree = parse(alloc, &tokens)?;
-    let plan = check(alloc, &tree)?;
+    prepare_tree(alloc, &tree)
+}
+
+/// Prepares a question from any tree. One that isn't well typed is refused with the first fault in the order of checking.
+pub fn prepare_tree(alloc: Global, tree: &Tree) -> Result<Question, Refusal>
+    ensures { PreparesTree (shown tree.now) result }
+{
+    let plan = check(alloc, tree)?;
     Ok(Question { plan })
 }
 
@@ -65,12 +70,10 @@ impl Question {
 
     /// A cursor at the start of what the question gives in a scene. It keeps a copy of the scene.
     pub fn open(&self, alloc: Global, scene: &Scene) -> Result<Cursor, AllocError>
-        requires moment { IsMoment scene.now.moment }
-        requires offset { IsOffset scene.now.offset }
         ensures rest { IfOk result (λ cursor. (w : WorldState) → cursor_rest w cursor ≡ meaning w scene.now (plan_of self.now)) }
         ensures open { IfOk result (λ cursor. cursor.state ≡ State.Open) }
     {
-        let kept = SoundScene::copy_of(scene)?;
+        let kept = scene.copy()?;
         let node = begun(alloc, self.plan.root())?;
         Ok(Cursor::new(alloc, node, kept))
     }

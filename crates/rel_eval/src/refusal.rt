@@ -1,4 +1,4 @@
-ghost use Rattle.std.specs.Prelude.{◌≡◌};
+ghost use Rattle.std.specs.Prelude.{◌≡◌, IfOk};
 ghost use Rattle.rel_eval.specs.Refusals.{located};
 ghost use Rattle.rel_eval.specs.declared.refusal.Refusal.TheVariants.{Memory};
 
@@ -28,6 +28,17 @@ pub struct Located {
 }
 
 impl Refusal {
+    /// The same refusal once more. The error is want of memory.
+    pub fn copy(&self) -> Result<Refusal, AllocError>
+        ensures { IfOk result (λ refusal. refusal ≡ self.now) }
+    {
+        Ok(match self {
+            Refusal::At(kind, place) => Refusal::At(*kind, *place),
+            Refusal::NotDefined(place, words) => Refusal::NotDefined(*place, words.copy()?),
+            Refusal::Memory => Refusal::Memory,
+        })
+    }
+
     /// What it is for and where, without the words that it may have; None for want of memory.
     pub fn located(&self) -> Option<Located>
         ensures { result ≡ located self.now }

@@ -1,5 +1,8 @@
+ghost use Rattle.std.specs.Prelude.{◌≡◌, IfOk};
+
 use rel_lexer::{Place, Text};
 use rel_trace::RelKind;
+use std::alloc::AllocError;
 
 /// What a question is that is asked for a truth.
 #[derive(Clone, Copy)]
@@ -23,4 +26,18 @@ pub enum OneText {
     /// The look at this place failed.
     Failed(Place),
     Memory,
+}
+
+impl OneText {
+    /// The same answer once more. The error is want of memory.
+    pub fn copy(&self) -> Result<OneText, AllocError>
+        ensures { IfOk result (λ told. told ≡ self.now) }
+    {
+        Ok(match self {
+            OneText::Text(text) => OneText::Text(text.copy()?),
+            OneText::Error(kind, place) => OneText::Error(*kind, *place),
+            OneText::Failed(place) => OneText::Failed(*place),
+            OneText::Memory => OneText::Memory,
+        })
+    }
 }

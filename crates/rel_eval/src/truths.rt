@@ -1,7 +1,6 @@
-ghost use Rattle.std.specs.Prelude.{◌≡◌, ℕ, true, false, List, [], Some};
-ghost use Rattle.desk_base.specs.Moments.{IsMoment};
+ghost use Rattle.std.specs.Prelude.{◌≡◌, true, false, List, [], Some};
+ghost use Rattle.desk_base.specs.Counts.{CountsIf};
 ghost use Rattle.bf_machine.specs.Views.{OnlyLooks};
-ghost use Rattle.line_forms.specs.Numbers.{IsOffset};
 ghost use Rattle.bf_world.specs.declared.key.Key.{Key};
 ghost use Rattle.bf_world.specs.Worlds.{WorldState};
 ghost use Rattle.rel_types.specs.Alike.{same_kind};
@@ -12,8 +11,8 @@ ghost use Rattle.rel_trace.specs.Trace.{Trace, each};
 ghost use Rattle.rel_nodes.specs.Spans.{span_of_node};
 ghost use Rattle.rel_eval.specs.Cuts.{meaning};
 ghost use Rattle.rel_eval.specs.Questions.{plan_of};
-ghost use Rattle.rel_eval.specs.Ones.{OneHasCause, TellsOne};
-ghost use Rattle.rel_eval.specs.Singles.{Judges, TellsTruth, TruthHasCause, judged, truth_of};
+ghost use Rattle.rel_eval.specs.Ones.{TellsOne, one_has_failed};
+ghost use Rattle.rel_eval.specs.Singles.{Judges, TellsTruth, judged, truth_has_failed, truth_of};
 
 use crate::one_value::{OneValue, one_value};
 use crate::question::Question;
@@ -32,8 +31,6 @@ pub fn truth<M: Machine>(
     machine: &mut M,
     scene: &Scene,
 ) -> Truth
-    requires moment { IsMoment scene.now.moment }
-    requires offset { IsOffset scene.now.offset }
     ensures plural { is_plural (plan_of question.now) ≡ true
         → (result ≡ Truth.Error RelKind.NotSingular (span_of_node (plan_of question.now))) × (machine.new ≡ machine.old) }
     ensures other { is_plural (plan_of question.now) ≡ false → same_kind (kind_of (plan_of question.now)) booleans ≡ false
@@ -43,7 +40,7 @@ pub fn truth<M: Machine>(
         → Judges (M.told machine.old).looked
         (truth_of (span_of_node (plan_of question.now)) (meaning w scene.now (plan_of question.now))) result
         (M.told machine.new).looked }
-    ensures cause { TruthHasCause (M.told machine.old).faults (M.told machine.new).faults result }
+    ensures cause { CountsIf (truth_has_failed result) (M.told machine.old).faults (M.told machine.new).faults }
     ensures looks { OnlyLooks (M.told machine.old) (M.told machine.new) }
 {
     let span = question.span();
@@ -59,7 +56,7 @@ pub fn truth<M: Machine>(
 /// The truth of what was drawn.
 fn told(drawn: OneValue, span: Place) -> Truth
     ensures tells { (t : Trace) (looks : List Key) → TellsOne t drawn looks → TellsTruth (each t (judged span)) result looks }
-    ensures cause { (before now : ℕ) → OneHasCause before now drawn → TruthHasCause before now result }
+    ensures failed { truth_has_failed result ≡ one_has_failed drawn }
 {
     match drawn {
         OneValue::Value(value) => judged(&value, span),
@@ -72,7 +69,7 @@ fn told(drawn: OneValue, span: Place) -> Truth
 /// The truth of a value. One that is none is Incompatible at the question's span.
 fn judged(value: &Value, span: Place) -> Truth
     ensures tells { TellsTruth (judged span (shown value.now)) result [] }
-    ensures cause { (count : ℕ) → TruthHasCause count count result }
+    ensures failed { truth_has_failed result ≡ false }
 {
     match value {
         Value::Boolean(true) => Truth::True,

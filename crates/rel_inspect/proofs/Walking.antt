@@ -4,6 +4,7 @@ use Rattle.std.specs.declared.option.Option.{Option}
 use Rattle.std.proofs.lemmas.List.{append-nil}
 use Rattle.bf_world.specs.declared.key.Key.{Key}
 use Rattle.bf_world.specs.Worlds.{WorldState}
+use Rattle.desk_base.specs.Counts.{CountsIf}
 use Rattle.bf_machine.specs.Told.{Grows}
 use Rattle.rel_inspect.specs.declared.descent.Ahead.{Ahead}
 use Rattle.rel_inspect.specs.declared.descent.Ahead.TheVariants as ahead
@@ -15,7 +16,7 @@ use Rattle.rel_sources.specs.declared.scene.Scene.{Scene}
 use Rattle.rel_inspect.specs.declared.walk.State.{State}
 use Rattle.rel_inspect.specs.declared.walk.State.TheVariants as state
 use Rattle.rel_sources.specs.Traces.{Trace}
-use Rattle.rel_sources.specs.Steps.{Moves, Goes, IsBeforeLook, HasCause, AsRoom, Steps, StepMoves, StepHasCause, GivesSound, StepGivesSound, IsStep, AsStep}
+use Rattle.rel_sources.specs.Steps.{Moves, Goes, IsBeforeLook, has_failed, AsRoom, Steps, StepMoves, step_has_failed, GivesSound, StepGivesSound, IsStep, AsStep}
 use Rattle.rel_inspect.specs.Descents.{ahead_left, key_of}
 use Rattle.rel_inspect.specs.Left.{state_left, asked}
 
@@ -31,7 +32,7 @@ moves-goes l t t' event.Failed m = absurd m
 moves-goes l t t' event.Memory m = (m, refl)
 
 -- and needs no cause
-pub moves-cause : (n : ℕ) (t t' : Trace) (e : WalkEvent) → Moves t e t' → HasCause n n e
+pub moves-cause : (n : ℕ) (t t' : Trace) (e : WalkEvent) → Moves t e t' → CountsIf (has_failed e) n n
 moves-cause n t t' event.Looked m = absurd m
 moves-cause n t t' event.Turned m = refl
 moves-cause n t t' (event.Given v) m = refl
@@ -118,15 +119,15 @@ event-then l l' t t' event.Full s h is same = absurd is
 event-then l l' t t' event.Failed s h is same = ([], t, refl, grows-from l l' h.2, subst (λ (x : WalkStep). StepMoves t x t') (sym same) (h.0, h.1))
 event-then l l' t t' event.Memory s h is same = plain-step l l' t t' event.Memory s h same
 
-pub cause-as : (a b : ℕ) (e : WalkEvent) (s : WalkStep) → HasCause a b e → IsStep e → AsStep e s → StepHasCause a b s
+pub cause-as : (a b : ℕ) (e : WalkEvent) (s : WalkStep) → CountsIf (has_failed e) a b → IsStep e → AsStep e s → CountsIf (step_has_failed s) a b
 cause-as a b event.Looked s h is same = absurd is
-cause-as a b event.Turned s h is same = subst (StepHasCause a b) (sym same) h
-cause-as a b (event.Given v) s h is same = subst (StepHasCause a b) (sym same) h
-cause-as a b event.Over s h is same = subst (StepHasCause a b) (sym same) h
-cause-as a b event.TextTooLong s h is same = subst (StepHasCause a b) (sym same) h
+cause-as a b event.Turned s h is same = subst (λ (x : WalkStep). CountsIf (step_has_failed x) a b) (sym same) h
+cause-as a b (event.Given v) s h is same = subst (λ (x : WalkStep). CountsIf (step_has_failed x) a b) (sym same) h
+cause-as a b event.Over s h is same = subst (λ (x : WalkStep). CountsIf (step_has_failed x) a b) (sym same) h
+cause-as a b event.TextTooLong s h is same = subst (λ (x : WalkStep). CountsIf (step_has_failed x) a b) (sym same) h
 cause-as a b event.Full s h is same = absurd is
-cause-as a b event.Failed s h is same = subst (StepHasCause a b) (sym same) h
-cause-as a b event.Memory s h is same = subst (StepHasCause a b) (sym same) h
+cause-as a b event.Failed s h is same = subst (λ (x : WalkStep). CountsIf (step_has_failed x) a b) (sym same) h
+cause-as a b event.Memory s h is same = subst (λ (x : WalkStep). CountsIf (step_has_failed x) a b) (sym same) h
 
 pub sound-as : (e : WalkEvent) (s : WalkStep) → GivesSound e → IsStep e → AsStep e s → StepGivesSound s
 sound-as event.Looked s h is same = absurd is
@@ -154,6 +155,6 @@ with-room event.Failed room other = tt
 with-room event.Memory room other = tt
 
 -- a look and then an event that is none need no cause
-pub cause-then : (a b : ℕ) (t t' : Trace) (e : WalkEvent) (s : WalkStep) → b ≡ a → Moves t e t' → AsStep e s → StepHasCause a b s
+pub cause-then : (a b : ℕ) (t t' : Trace) (e : WalkEvent) (s : WalkStep) → b ≡ a → Moves t e t' → AsStep e s → CountsIf (step_has_failed s) a b
 cause-then a b t t' e s same m of_event =
-    cause-as a b e s (subst (λ (n : ℕ). HasCause a n e) (sym same) (moves-cause a t t' e m)) (moves-step t t' e m) of_event
+    cause-as a b e s (subst (λ (n : ℕ). CountsIf (has_failed e) a n) (sym same) (moves-cause a t t' e m)) (moves-step t t' e m) of_event

@@ -25,7 +25,7 @@ use Rattle.rel_sources.specs.Traces.{Item, Present, text_item}
 use Rattle.rel_sources.specs.Scenes.{value_of}
 use Rattle.rel_sources.specs.Words.{text_lines}
 use Rattle.rel_sources.specs.Rows.{item_of, text_item_of, file_item, folder_item, size_item, modified_item, entries_of, entry_items, lines_of, line_item, numbered, digest_item, system_item, name_item, process_items, package_items, setting_items}
-use Rattle.rel_sources.specs.Draws.{item_in, values_in}
+use Rattle.rel_sources.specs.Draws.{item_in, IsSoundItem, values_in}
 
 abbrev pub sought_item : Sought → Scene → Item
 sought_item sought.Now s = Present (time s.moment)
@@ -38,6 +38,11 @@ sought_item (sought.Sha256 content) s = text_item (encode_lower (sha256 content)
 abbrev pub once_item : Once → Scene → Item
 once_item (once_form.Held held) s = item_in held
 once_item (once_form.Sought what) s = sought_item what s
+
+-- A value that is held is sound. What is found is so too.
+abbrev pub IsSoundOnce : Once → Type 0
+IsSoundOnce (once_form.Held held) = IsSoundItem (item_in held)
+IsSoundOnce (once_form.Sought what) = ⊤
 
 -- how many values it may still give
 abbrev pub once_values : Once → ℕ

@@ -2,7 +2,6 @@
 use Rattle.std.specs.Prelude.{◌≡◌, ℕ, All, ⊤}
 use Rattle.std.specs.declared.option.Option.{Option}
 use Rattle.std.specs.declared.option.Option.TheVariants.{Some, None}
-use Rattle.desk_base.specs.Moments.{IsMoment}
 use Rattle.bf_world.specs.declared.key.Key.{Key}
 use Rattle.bf_world.specs.Shown.{shown}
 use Rattle.bf_world.specs.Worlds.{WorldState}
@@ -13,7 +12,7 @@ use Rattle.rel_inspect.specs.declared.walk.Walk.{Walk}
 use Rattle.rel_sources.specs.Traces.{Trace, After, Look, before, once, turns}
 use Rattle.rel_sources.specs.Draws.{item_in, IsSoundItem, values_in}
 use Rattle.rel_sources.specs.Sources.{items_in}
-use Rattle.rel_inspect.specs.Facets.{once_item, once_values, facet_item, listed_items}
+use Rattle.rel_inspect.specs.Facets.{IsSoundOnce, once_item, once_values, facet_item, listed_items}
 use Rattle.rel_inspect.specs.Descents.{descent_left, asked_below, files_ahead}
 
 abbrev pub state_left : State → WorldState → Scene → Trace
@@ -41,7 +40,7 @@ values_ahead walk = state_values walk.state
 abbrev pub IsSoundState : State → Type 0
 IsSoundState (state.LooksAt key facet) = ⊤
 IsSoundState (state.Lists key listing) = ⊤
-IsSoundState (state.Once o) = (s : Scene) → IsMoment s.moment → IsSoundItem (once_item o s)
+IsSoundState (state.Once o) = IsSoundOnce o
 IsSoundState (state.Turns t) = IsSoundItem (item_in t.held) × All IsSoundItem (items_in t.source)
 IsSoundState (state.Descends d) = ⊤
 

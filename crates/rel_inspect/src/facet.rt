@@ -1,12 +1,11 @@
 ghost use Rattle.std.specs.Prelude.{◌≡◌};
-ghost use Rattle.desk_base.specs.Moments.{IsMoment};
 ghost use Rattle.bf_world.specs.Answers.{IsGoodAnswer};
 ghost use Rattle.sha1.specs.Sha1.{sha1};
 ghost use Rattle.sha2.specs.Sha256.{sha256};
 ghost use Rattle.rel_sources.specs.declared.scene.Scene.{Scene};
 ghost use Rattle.rel_sources.specs.Draws.{item_in, IsSoundItem};
 ghost use Rattle.rel_sources.specs.Rows.{file_item, folder_item, size_item, modified_item, system_item, name_item, digest_item, lines_of, numbered, text_item_of};
-ghost use Rattle.rel_inspect.specs.Facets.{once_item, facet_item};
+ghost use Rattle.rel_inspect.specs.Facets.{IsSoundOnce, once_item, facet_item};
 
 use crate::once::{Once, Sought};
 use bf_world::Answer;
@@ -36,7 +35,7 @@ impl Facet {
     pub(crate) fn of(self, answer: Answer) -> Once
         requires { IsGoodAnswer answer }
         ensures item { (s : Scene) → once_item result s ≡ facet_item self answer }
-        ensures sound { (s : Scene) → IsMoment s.moment → IsSoundItem (once_item result s) }
+        ensures sound { IsSoundOnce result }
     {
         match self {
             Facet::File(path) => Once::Held(file_held(path, answer)),
@@ -118,7 +117,7 @@ fn name_held(answer: Answer) -> HeldItem
 
 fn line_once(number: i64, answer: Answer) -> Once
     ensures item { (s : Scene) → once_item result s ≡ text_item_of (numbered number (lines_of answer)) }
-    ensures sound { (s : Scene) → IsSoundItem (once_item result s) }
+    ensures sound { IsSoundOnce result }
 {
     match answer {
         Answer::Content(content) => Once::Sought(Sought::LineAt { number, content }),
@@ -128,7 +127,7 @@ fn line_once(number: i64, answer: Answer) -> Once
 
 fn sha1_once(answer: Answer) -> Once
     ensures item { (s : Scene) → once_item result s ≡ digest_item sha1 answer }
-    ensures sound { (s : Scene) → IsSoundItem (once_item result s) }
+    ensures sound { IsSoundOnce result }
 {
     match answer {
         Answer::Content(content) => Once::Sought(Sought::Sha1(content)),
@@ -138,7 +137,7 @@ fn sha1_once(answer: Answer) -> Once
 
 fn sha256_once(answer: Answer) -> Once
     ensures item { (s : Scene) → once_item result s ≡ digest_item sha256 answer }
-    ensures sound { (s : Scene) → IsSoundItem (once_item result s) }
+    ensures sound { IsSoundOnce result }
 {
     match answer {
         Answer::Content(content) => Once::Sought(Sought::Sha256(content)),

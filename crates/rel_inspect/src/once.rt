@@ -2,7 +2,7 @@ ghost use Rattle.std.specs.Prelude.{◌≡◌, IfOk};
 ghost use Rattle.hex.specs.Hex.{encode_lower};
 ghost use Rattle.rel_sources.specs.Traces.{once, text_item};
 ghost use Rattle.rel_sources.specs.Draws.{item_in, IsSoundItem, values_in};
-ghost use Rattle.rel_inspect.specs.Facets.{sought_item, once_item, once_values};
+ghost use Rattle.rel_inspect.specs.Facets.{IsSoundOnce, sought_item, once_item, once_values};
 ghost use Rattle.rel_sources.specs.Steps.{Moves, Falls, GivesSound};
 
 use desk_base::Bytes;
@@ -38,10 +38,10 @@ pub(crate) enum Sought {
 
 impl Once {
     pub(crate) fn step(&mut self, alloc: Global, scene: &Scene) -> WalkEvent
-        requires { IsSoundItem (once_item self.old scene.now) }
+        requires { IsSoundOnce self.old }
         ensures moves { Moves (once (once_item self.old scene.now)) result (once (once_item self.new scene.now)) }
         ensures falls { Falls result (once_values self.old) (once_values self.new) }
-        ensures sound { IsSoundItem (once_item self.new scene.now) }
+        ensures sound { IsSoundOnce self.new }
         ensures gives_sound { GivesSound result }
     {
         match self {
@@ -75,7 +75,8 @@ fn given_or_over(held: &mut HeldItem) -> WalkEvent
 
 impl Sought {
     fn find(&self, alloc: Global, scene: &Scene) -> Result<HeldItem, AllocError>
-        ensures { IfOk result (λ held. item_in held ≡ sought_item self.now scene.now) }
+        ensures item { IfOk result (λ held. item_in held ≡ sought_item self.now scene.now) }
+        ensures sound { IfOk result (λ held. IsSoundItem (item_in held)) }
     {
         match self {
             Sought::Now => Ok(HeldItem::Value(Value::Time(scene.moment))),
@@ -101,7 +102,8 @@ impl Sought {
 
 /// A digest in hexadecimal digits.
 fn hexadecimal(alloc: Global, digest: &[u8]) -> Result<HeldItem, AllocError>
-    ensures { IfOk result (λ held. item_in held ≡ text_item (encode_lower digest.now)) }
+    ensures item { IfOk result (λ held. item_in held ≡ text_item (encode_lower digest.now)) }
+    ensures sound { IfOk result (λ held. IsSoundItem (item_in held)) }
 {
     let digits = hex::encode(alloc, digest)?;
     Ok(HeldItem::text(Text::from_str(alloc, digits.as_str())?))

@@ -2,14 +2,14 @@ ghost use Rattle.std.specs.Prelude.{◌≡◌, Some, None};
 ghost use Rattle.std.specs.Option.{option_copied};
 ghost use Rattle.bf_world.specs.declared.key.Key.{Key};
 ghost use Rattle.rel_sources.specs.declared.scene.Scene.{Scene};
-ghost use Rattle.desk_base.specs.Moments.{IsMoment};
+ghost use Rattle.desk_base.specs.Counts.{CountsIf};
 ghost use Rattle.bf_machine.specs.Views.{OnlyLooks};
 ghost use Rattle.bf_world.specs.Answers.{IsGoodAnswer};
 ghost use Rattle.bf_world.specs.Shown.{shown};
 ghost use Rattle.bf_world.specs.Worlds.{WorldState};
 ghost use Rattle.rel_sources.specs.declared.event.WalkEvent.TheVariants as event;
 ghost use Rattle.rel_sources.specs.Traces.{After, Look};
-ghost use Rattle.rel_sources.specs.Steps.{Moves, Goes, Steps, HasCause, StepHasCause, AsRoom, Falls, GivesSound, StepGivesSound};
+ghost use Rattle.rel_sources.specs.Steps.{Moves, Goes, Steps, has_failed, step_has_failed, AsRoom, Falls, GivesSound, StepGivesSound};
 ghost use Rattle.rel_inspect.specs.Left.{state_left, left, state_values, values_ahead, asked, IsSoundState, IsSoundWalk};
 
 use crate::descent::Descent;
@@ -59,10 +59,9 @@ impl Walk {
         room: bool,
     ) -> WalkEvent
         requires walk { IsSoundWalk self.old }
-        requires moment { IsMoment scene.now.moment }
         ensures goes { (w : WorldState) → (M.told machine.old).world ≡ Some w
             → Goes (M.told machine.old).looked (left self.old w scene.now) result (M.told machine.new).looked (left self.new w scene.now) }
-        ensures cause { HasCause (M.told machine.old).faults (M.told machine.new).faults result }
+        ensures cause { CountsIf (has_failed result) (M.told machine.old).faults (M.told machine.new).faults }
         ensures room { AsRoom room result }
         ensures falls { Falls result (values_ahead self.old) (values_ahead self.new) }
         ensures looks { OnlyLooks (M.told machine.old) (M.told machine.new) }
@@ -89,10 +88,9 @@ impl Walk {
     /// The next event that is no look. A look that comes before it is made.
     pub fn step<M: Machine>(&mut self, machine: &mut M, scene: &Scene) -> WalkStep
         requires walk { IsSoundWalk self.old }
-        requires moment { IsMoment scene.now.moment }
         ensures goes { (w : WorldState) → (M.told machine.old).world ≡ Some w
             → Steps (M.told machine.old).looked (left self.old w scene.now) result (M.told machine.new).looked (left self.new w scene.now) }
-        ensures cause { StepHasCause (M.told machine.old).faults (M.told machine.new).faults result }
+        ensures cause { CountsIf (step_has_failed result) (M.told machine.old).faults (M.told machine.new).faults }
         ensures looks { OnlyLooks (M.told machine.old) (M.told machine.new) }
         ensures walk { IsSoundWalk self.new }
         ensures sound { StepGivesSound result }
@@ -154,7 +152,6 @@ impl State {
     fn go(&mut self, alloc: Global, scene: &Scene) -> WalkEvent
         requires asks { asked self.old ≡ None }
         requires sound { IsSoundState self.old }
-        requires moment { IsMoment scene.now.moment }
         ensures moves { (w : WorldState) → Moves (state_left self.old w scene.now) result (state_left self.new w scene.now) }
         ensures falls { Falls result (state_values self.old) (state_values self.new) }
         ensures sound { IsSoundState self.new }

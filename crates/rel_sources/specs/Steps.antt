@@ -1,7 +1,6 @@
 -- One event of what gives a trace, and one step of a walk.
 use Rattle.std.specs.Prelude.{◌≡◌, ℕ, ◌<◌, Bool, true, false, List, [], ◌∷◌, ⊤}
 use Rattle.std.specs.declared.option.Option.{Option}
-use Rattle.desk_base.specs.Counts.{Rose}
 use Rattle.bf_world.specs.declared.key.Key.{Key}
 use Rattle.bf_machine.specs.Told.{Grows}
 use Rattle.rel_value.specs.Operands.{IsSound}
@@ -33,10 +32,10 @@ Goes l t event.Full l' t' = IsBeforeLook t × (t' ≡ t) × (l' ≡ l)
 Goes l t event.Failed l' t' = IsBeforeLook t × (t' ≡ t) × (l' ≡ l)
 Goes l t e l' t' = Moves t e t' × (l' ≡ l)
 
--- A look fails only where the count of faults went up, and else the count stays.
-abbrev pub HasCause : ℕ → ℕ → WalkEvent → Type 0
-HasCause old new event.Failed = Rose old new
-HasCause old new _ = new ≡ old
+-- a look failed
+abbrev pub has_failed : WalkEvent → Bool
+has_failed event.Failed = true
+has_failed _ = false
 
 -- A look is made, or fails, only where there is room for it, and lacks room only where there is none.
 abbrev pub AsRoom : Bool → WalkEvent → Type 0
@@ -73,9 +72,9 @@ StepMoves t step.Memory t' = ⊤
 abbrev pub Steps : Option (List Key) → Trace → WalkStep → Option (List Key) → Trace → Type 0
 Steps l t s l' t' = (keys : List Key) × (u : Trace) × (t ≡ after_looks keys u) × Grows l l' keys × StepMoves u s t'
 
-abbrev pub StepHasCause : ℕ → ℕ → WalkStep → Type 0
-StepHasCause old new step.Failed = Rose old new
-StepHasCause old new _ = new ≡ old
+abbrev pub step_has_failed : WalkStep → Bool
+step_has_failed step.Failed = true
+step_has_failed _ = false
 
 abbrev pub StepGivesSound : WalkStep → Type 0
 StepGivesSound (step.Give v) = IsSound (shown v)

@@ -66,5 +66,5 @@ machine_fault_counted at script given settled old n new run h =
     counted (comes_count at old (after script given settled) a.results a.between n later a.comes is)
   where
     counted : (faults_in h.advances.results ≢ 0) ⊎ ((after script given settled []).next ≡ Fails n MachineFault) → Rose old.faults new.faults ⊎ (next script given settled ≡ Fails n MachineFault)
-    counted (inl some) = inl (some_rose (faults_in h.advances.results) old.faults new.faults some h.advances.faults)
+    counted (inl some) = inl (some_rose (faults_in h.advances.results) old.faults new.faults some h.advances.faults.rose)
     counted (inr before) = inr (ap (λ l. (standing script given l).next) (sym (append-nil settled)) ∙ before)

@@ -1,13 +1,13 @@
 -- How steps make an advance, and what its results leave on the machine.
-use Rattle.std.proofs.Common.{◌≡◌, ℕ, ◌+◌, ◌≤◌, ℤ, false, List, [], ◌∷◌, refl, sym, ap, subst, ◌∙◌, append_assoc, ◌⊎◌, inl, inr, Option, Some, None, arith}
+use Rattle.std.proofs.Common.{◌≡◌, ℕ, ◌≤◌, ℤ, false, List, [], ◌∷◌, refl, sym, ap, subst, ◌∙◌, append_assoc, ◌⊎◌, inl, inr, Option, Some, None, arith}
 use Rattle.bf_world.specs.declared.command.Command.{Command}
 use Rattle.bf_world.specs.declared.command.Acted.{Acted}
 use Rattle.bf_world.specs.declared.command.Acted.TheVariants as of_act
 use Rattle.bf_world.specs.declared.command.Polled.{Polled}
 use Rattle.bf_world.specs.declared.command.Polled.TheVariants as of_poll
 use Rattle.bf_machine.specs.Told.{Grows}
-use Rattle.bf_machine.specs.Rises.{RoseBy}
-use Rattle.bf_machine.proofs.Telling.{Grows-nil, Grows-trans, RoseBy-more, RoseBy-none, later-RoseBy}
+use Rattle.bf_machine.specs.Rises.{CountsFailed}
+use Rattle.bf_machine.proofs.Telling.{CountsFailed-more, CountsFailed-none, CountsFailed-one, Grows-nil, Grows-trans, later-RoseBy}
 use Rattle.bf_machine.specs.Views.{MachineView}
 use Rattle.bf_machine.specs.Acts.{ActsOn}
 use Rattle.bf_machine.specs.Polls.{PollsOn}
@@ -60,90 +60,87 @@ come_grows P at old f (result ∷ results) new (p, (between, s, rest)) =
     (settled_grows at (f []).known (f []).next old result between s)
     (come_grows P at between (λ more. f (result ∷ more)) results new rest)
 
-said_rose : (answer : OneText) (scene : Scene) (text : List ℕ) (old new : MachineView) → SaysOn scene text old answer new → RoseBy (fault_in (said answer)) old.faults new.faults
-said_rose (one_text.Text t) scene text old new h = RoseBy-none old.faults new.faults h.only.later
-said_rose (one_text.Error kind place) scene text old new h = RoseBy-none old.faults new.faults h.only.later
-said_rose (one_text.Failed place) scene text old new h = h.cause
-said_rose one_text.Memory scene text old new h = RoseBy-none old.faults new.faults h.only.later
+said_counted : (answer : OneText) (scene : Scene) (text : List ℕ) (old new : MachineView) → SaysOn scene text old answer new → CountsFailed (fault_in (said answer)) old.faults new.faults
+said_counted (one_text.Text t) scene text old new h = CountsFailed-none old.faults new.faults h.cause
+said_counted (one_text.Error kind place) scene text old new h = CountsFailed-none old.faults new.faults h.cause
+said_counted (one_text.Failed place) scene text old new h = CountsFailed-one old.faults new.faults h.cause
+said_counted one_text.Memory scene text old new h = CountsFailed-none old.faults new.faults h.cause
 
-judged_rose : (answer : Truth) (scene : Scene) (text : List ℕ) (old new : MachineView) → JudgesOn scene text old answer new → RoseBy (fault_in (judged answer)) old.faults new.faults
-judged_rose truth.True scene text old new h = RoseBy-none old.faults new.faults h.only.later
-judged_rose truth.False scene text old new h = RoseBy-none old.faults new.faults h.only.later
-judged_rose (truth.Error kind place) scene text old new h = RoseBy-none old.faults new.faults h.only.later
-judged_rose (truth.Failed place) scene text old new h = h.cause
-judged_rose truth.Memory scene text old new h = RoseBy-none old.faults new.faults h.only.later
+judged_counted : (answer : Truth) (scene : Scene) (text : List ℕ) (old new : MachineView) → JudgesOn scene text old answer new → CountsFailed (fault_in (judged answer)) old.faults new.faults
+judged_counted truth.True scene text old new h = CountsFailed-none old.faults new.faults h.cause
+judged_counted truth.False scene text old new h = CountsFailed-none old.faults new.faults h.cause
+judged_counted (truth.Error kind place) scene text old new h = CountsFailed-none old.faults new.faults h.cause
+judged_counted (truth.Failed place) scene text old new h = CountsFailed-one old.faults new.faults h.cause
+judged_counted truth.Memory scene text old new h = CountsFailed-none old.faults new.faults h.cause
 
-steady_rose : (old new : ℕ) → new ≡ old → RoseBy 0 old new
-steady_rose old new e = RoseBy-none old new (omega arith)
+acted_counted : (answer : Acted) (moment : ℤ) (command : Command) (old new : MachineView) → ActsOn moment command old answer new → CountsFailed (fault_in (acted answer)) old.faults new.faults
+acted_counted of_act.Done moment command old new h = CountsFailed-none old.faults new.faults (h.counts.steady (λ e. absurd (cc)))
+acted_counted (of_act.Started process) moment command old new h = CountsFailed-none old.faults new.faults (h.counts.steady (λ e. absurd (cc)))
+acted_counted (of_act.Refused reason) moment command old new h = CountsFailed-none old.faults new.faults (h.counts.steady (λ e. absurd (cc)))
+acted_counted of_act.Failed moment command old new h = CountsFailed-one old.faults new.faults (h.counts.rose refl)
+acted_counted of_act.Memory moment command old new h = CountsFailed-none old.faults new.faults (h.counts.steady (λ e. absurd (cc)))
 
-acted_rose : (answer : Acted) (moment : ℤ) (command : Command) (old new : MachineView) → ActsOn moment command old answer new → RoseBy (fault_in (acted answer)) old.faults new.faults
-acted_rose of_act.Done moment command old new h = steady_rose old.faults new.faults (h.counts.steady (λ e. absurd (cc)))
-acted_rose (of_act.Started process) moment command old new h = steady_rose old.faults new.faults (h.counts.steady (λ e. absurd (cc)))
-acted_rose (of_act.Refused reason) moment command old new h = steady_rose old.faults new.faults (h.counts.steady (λ e. absurd (cc)))
-acted_rose of_act.Failed moment command old new h = h.counts.rose refl
-acted_rose of_act.Memory moment command old new h = steady_rose old.faults new.faults (h.counts.steady (λ e. absurd (cc)))
+polled_counted : (answer : Polled) (process : ℕ) (old new : MachineView) → PollsOn process old answer new → CountsFailed (fault_in (polled answer)) old.faults new.faults
+polled_counted of_poll.Running process old new h = CountsFailed-none old.faults new.faults (h.counts.steady (λ e. absurd (cc)))
+polled_counted (of_poll.Exited code) process old new h = CountsFailed-none old.faults new.faults (h.counts.steady (λ e. absurd (cc)))
+polled_counted of_poll.Failed process old new h = CountsFailed-one old.faults new.faults (h.counts.rose refl)
 
-polled_rose : (answer : Polled) (process : ℕ) (old new : MachineView) → PollsOn process old answer new → RoseBy (fault_in (polled answer)) old.faults new.faults
-polled_rose of_poll.Running process old new h = steady_rose old.faults new.faults (h.counts.steady (λ e. absurd (cc)))
-polled_rose (of_poll.Exited code) process old new h = steady_rose old.faults new.faults (h.counts.steady (λ e. absurd (cc)))
-polled_rose of_poll.Failed process old new h = h.counts.rose refl
+settled_counted : (at : When) (known : Known) (next : Next) (old : MachineView) (result : Settled) (new : MachineView) →
+    Settles at known next old result new → CountsFailed (fault_in result) old.faults new.faults
+settled_counted at known (Says line midway text) old (said answer) new h = said_counted answer _ text old new h.1
+settled_counted at known (Tests line text) old (judged answer) new h = judged_counted answer _ text old new h.1
+settled_counted at known (Pauses line text) old (judged answer) new h = judged_counted answer _ text old new h.2
+settled_counted at known (Does line midway command) old (acted answer) new h = acted_counted answer at.moment command old new h.1
+settled_counted at known (Polls line process) old (polled answer) new h = polled_counted answer process old new h.1
+settled_counted at known next old result new h = absurd h
 
-settled_rose : (at : When) (known : Known) (next : Next) (old : MachineView) (result : Settled) (new : MachineView) →
-    Settles at known next old result new → RoseBy (fault_in result) old.faults new.faults
-settled_rose at known (Says line midway text) old (said answer) new h = said_rose answer _ text old new h.1
-settled_rose at known (Tests line text) old (judged answer) new h = judged_rose answer _ text old new h.1
-settled_rose at known (Pauses line text) old (judged answer) new h = judged_rose answer _ text old new h.2
-settled_rose at known (Does line midway command) old (acted answer) new h = acted_rose answer at.moment command old new h.1
-settled_rose at known (Polls line process) old (polled answer) new h = polled_rose answer process old new h.1
-settled_rose at known next old result new h = absurd h
-
-come_rose : (P : Next → Settled → Type 0) (at : When) (old : MachineView) (f : Walk) (results : List Settled) (new : MachineView) →
-    Comes P at old f results new → RoseBy (faults_in results) old.faults new.faults
-come_rose P at old f [] new e = steady_rose old.faults new.faults (ap (λ (v : MachineView). v.faults) e)
-come_rose P at old f (result ∷ results) new (p, (between, s, rest)) =
-    RoseBy-more (fault_in result) (faults_in results) old.faults between.faults new.faults
-    (settled_rose at (f []).known (f []).next old result between s)
-    (come_rose P at between (λ more. f (result ∷ more)) results new rest)
+come_counted : (P : Next → Settled → Type 0) (at : When) (old : MachineView) (f : Walk) (results : List Settled) (new : MachineView) →
+    Comes P at old f results new → CountsFailed (faults_in results) old.faults new.faults
+come_counted P at old f [] new e = CountsFailed-none old.faults new.faults (ap (λ (v : MachineView). v.faults) e)
+come_counted P at old f (result ∷ results) new (p, (between, s, rest)) =
+    CountsFailed-more (fault_in result) (faults_in results) old.faults between.faults new.faults
+    (settled_counted at (f []).known (f []).next old result between s)
+    (come_counted P at between (λ more. f (result ∷ more)) results new rest)
 
 -- texts alone leave what was done
 text_keeps : (at : When) (line : ℕ) (known : Known) (next : Next) (old : MachineView) (result : Settled) (new : MachineView) →
-    IsTextOf line next result → Settles at known next old result new → (new.acted ≡ old.acted) × RoseBy 0 old.faults new.faults
-text_keeps at line known (Says own midway text) old (said (one_text.Text words)) new p h = (h.1.only.acted, RoseBy-none old.faults new.faults h.1.only.later)
+    IsTextOf line next result → Settles at known next old result new → (new.acted ≡ old.acted) × (new.faults ≡ old.faults)
+text_keeps at line known (Says own midway text) old (said (one_text.Text words)) new p h = (h.1.only.acted, h.1.cause)
 text_keeps at line known next old result new p h = absurd p
 
 texts_keep : (at : When) (line : ℕ) (old : MachineView) (f : Walk) (results : List Settled) (new : MachineView) →
-    Comes (IsTextOf line) at old f results new → (new.acted ≡ old.acted) × RoseBy 0 old.faults new.faults
-texts_keep at line old f [] new e = (ap (λ (v : MachineView). v.acted) e, steady_rose old.faults new.faults (ap (λ (v : MachineView). v.faults) e))
+    Comes (IsTextOf line) at old f results new → (new.acted ≡ old.acted) × (new.faults ≡ old.faults)
+texts_keep at line old f [] new e = (ap (λ (v : MachineView). v.acted) e, ap (λ (v : MachineView). v.faults) e)
 texts_keep at line old f (result ∷ results) new (p, (between, s, rest)) =
     let a = text_keeps at line (f []).known (f []).next old result between p s in
     let b = texts_keep at line between (λ more. f (result ∷ more)) results new rest in
-    (b.0 ∙ a.0, RoseBy-more 0 0 old.faults between.faults new.faults a.1 b.1)
+    (b.0 ∙ a.0, b.1 ∙ a.1)
 
-starving_keeps : (at : When) (line : ℕ) (known : Known) (next : Next) (old new : MachineView) → StarvesAsking at line known next old new → (new.acted ≡ old.acted) × RoseBy 0 old.faults new.faults
-starving_keeps at line known (Says own midway text) old new h = (h.1.only.acted, RoseBy-none old.faults new.faults h.1.only.later)
-starving_keeps at line known (Tests own text) old new h = (h.1.only.acted, RoseBy-none old.faults new.faults h.1.only.later)
-starving_keeps at line known (Pauses own text) old new h = (h.1.only.acted, RoseBy-none old.faults new.faults h.1.only.later)
+starving_keeps : (at : When) (line : ℕ) (known : Known) (next : Next) (old new : MachineView) → StarvesAsking at line known next old new → (new.acted ≡ old.acted) × (new.faults ≡ old.faults)
+starving_keeps at line known (Says own midway text) old new h = (h.1.only.acted, h.1.cause)
+starving_keeps at line known (Tests own text) old new h = (h.1.only.acted, h.1.cause)
+starving_keeps at line known (Pauses own text) old new h = (h.1.only.acted, h.1.cause)
 starving_keeps at line known next old new h = absurd h
 
-breaks_keep : (at : When) (line : ℕ) (known : Known) (next : Next) (old new : MachineView) → (new ≡ old) ⊎ StarvesAsking at line known next old new → (new.acted ≡ old.acted) × RoseBy 0 old.faults new.faults
-breaks_keep at line known next old new (inl e) = (ap (λ (v : MachineView). v.acted) e, steady_rose old.faults new.faults (ap (λ (v : MachineView). v.faults) e))
+breaks_keep : (at : When) (line : ℕ) (known : Known) (next : Next) (old new : MachineView) → (new ≡ old) ⊎ StarvesAsking at line known next old new → (new.acted ≡ old.acted) × (new.faults ≡ old.faults)
+breaks_keep at line known next old new (inl e) = (ap (λ (v : MachineView). v.acted) e, ap (λ (v : MachineView). v.faults) e)
 breaks_keep at line known next old new (inr h) = starving_keeps at line known next old new h
 
-starve_keeps : (at : When) (line : ℕ) (old : MachineView) (f : Walk) (new : MachineView) → Starves at line old f new → (new.acted ≡ old.acted) × RoseBy 0 old.faults new.faults
+starve_keeps : (at : When) (line : ℕ) (old : MachineView) (f : Walk) (new : MachineView) → Starves at line old f new → (new.acted ≡ old.acted) × (new.faults ≡ old.faults)
 starve_keeps at line old f new h =
     let a = texts_keep at line old f h.texts h.between h.comes in
     let b = breaks_keep at line (f h.texts).known (f h.texts).next h.between new h.breaks in
-    (b.0 ∙ a.0, RoseBy-more 0 0 old.faults h.between.faults new.faults a.1 b.1)
+    (b.0 ∙ a.0, b.1 ∙ a.1)
 
-held_keeps : (at : When) (known : Known) (next : Next) (line : ℕ) (old new : MachineView) → Holds at known next line old new → (new.acted ≡ old.acted) × RoseBy 0 old.faults new.faults
-held_keeps at known (Pauses own text) line old new h = (h.1.only.acted, RoseBy-none old.faults new.faults h.1.only.later)
-held_keeps at known (Polls own process) line old new h = (h.1.acted, steady_rose old.faults new.faults (h.1.counts.steady (λ e. absurd (cc))))
+held_keeps : (at : When) (known : Known) (next : Next) (line : ℕ) (old new : MachineView) → Holds at known next line old new → (new.acted ≡ old.acted) × (new.faults ≡ old.faults)
+held_keeps at known (Pauses own text) line old new h = (h.1.only.acted, h.1.cause)
+held_keeps at known (Polls own process) line old new h = (h.1.acted, h.1.counts.steady (λ e. absurd (cc)))
 held_keeps at known next line old new h = absurd h
 
-same_keeps : (old new : MachineView) → new ≡ old → (new.acted ≡ old.acted) × RoseBy 0 old.faults new.faults
-same_keeps old new e = (ap (λ (v : MachineView). v.acted) e, steady_rose old.faults new.faults (ap (λ (v : MachineView). v.faults) e))
+same_keeps : (old new : MachineView) → new ≡ old → (new.acted ≡ old.acted) × (new.faults ≡ old.faults)
+same_keeps old new e = (ap (λ (v : MachineView). v.acted) e, ap (λ (v : MachineView). v.faults) e)
 
-stop_keeps : (at : When) (old : MachineView) (f : Walk) (r : Ran) (new : MachineView) → Stops at old f r new → (new.acted ≡ old.acted) × RoseBy 0 old.faults new.faults
+stop_keeps : (at : When) (old : MachineView) (f : Walk) (r : Ran) (new : MachineView) → Stops at old f r new → (new.acted ≡ old.acted) × (new.faults ≡ old.faults)
 stop_keeps at old f (ran.Held line) new h = held_keeps at (f []).known (f []).next line old new h
 stop_keeps at old f (ran.Wants line digest) new h = same_keeps old new h.1
 stop_keeps at old f ran.Done new h = same_keeps old new h.1
@@ -205,8 +202,8 @@ round_stops old mid new before between after result r some time started a unmove
 -- the count of faults never falls
 pub stop_later : (at : When) (old : MachineView) (f : Walk) (r : Ran) (new : MachineView) (left : Walk) → StepsTo at old f (Some r) new left → old.faults ≤ new.faults
 stop_later at old f r new left h =
-    let a : old.faults ≤ h.0.faults = later-RoseBy (faults_in h.1.results) old.faults h.0.faults (come_rose Any at old f h.1.results h.0 h.1.comes) in
-    let b : h.0.faults ≤ new.faults = later-RoseBy 0 h.0.faults new.faults (stop_keeps at h.0 left r new h.2).1 in
+    let a : old.faults ≤ h.0.faults = later-RoseBy (faults_in h.1.results) old.faults h.0.faults (come_counted Any at old f h.1.results h.0 h.1.comes).rose in
+    let b : new.faults ≡ h.0.faults = (stop_keeps at h.0 left r new h.2).1 in
     omega (arith, a, b)
 
 -- where memory ran out nothing of the line at hand is settled
@@ -221,15 +218,14 @@ advances_by at old e f r new g stood h before =
     let S : Walk → Type 0 = λ w. Stops at h.0 w r new in
     let kept = stop_keeps at h.0 g r new h.2 in
     let G : Option (List Command) → Type 0 = λ l. Grows old.acted l (commands_in e reach.results) in
-    let R : ℕ → Type 0 = λ n. RoseBy n old.faults new.faults in
-    let none : faults_in reach.results + 0 ≡ faults_in reach.results = omega arith in
+    let F : ℕ → Type 0 = λ count. CountsFailed (faults_in reach.results) old.faults count in
     record {
       results = reach.results;
       between = h.0;
       comes = reach.comes;
       stops = subst S (λ i more. sym (reach.same more) i) h.2;
       same = λ more. sym (reach.same more);
-      faults = subst R none (RoseBy-more (faults_in reach.results) 0 old.faults h.0.faults new.faults (come_rose Any at old e reach.results h.0 reach.comes) kept.1);
+      faults = subst F (sym kept.1) (come_counted Any at old e reach.results h.0 reach.comes);
       before = before;
       commands = subst G (sym kept.0) (come_grows Any at old e reach.results h.0 reach.comes);
     }

@@ -1,7 +1,7 @@
 -- What an advance does.
 use Rattle.std.specs.Prelude.{◌≡◌, ℕ, false, List, [], ◌++◌, Option, Some, None}
 use Rattle.bf_machine.specs.Told.{Grows}
-use Rattle.bf_machine.specs.Rises.{RoseBy}
+use Rattle.bf_machine.specs.Rises.{CountsFailed}
 use Rattle.bf_machine.specs.Views.{MachineView}
 use Rattle.rel_sources.specs.declared.pair.Pair.{Pair}
 use Rattle.script_text.specs.Scripts.{PlainScript}
@@ -22,7 +22,7 @@ pub record Advances (at : When) (old : MachineView) (walk : Walk) (answer : Ran)
   pub comes : Comes Any at old walk results between
   pub stops : Stops at between (λ more. walk (results ++ more)) answer new
   pub same : (more : List Settled) → left more ≡ walk (results ++ more)
-  pub faults : RoseBy (faults_in results) old.faults new.faults
+  pub faults : CountsFailed (faults_in results) old.faults new.faults
   -- memory ran out before a line of which nothing is settled, and that hasn't failed for a cause that comes of a result alone
   pub before : answer ≡ ran.Memory → is_midway (left []).next ≡ false
   pub commands : Grows old.acted new.acted (commands_in walk results)

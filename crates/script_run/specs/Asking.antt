@@ -4,6 +4,7 @@ use Rattle.std.specs.declared.option.Option.{Option}
 use Rattle.rel_value.specs.Plain.{booleans}
 use Rattle.bf_world.specs.declared.key.Key.{Key}
 use Rattle.bf_world.specs.Worlds.{WorldState}
+use Rattle.desk_base.specs.Counts.{CountsIf}
 use Rattle.bf_machine.specs.Views.{MachineView, OnlyLooks}
 use Rattle.rel_sources.specs.declared.scene.Scene.{Scene}
 use Rattle.rel_types.specs.Plans.{PlainNode, is_plural, kind_of}
@@ -16,7 +17,7 @@ use Rattle.rel_eval.specs.declared.told.Truth.{Truth}
 use Rattle.rel_eval.specs.declared.told.Truth.TheVariants as truth
 use Rattle.rel_eval.specs.Cuts.{meaning}
 use Rattle.rel_eval.specs.Questions.{Reading, question, refused, undefined, Reads}
-use Rattle.rel_eval.specs.Singles.{Words, Judges, one_text_of, truth_of, TextHasCause, TruthHasCause}
+use Rattle.rel_eval.specs.Singles.{Words, Judges, one_text_of, text_has_failed, truth_has_failed, truth_of}
 use Rattle.script_run.specs.Walks.{Known}
 
 -- when a run goes on: the moment, and the offset in minutes east of UTC
@@ -59,7 +60,7 @@ SaysText world scene text old answer new =
 pub record SaysOn (scene : Scene) (text : List ℕ) (old : MachineView) (answer : OneText) (new : MachineView) : Type 0 where
   pub says : SaysText old.world scene text old.looked answer new.looked
   pub only : OnlyLooks old new
-  pub cause : TextHasCause old.faults new.faults answer
+  pub cause : CountsIf (text_has_failed answer) old.faults new.faults
 
 -- ---- tests
 -- A question that isn't Boolean has this error, and one that is its truth, where the world is told.
@@ -89,4 +90,4 @@ JudgesText world scene text old answer new =
 pub record JudgesOn (scene : Scene) (text : List ℕ) (old : MachineView) (answer : Truth) (new : MachineView) : Type 0 where
   pub judges : JudgesText old.world scene text old.looked answer new.looked
   pub only : OnlyLooks old new
-  pub cause : TruthHasCause old.faults new.faults answer
+  pub cause : CountsIf (truth_has_failed answer) old.faults new.faults

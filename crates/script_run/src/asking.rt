@@ -1,7 +1,7 @@
 // Asking the expressions and tests of a line.
-ghost use Rattle.std.specs.Prelude.{ℕ, List};
+ghost use Rattle.std.specs.Prelude.{◌≡◌, ℕ, false, List};
 ghost use Rattle.rel_eval.specs.Answers.{Prepares};
-ghost use Rattle.rel_eval.specs.Singles.{TextHasCause, TruthHasCause};
+ghost use Rattle.rel_eval.specs.Singles.{text_has_failed, truth_has_failed};
 ghost use Rattle.script_run.specs.Asking.{SaysOn, JudgesOn};
 ghost use Rattle.script_run.specs.Fills.{Unread, UnreadTest};
 
@@ -29,7 +29,7 @@ pub(crate) fn say<M: Machine>(
 /// Why a text isn't asked.
 fn unread(refusal: &Refusal) -> OneText
     ensures reads { (text : List ℕ) → Prepares text (Err refusal.now) → Unread text result }
-    ensures cause { (count : ℕ) → TextHasCause count count result }
+    ensures failed { text_has_failed result ≡ false }
 {
     match refusal.located() {
         Some(found) => OneText::Error(found.kind, found.place),
@@ -50,7 +50,7 @@ pub(crate) fn judge<M: Machine>(alloc: Global, machine: &mut M, kept: &Kept, tes
 /// Why a text isn't asked.
 fn unread_test(refusal: &Refusal) -> Truth
     ensures reads { (text : List ℕ) → Prepares text (Err refusal.now) → UnreadTest text result }
-    ensures cause { (count : ℕ) → TruthHasCause count count result }
+    ensures failed { truth_has_failed result ≡ false }
 {
     match refusal.located() {
         Some(found) => Truth::Error(found.kind, found.place),

@@ -109,7 +109,7 @@ impl Run {
         ensures { CarriesOut line what self.old (Ok (Prepared.Does command))
             (M.told machine.old) result (M.told machine.new) self.new }
     {
-        match machine.act(&command, self.kept.scene.moment) {
+        match machine.act(&command, self.kept.moment()) {
             Acted::Memory => {
                 self.place = Place::Doing { line, what };
                 Some(Ran::Memory)
@@ -144,7 +144,7 @@ impl Run {
         ensures { CarriesOut line what self.old (Ok (Prepared.Awaits command))
             (M.told machine.old) result (M.told machine.new) self.new }
     {
-        match machine.act(&command, self.kept.scene.moment) {
+        match machine.act(&command, self.kept.moment()) {
             Acted::Memory => {
                 self.place = Place::Doing { line, what };
                 Some(Ran::Memory)

@@ -69,7 +69,7 @@ impl Run {
         ensures { StepsFrom (Place.Placing line name bytes) self.old (M.told machine.old) result (M.told machine.new) self.new }
     {
         let command = Command::Place(name, bytes);
-        match machine.act(&command, self.kept.scene.moment) {
+        match machine.act(&command, self.kept.moment()) {
             Acted::Memory => {
                 self.place = before(line, command);
                 Some(Ran::Memory)

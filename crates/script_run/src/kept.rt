@@ -16,8 +16,6 @@ pub struct Kept {
     /// The names of the parameters.
     names: BTreeSet<String>,
     ghost named: { Names names scene.parameters },
-    ghost moment: { IsMoment scene.moment },
-    ghost offset: { IsOffset scene.offset },
 }
 
 impl Kept {
@@ -41,6 +39,21 @@ impl Kept {
         ensures { result ≡ is_some (value_of name.now self.now.scene.parameters) }
     {
         self.names.contains(name)
+    }
+
+    /// The moment at which the script goes on.
+    pub(crate) fn moment(&self) -> i64
+        ensures same { result ≡ self.now.scene.moment }
+        ensures is_moment { IsMoment result }
+    {
+        self.scene.moment
+    }
+
+    /// The last exit code, if there was one.
+    pub(crate) fn exit(&self) -> Option<i64>
+        ensures { result ≡ self.now.scene.exit }
+    {
+        self.scene.exit
     }
 
     /// When the script goes on: the moment, and the offset in minutes east of UTC.

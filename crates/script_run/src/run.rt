@@ -59,7 +59,7 @@ impl Run {
         ensures { (script : PlainScript) (given : List Pair) (settled : List Settled)
             → Stands script given self.now settled → result ≡ exit_after script given settled }
     {
-        self.kept.scene.exit
+        self.kept.exit()
     }
 
     /// Takes what came for the file of a digest, its SHA-256: its bytes, or None where it isn't served. It is false where the last

@@ -1,9 +1,9 @@
-use Rattle.std.proofs.Common.{ℕ, subst, sym, SFits, w64}
+use Rattle.std.proofs.Common.{ap, subst, sym, ◌∙◌, SFits, w64}
 use Rattle.std.proofs.lemmas.Int.{to_z-of_z}
 use Rattle.rel_value.specs.Views.{shown}
 use Rattle.rel_eval.specs.declared.one_value.OneValue.{OneValue}
-use Rattle.rel_eval.specs.Ones.{OneHasCause, OneIsSound, TellsOne}
-use Rattle.rel_eval.specs.Singles.{TextHasCause, worded}
+use Rattle.rel_eval.specs.Ones.{OneIsSound, TellsOne, one_has_failed}
+use Rattle.rel_eval.specs.Singles.{worded}
 use Rattle.rel_eval.proofs.Singles.{text_of_value, text_of_error, text_of_failed, text_of_memory}
 use Rattle.rel_eval.proofs.one_texts.told.Goals as goal
 
@@ -15,11 +15,8 @@ returns-in-Value-clause-tells c = λ t looks h.
     let f : SFits w64 c.args.offset = c.ranges.offset in
     text_of_value (worded c.args.span c.args.offset) t looks (shown c.in-Value.value) c.worded.result (subst (λ (x : OneValue). TellsOne t x looks) c.in-Value.is h) (simp to_z-of_z at c.worded.ensures.tells)
 
-pub returns-in-Value-clause-cause : goal.returns-in-Value-clause-cause
-returns-in-Value-clause-cause c = λ before now h.
-    let Has : OneValue → Type 0 = λ x. OneHasCause before now x in
-    let Worded : ℕ → Type 0 = λ n. TextHasCause before n c.worded.result in
-    subst Worded (sym (subst Has c.in-Value.is h)) (c.worded.ensures.cause before)
+pub returns-in-Value-clause-failed : goal.returns-in-Value-clause-failed
+returns-in-Value-clause-failed c = c.worded.ensures.failed ∙ sym (ap one_has_failed c.in-Value.is)
 
 pub returns-in-Error-clause-tells : goal.returns-in-Error-clause-tells
 returns-in-Error-clause-tells c = λ t looks h. text_of_error (worded c.args.span c.args.offset) t looks c.in-Error.kind c.in-Error.place (subst (λ (x : OneValue). TellsOne t x looks) c.in-Error.is h)

@@ -7,4 +7,4 @@ use Rattle.rel_eval.proofs.one_texts.worded.Goals as goal
 pub returns-in-Err : goal.returns-in-Err
 returns-in-Err c =
     let t = worded c.args.span c.args.offset (shown c.args.value.now) in
-    record { tells = (t, same_skips t t [] refl refl); cause = λ count. refl }
+    record { tells = (t, same_skips t t [] refl refl); failed = refl }

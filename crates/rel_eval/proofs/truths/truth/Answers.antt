@@ -9,4 +9,4 @@ returns-clause-judges g c = λ p k w h.
     judges_at _ _ _ _ _ _ _ (ap judged at) (c.one_value.ensures.goes w h) c.told.ensures.tells
 
 pub returns-clause-cause : goal.returns-clause-cause
-returns-clause-cause g c = c.told.ensures.cause _ _ c.one_value.ensures.cause
+returns-clause-cause g c = rw c.told.ensures.failed c.one_value.ensures.cause

@@ -1,5 +1,6 @@
-use Rattle.std.proofs.Common.{ℕ, List, Ok, Err, ap, subst, inl, ◌∙◌}
+use Rattle.std.proofs.Common.{ℕ, List, Ok, Err, ap, refl, subst, sym, inl, ◌∙◌}
 use Rattle.rel_value.specs.Plain.{booleans}
+use Rattle.desk_base.specs.Counts.{CountsIf}
 use Rattle.bf_machine.proofs.Looking.{OnlyLooks-refl}
 use Rattle.rel_types.specs.Plans.{is_plural, kind_of}
 use Rattle.rel_types.specs.Alike.{same_kind}
@@ -28,8 +29,9 @@ returns-in-Ok g c =
 pub returns-in-Err : goal.returns-in-Err
 returns-in-Err g c =
     let P : List ℕ → Type 0 = λ t. Prepares t (Err c.in-Err.refusal) in
+    let faults = (g.M.Machine.told c.args.machine.now).faults in
     record {
       judges = c.unread_test.ensures.reads c.args.test.now (subst P (c.as_bytes.ensures.value ∙ c.as_str.ensures) c.in-Err.ensures) _ _ _;
       only = OnlyLooks-refl _;
-      cause = c.unread_test.ensures.cause _;
+      cause = subst (λ failed. CountsIf failed faults faults) (sym c.unread_test.ensures.failed) refl;
     }

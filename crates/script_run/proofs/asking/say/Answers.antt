@@ -1,4 +1,5 @@
-use Rattle.std.proofs.Common.{ℕ, List, Ok, Err, ap, subst, inl, ◌∙◌}
+use Rattle.std.proofs.Common.{ℕ, List, Ok, Err, ap, refl, subst, sym, inl, ◌∙◌}
+use Rattle.desk_base.specs.Counts.{CountsIf}
 use Rattle.bf_machine.proofs.Looking.{OnlyLooks-refl}
 use Rattle.rel_types.specs.Plans.{is_plural}
 use Rattle.rel_eval.specs.Answers.{Prepares}
@@ -24,8 +25,9 @@ returns-in-Ok g c =
 pub returns-in-Err : goal.returns-in-Err
 returns-in-Err g c =
     let P : List ℕ → Type 0 = λ t. Prepares t (Err c.in-Err.refusal) in
+    let faults = (g.M.Machine.told c.args.machine.now).faults in
     record {
       says = c.unread.ensures.reads c.args.expression.now (subst P (c.as_bytes.ensures.value ∙ c.as_str.ensures) c.in-Err.ensures) _ _ _;
       only = OnlyLooks-refl _;
-      cause = c.unread.ensures.cause _;
+      cause = subst (λ failed. CountsIf failed faults faults) (sym c.unread.ensures.failed) refl;
     }

@@ -20,7 +20,7 @@ pub returns-clause-nearer : goal.returns-clause-nearer
 returns-clause-nearer g c = weighs _ _ _ _ _ c.into_pulled-pulled.result c.step-step.ensures.shape c.step-step.ensures.steps.within c.step-step.ensures.steps.falls c.into_pulled-pulled.ensures.nearer
 
 pub returns-clause-cause : goal.returns-clause-cause
-returns-clause-cause g c = c.into_pulled-pulled.ensures.cause _ _ c.step-step.ensures.steps.cause
+returns-clause-cause g c = rw c.into_pulled-pulled.ensures.failed c.step-step.ensures.steps.cause
 
 pub returns-in-Over-clause-goes : goal.returns-in-Over-clause-goes
 returns-in-Over-clause-goes g c = λ w h. over_draws _ c.args.self.now.state _ c.in-Over.is

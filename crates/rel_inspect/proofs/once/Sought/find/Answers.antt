@@ -8,8 +8,8 @@ use Rattle.rel_inspect.specs.Facets.{sought_item}
 use Rattle.rel_sources.proofs.LineParts.{line-item}
 use Rattle.rel_inspect.proofs.once.Sought.find.Goals as goal
 
-pub returns-in_ok-readable-in-Some-numbered_line : goal.returns-in_ok-readable-in-Some-numbered_line
-returns-in_ok-readable-in-Some-numbered_line c =
+pub returns-in_ok-readable-in-Some-numbered_line-clause-item : goal.returns-in_ok-readable-in-Some-numbered_line-clause-item
+returns-in_ok-readable-in-Some-numbered_line-clause-item c =
     let n = c.in-LineAt.number in
     let fits : FitsSigned w64 n = search rules in
     let same : to_z w64 (of_z w64 n) ≡ n = omega (arith, ints) in
@@ -18,8 +18,8 @@ returns-in_ok-readable-in-Some-numbered_line c =
     ∙ ap text_item c.in_ok-readable-in-Some-numbered_line.ensures
     ∙ sym (ap (λ (x : Sought). sought_item x c.args.scene.now) c.in-LineAt.is ∙ line-item c.in-LineAt.number c.in-LineAt.content (Some c.in-Some-numbered_line.line.now) there)
 
-pub returns-in-None-numbered_line : goal.returns-in-None-numbered_line
-returns-in-None-numbered_line c =
+pub returns-in-None-numbered_line-clause-item : goal.returns-in-None-numbered_line-clause-item
+returns-in-None-numbered_line-clause-item c =
     let n = c.in-LineAt.number in
     let fits : FitsSigned w64 n = search rules in
     let same : to_z w64 (of_z w64 n) ≡ n = omega (arith, ints) in

@@ -1,4 +1,5 @@
-use Rattle.std.proofs.Common.{rules, SFits, w64, refl, subst, sym, ap, arith}
+use Rattle.std.proofs.Common.{rules, SFits, w64, ℤ, refl, subst, sym, ap, arith}
+use Rattle.bf_machine.specs.Acts.{ActsOn}
 use Rattle.bf_machine.specs.Views.{MachineView}
 use Rattle.script_run.specs.declared.place.Place.TheVariants.{Doing}
 use Rattle.script_run.specs.LineWalks.{line_walk}
@@ -23,10 +24,11 @@ returns-in-Memory g c = λ before h.
 pub returns-in_default : goal.returns-in_default
 returns-in_default g c = λ before h.
     let self = c.args.self.now in
+    let fits : SFits w64 c.moment.result = search rules in
     let at = when_of self.kept.scene in
     let walk = line_walk c.args.line c.args.what (around self) (known_in self.kept.scene) in
-    let fits : SFits w64 self.kept.scene.moment = search rules in
     let k = h.prepares c.args.line (around self) in
     step_from (Doing c.args.line c.args.what) self before _ _ _ refl
     (step_behind at before walk _ _ _ _ _ _ _ (reach_any (IsTextOf c.args.line) at before walk _ _ k.1) (omega (arith, h.only.started)) (omega arith)
-    (act_step c.args.line 2 _ self c.act.result _ _ k.0 c.args.command _ _ c.acted.ensures c.in_default.not-Memory (acts_at self.kept.scene.moment c.args.command _ c.act.result _ fits c.act.ensures)))
+    (act_step c.args.line 2 _ self c.act.result _ _ k.0 c.args.command _ _ c.acted.ensures c.in_default.not-Memory (subst (λ (m : ℤ). ActsOn m c.args.command (g.M.Machine.told c.args.machine.now) c.act.result (g.M.Machine.told c.act.new.self)) c.moment.ensures.same
+    (acts_at c.moment.result c.args.command _ c.act.result _ fits c.act.ensures))))
