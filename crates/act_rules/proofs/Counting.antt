@@ -11,7 +11,7 @@ use Rattle.act_rules.specs.Series.{closes, outcome_closes, end_closes, series, l
 use Rattle.act_rules.specs.Tallies.{Counts, StandsFor, ended_rows}
 use Rattle.act_rules.specs.Steps.{AddsRows}
 use Rattle.act_rules.proofs.SeriesLemmas.{closed_snoc, grow, series_snoc, grow_new, grow_longer, few_series, short_series, last_some}
-use Rattle.act_rules.proofs.RowLemmas.{last_step}
+use Rattle.line_forms.proofs.Lasts.{last_step}
 
 begins : (n m : ℕ) (b d : Bool) → n ≡ m → b ≡ d → (n ≡ 0) ⊎ (b ≡ true) → (m ≡ 0) ⊎ (d ≡ true)
 begins n m b d e f (inl h) = inl (sym e ∙ h)

@@ -10,7 +10,7 @@ use Rattle.act_rules.specs.Series.{series, is_closed}
 use Rattle.act_rules.specs.Owed.{OwesAgain, IsOwed}
 use Rattle.act_rules.specs.Tallies.{Counts, StandsFor, ended_rows}
 use Rattle.act_rules.specs.Steps.{OwesAfter}
-use Rattle.act_rules.proofs.RowLemmas.{last_step}
+use Rattle.line_forms.proofs.Lasts.{last_step}
 
 -- a run is owed by a last row that has ended, by whether it closes its series and how many there are
 abbrev pub OwesBy : Rules → Bool → ℕ → Row → ℤ → Type 0

@@ -1,19 +1,10 @@
 -- Rows and their last one. Other crates may cite these lemmas.
 use Rattle.std.proofs.Common.{ℕ, zero, suc, ◌≡◌, ◌+◌, ◌-◌, ◌<◌, ◌^◌, List, [], ◌∷◌, ◌++◌, length, refl, sym, ap, ◌∙◌, subst, arith, Option, Some, None, get_or, length-append}
-use Rattle.std.specs.Prelude.{slice_set, slice_get, All, IfSome, IsSomeAnd}
-use Rattle.std.proofs.lemmas.Option.{slice_get-get_or}
+use Rattle.std.specs.Prelude.{slice_set, All, IfSome, IsSomeAnd}
 use Rattle.std.proofs.lemmas.List.Elements.{All-push, All-nil, All-cons, All-head, All-tail}
+use Rattle.line_forms.proofs.Lasts.{last_step}
 use Rattle.act_rules.specs.declared.row.Row.{Row}
 use Rattle.act_rules.specs.Rows.{last_row, AreNumbered, OnlyLastRuns, HasEnded, HasMoments, IsRows, with_last}
-
--- the last row of two or more is that of those behind the first
-pub last_step : (x y : Row) (rows : List Row) → last_row (y ∷ rows) ≡ last_row (x ∷ y ∷ rows)
-last_step x y rows =
-    let h : length rows < length (y ∷ rows) = omega arith in
-    let k : suc (length rows) < length (x ∷ y ∷ rows) = omega arith in
-    let m : length (y ∷ rows) - 1 ≡ length rows = omega arith in
-    let n : length (x ∷ y ∷ rows) - 1 ≡ suc (length rows) = omega arith in
-    ap (slice_get (y ∷ rows)) m ∙ slice_get-get_or (y ∷ rows) (length rows) x h ∙ sym (slice_get-get_or (x ∷ y ∷ rows) (suc (length rows)) x k) ∙ ap (slice_get (x ∷ y ∷ rows)) (sym n)
 
 pub last_snoc : (rows : List Row) (row : Row) → last_row (rows ++ row ∷ []) ≡ Some row
 last_snoc [] row = refl

@@ -1,3 +1,4 @@
+pub mod Notes
 pub mod Rows
 pub mod Windows
 pub mod Series

@@ -11,7 +11,7 @@ mod times;
 
 pub use law::{a_tally_counts_ended_rows, lawful_rows, lawful_rows_stay_lawful};
 pub use owing::owed;
-pub use row::{Note, Outcome, Row, Status};
+pub use row::{NO_NOTE, Note, Outcome, Row, Status};
 pub use rows::{Rows, status};
 pub use rule::{Hours, Reapply, Rules};
 pub use tally::Tally;

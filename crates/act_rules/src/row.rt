@@ -1,3 +1,6 @@
+ghost use Rattle.std.specs.Prelude.{◌≡◌, ◌↔◌, IsTrue};
+ghost use Rattle.act_rules.specs.Notes.{no_note};
+
 /// How an attempt ended. Failed and Interrupted both count as failure.
 #[derive(Clone, Copy)]
 pub enum Outcome {
@@ -13,6 +16,21 @@ pub struct Note {
     pub exit: Option<i64>,
     /// Where it failed: the number of the component, 0 where there are none, and the line of its script.
     pub place: Option<(u32, u32)>,
+}
+
+/// The empty note.
+pub const NO_NOTE: Note = Note {
+    exit: None,
+    place: None,
+};
+
+impl Note {
+    /// Whether it is the empty one.
+    pub fn is_empty(self) -> bool
+        ensures { IsTrue result ↔ (self ≡ no_note) }
+    {
+        self.exit.is_none() && self.place.is_none()
+    }
 }
 
 /// One attempt of an action. Moments are seconds since 1970-01-01 00:00:00 UTC, from 0 to 2^37.

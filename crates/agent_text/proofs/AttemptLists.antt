@@ -9,7 +9,7 @@ use Rattle.report_text.specs.declared.form.Form.{Form}
 use Rattle.agent_text.specs.AttemptLines.{attempt_line}
 use Rattle.agent_text.specs.PartReadings.{CanBeNext, IsAttempt, IsRowIn}
 use Rattle.agent_text.proofs.AttemptRows.{attempt_one, noted}
-use Rattle.agent_text.proofs.Lasts.{all_at, each_all, last_step}
+use Rattle.line_forms.proofs.Lasts.{all_at, each_all, last_step}
 
 -- an attempt that can be next is one by itself
 pub next_attempt : (form : Form) (rows : List Row) (row : Row) → CanBeNext form rows row → IsAttempt form row

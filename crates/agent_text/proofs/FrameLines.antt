@@ -9,8 +9,9 @@ use Rattle.report_text.specs.declared.form.Form.TheVariants.{One}
 use Rattle.report_text.specs.Reports.{computer_line}
 use Rattle.agent_text.specs.SavedTexts.{agent_line, next_line}
 use Rattle.agent_text.specs.PartReadings.{Around, IsFrame, frame_lines}
-use Rattle.agent_text.proofs.Parts.{HasSome, IsOneWay, Lines, Then, one_way-line, single, stuck_behind, stuck_first, stuck_line, stuck_same}
-use Rattle.agent_text.proofs.ReportLists.{IsOwn, one_own, stuck_own}
+use Rattle.line_forms.proofs.Parts.{HasSome, IsOneWay, Lines, Then, one_way-line, single, stuck_behind, stuck_first, stuck_line, stuck_same}
+use Rattle.report_text.proofs.ReportParts.{one_name}
+use Rattle.agent_text.proofs.ReportLists.{IsOwn, stuck_own}
 use Rattle.agent_text.proofs.SavedParts.{agent_one}
 
 -- the lines from the next number on, from the computer on, and all three
@@ -59,7 +60,7 @@ pub no_computer : (computer : List ℕ) (form : Form) (old a new : LineState) �
 no_computer computer form old a new first missing =
     stuck_same (FrameParts computer) (Frames computer) old new (there computer) (back computer)
     (stuck_behind (IsAny {V = Form}) (single agent_line) (λ form. OwnPart computer) form old a new one_form tt first
-    (stuck_first (IsOwn computer) (single computer_line) (λ name. NextPart) a new (one_own computer) (λ name own. next_some)
+    (stuck_first (IsOwn computer) (single computer_line) (λ name. NextPart) a new (one_name (IsOwn computer)) (λ name own. next_some)
     (stuck_own computer a new missing)))
 
 -- the line of the next number is missing
@@ -67,7 +68,7 @@ pub no_next : (computer : List ℕ) (form : Form) (old a b new : LineState) → 
 no_next computer form old a b new first second missing =
     stuck_same (FrameParts computer) (Frames computer) old new (there computer) (back computer)
     (stuck_behind (IsAny {V = Form}) (single agent_line) (λ form. OwnPart computer) form old a new one_form tt first
-    (stuck_behind (IsOwn computer) (single computer_line) (λ name. NextPart) computer a b new (one_own computer) refl second (stuck_line IsId next_line 1 b new an_id missing)))
+    (stuck_behind (IsOwn computer) (single computer_line) (λ name. NextPart) computer a b new (one_name (IsOwn computer)) refl second (stuck_line IsId next_line 1 b new an_id missing)))
 
 -- all three were taken
 pub three_lines : (computer : List ℕ) (form : Form) (next : ℕ) (old a b new : LineState) → Passes old a (agent_line form ∷ []) → Passes a b (computer_line computer ∷ []) → Passes b new (next_line next ∷ []) →

@@ -1,56 +1,21 @@
 -- Histories in ascending order of their actions stay what can be saved as they change.
 use Rattle.std.proofs.Common.{ℕ, zero, suc, ◌≡◌, ◌+◌, ◌<◌, ◌^◌, ℤ, List, [], ◌∷◌, ◌++◌, length, Bool, true, false, cond, refl, sym, ap, ◌∙◌, subst, arith, get_or, map, length-append, Option, Some, None, eqb, ltb}
 use Rattle.std.specs.Prelude.{filter, All, IfSome, IsSome, IsSomeAnd}
-use Rattle.std.specs.List.{AllPairs}
 use Rattle.std.specs.List.Sorted.{IsStrictlyIncreasing}
 use Rattle.std.proofs.lemmas.Bool.{cond_both, eq-eqb, eqb-true, false≢true, ltb-true, ne_eqb}
-use Rattle.std.proofs.lemmas.List.{get_or-map, length-map}
 use Rattle.std.proofs.lemmas.List.Elements.{All-nil, All-cons, All-head, All-tail, All-append, All-filter, All-weaker, All-push, All-map, filter_passes}
-use Rattle.std.proofs.lemmas.List.Kept.{AllPairs-cons, AllPairs-filter, AllPairs-from_increasing}
+use Rattle.std.proofs.lemmas.List.Kept.{AllPairs-filter}
 use Rattle.desk_base.specs.Moments.{IsMoment}
 use Rattle.line_forms.specs.Numbers.{IsId}
 use Rattle.act_rules.specs.declared.row.Note.{Note}
 use Rattle.act_rules.specs.declared.row.Outcome.{Outcome}
 use Rattle.act_rules.specs.declared.row.Row.{Row}
 use Rattle.act_rules.specs.Rows.{HasEnded, HasMoments, IsRows, last_row, with_last}
-use Rattle.act_rules.proofs.RowLemmas.{last_some, last_step, length_with_last, rows_snoc, rows_with_last}
+use Rattle.line_forms.proofs.Lasts.{last_step}
+use Rattle.line_forms.proofs.Rising.{Rises, increasing_from_rises, rises_around, rises_from_increasing, rises_head, rises_tail}
+use Rattle.act_rules.proofs.RowLemmas.{last_some, length_with_last, rows_snoc, rows_with_last}
 use Rattle.agent_text.specs.SavedRows.{AreSavedRows, IsSavedAt, IsSavedNote, IsSavedRow}
 use Rattle.agent_text.specs.Histories.{AreHistories, IsHistory, PlainHistory, cleared, rows_at, with_begun, with_cleared, with_ended, with_history, with_reported}
-
--- ---- ascending lists
--- Each element's number is below those of all later ones.
-abbrev pub Rises : {X : Type 0} → (X → ℕ) → List X → Type 0
-Rises f xs = AllPairs (λ x y. f x < f y) xs
-
-pub rises_from_increasing : {X : Type 0} (f : X → ℕ) (xs : List X) → IsStrictlyIncreasing (map f xs) → Rises f xs
-rises_from_increasing f xs up i j d lt inside =
-    let count : length (map f xs) ≡ length xs = length-map xs f in
-    let below = AllPairs-from_increasing (map f xs) up i j (f d) lt (omega arith) in
-    rw (← get_or-map f xs i d (f d) (omega arith), ← get_or-map f xs j d (f d) inside) below
-
-pub increasing_from_rises : {X : Type 0} (f : X → ℕ) (xs : List X) → Rises f xs → IsStrictlyIncreasing (map f xs)
-increasing_from_rises f [] up k inside = absurd (omega arith)
-increasing_from_rises f (x ∷ xs) up k inside =
-    let count : length (map f (x ∷ xs)) ≡ length (x ∷ xs) = length-map (x ∷ xs) f in
-    let within : k + 1 < length (x ∷ xs) = omega arith in
-    rw (get_or-map f (x ∷ xs) k x 0 (omega arith), get_or-map f (x ∷ xs) (k + 1) x 0 within) (up k (k + 1) x (omega arith) within)
-
-pub rises_head : {X : Type 0} (f : X → ℕ) (x : X) (xs : List X) → Rises f (x ∷ xs) → All (λ y. f x < f y) xs
-rises_head f x xs up k d inside = up 0 (suc k) d (omega arith) (omega arith)
-
-pub rises_tail : {X : Type 0} (f : X → ℕ) (x : X) (xs : List X) → Rises f (x ∷ xs) → Rises f xs
-rises_tail f x xs up i j d lt inside = up (suc i) (suc j) d (omega arith) (omega arith)
-
--- elements below one, that one, and elements above it
-pub rises_around : {X : Type 0} (f : X → ℕ) (xs : List X) (k : X) (ys : List X) → Rises f xs → All (λ x. f x < f k) xs → All (λ y. f k < f y) ys
-    → Rises f ys → Rises f (xs ++ k ∷ ys)
-rises_around f [] k ys front below above back = AllPairs-cons (λ x y. f x < f y) k ys above back
-rises_around f (x ∷ xs) k ys front below above back =
-    let lt : f x < f k = All-head (λ x. f x < f k) x xs below in
-    AllPairs-cons (λ x y. f x < f y) x (xs ++ k ∷ ys)
-    (All-append (λ y. f x < f y) xs (k ∷ ys) (rises_head f x xs front)
-    (All-cons (λ y. f x < f y) k ys lt (All-weaker (λ y. f k < f y) (λ y. f x < f y) (λ y gt. omega (arith, lt, gt)) ys above)))
-    (rises_around f xs k ys (rises_tail f x xs front) (All-tail (λ x. f x < f k) x xs below) above back)
 
 -- ---- a history at its place
 abbrev pub action_of : PlainHistory → ℕ

@@ -18,9 +18,9 @@ use Rattle.agent_text.specs.Histories.{AreHistories, IsHistory, PlainHistory, sh
 use Rattle.agent_text.specs.PartReadings.{CanBeNext, CanFollow, HasHistories, IsAbove, IsRowIn, LacksAttempt, NoAttempt, untold, untold_one}
 use Rattle.agent_text.proofs.AttemptLists.{rows_in}
 use Rattle.agent_text.proofs.AttemptRows.{saved_in}
-use Rattle.agent_text.proofs.Lasts.{each_all, each_ascends, increasing}
-use Rattle.agent_text.proofs.Parts.{Lines}
-use Rattle.agent_text.proofs.Sequences.{each_more, each_none, flat_snoc, same_last}
+use Rattle.line_forms.proofs.Lasts.{each_all, each_ascends, increasing}
+use Rattle.line_forms.proofs.Parts.{Lines}
+use Rattle.line_forms.proofs.Sequences.{each_more, each_none, flat_snoc, same_last}
 
 -- whether there are rows
 pub no_rows : (rows seen : List Row) (answer : Bool) → seen ≡ rows → answer ≡ (length seen == 0) → answer ≡ true → rows ≡ []

@@ -7,7 +7,7 @@ use Rattle.line_forms.specs.Numbers.{IsId}
 use Rattle.line_forms.specs.Readers.{IsNotAhead}
 use Rattle.line_forms.proofs.Passing.{not_spelled}
 use Rattle.line_forms.proofs.PlainLemmas.{id_one}
-use Rattle.agent_text.proofs.Parts.{Lines}
+use Rattle.line_forms.proofs.Parts.{Lines}
 
 -- the id that is ahead isn't one of these, and so none of these is
 pub other_id : (P : ℕ → Type 0) (word rest : List ℕ) (state : LineState) (more : Lines) (read : ℕ) → state.lines ≡ (field_text word ++ rest) ∷ more → IsId read → rest ≡ decimal read → (P read → ⊥) →

@@ -9,7 +9,8 @@ use Rattle.act_rules.specs.declared.row.Row.{Row}
 use Rattle.agent_text.specs.declared.history.History.{History}
 use Rattle.agent_text.specs.Histories.{AreHistories, PlainHistory, cleared, rows_at, shown_history, with_cleared, with_reported, with_rows}
 use Rattle.agent_text.specs.PartReadings.{HasPlace}
-use Rattle.agent_text.proofs.HistoryLemmas.{action_of, rises_from_increasing}
+use Rattle.line_forms.proofs.Rising.{rises_from_increasing}
+use Rattle.agent_text.proofs.HistoryLemmas.{action_of}
 use Rattle.agent_text.proofs.PlaceLemmas.{cleared_there, has_place, put_new, put_there, rows_there, searched_map}
 
 module _ (items : List History) (hs : List PlainHistory) (view : map shown_history items ≡ hs) where

@@ -1,6 +1,3 @@
-pub mod Parts
-pub mod Lasts
-pub mod Sequences
 pub mod AttemptFields
 pub mod AttemptRows
 pub mod AttemptReading
@@ -10,7 +7,6 @@ pub mod PendingIds
 pub mod PendingSteps
 pub mod PendingPlaces
 pub mod HistoryLists
-pub mod ReportRowLines
 pub mod ReportLists
 pub mod SavedParts
 pub mod FrameLines

@@ -7,7 +7,7 @@ use Rattle.std.proofs.lemmas.List.Elements.{All-nil, All-cons, All-head, All-tai
 use Rattle.line_forms.specs.Readers.{EachCan}
 use Rattle.agent_text.specs.Histories.{PlainHistory, pending_ids}
 use Rattle.agent_text.specs.PartReadings.{untold, untold_one}
-use Rattle.agent_text.proofs.Lasts.{Ascends, above_all, all_at, ascends_tail, each_all}
+use Rattle.line_forms.proofs.Lasts.{Ascends, above_all, all_at, ascends_tail, each_all}
 
 -- the id of a history
 abbrev pub action_of : PlainHistory → ℕ

@@ -24,8 +24,8 @@ use Rattle.agent_text.specs.declared.history.History.{History}
 use Rattle.agent_text.specs.Histories.{AreHistories, IsHistory, PlainHistory, shown_history}
 use Rattle.agent_text.specs.SavedTexts.{pending_line}
 use Rattle.agent_text.specs.PartReadings.{FindsPlace, StandsFrom}
-use Rattle.agent_text.proofs.Lasts.{Ascends, ascends, increasing}
-use Rattle.agent_text.proofs.Parts.{Lines}
+use Rattle.line_forms.proofs.Lasts.{Ascends, ascends, increasing}
+use Rattle.line_forms.proofs.Parts.{Lines}
 use Rattle.agent_text.proofs.PendingIds.{Has, Up, action_of, contains_has, has_above, has_contains, up}
 
 -- ---- a search by ids

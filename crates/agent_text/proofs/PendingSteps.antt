@@ -11,8 +11,8 @@ use Rattle.agent_text.specs.declared.history.History.{History}
 use Rattle.agent_text.specs.Histories.{AreHistories, IsHistory, PlainHistory, pending_ids, shown_history}
 use Rattle.agent_text.specs.SavedTexts.{pending_line}
 use Rattle.agent_text.specs.PartReadings.{StandsFrom, TakesPending, untold, untold_one}
-use Rattle.agent_text.proofs.Lasts.{ascends}
-use Rattle.agent_text.proofs.Parts.{Lines}
+use Rattle.line_forms.proofs.Lasts.{ascends}
+use Rattle.line_forms.proofs.Parts.{Lines}
 use Rattle.agent_text.proofs.PendingIds.{Has, Up, action_of, contains_has, has_above, has_below, has_contains, ids_more, ids_same, pending_one, two, up}
 
 -- this place is the first, or the history before it is pending

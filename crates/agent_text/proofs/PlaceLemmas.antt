@@ -14,7 +14,8 @@ use Rattle.std.proofs.lemmas.List.Sorted.{searched}
 use Rattle.line_forms.proofs.Sorted.{filter-take, filter-drop}
 use Rattle.agent_text.specs.Histories.{AreHistories, PlainHistory, cleared, rows_at, with_cleared, with_history}
 use Rattle.agent_text.specs.PartReadings.{HasPlace}
-use Rattle.agent_text.proofs.HistoryLemmas.{Rises, action_of, no_rows_of, one_cleared, rises_from_increasing, rises_head, rises_tail, rows_of}
+use Rattle.line_forms.proofs.Rising.{Rises, rises_from_increasing, rises_head, rises_tail}
+use Rattle.agent_text.proofs.HistoryLemmas.{action_of, no_rows_of, one_cleared, rows_of}
 
 -- ---- a binary search
 -- a search by what the elements are mapped to is one of the mapped list

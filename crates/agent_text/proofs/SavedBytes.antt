@@ -1,92 +1,51 @@
 -- The bytes of a saved text: no LF stands in a line, and there are not too many. Other crates may cite these lemmas.
-use Rattle.std.proofs.Common.{ℕ, ◌≡◌, ◌≢◌, ◌+◌, ◌*◌, ◌≤◌, ◌==◌, ℤ, pos, negsuc, List, [], ◌∷◌, ◌++◌, length, true, refl, ap, sym, ◌∙◌, arith, All, Option, Some, None, inl, inr, map, append_assoc, length-append, subst}
-use Rattle.std.specs.List.{list_all}
+use Rattle.std.proofs.Common.{ℕ, ◌≡◌, ◌+◌, ◌*◌, ◌≤◌, ℤ, List, [], ◌∷◌, ◌++◌, length, refl, ap, sym, arith, All, Option, Some, None, inl, inr, map, length-append, subst}
 use Rattle.std.specs.Prelude.{codes, decimal, not, flat_map, sum_by, IfSome}
 use Rattle.std.specs.Fmt.{signed_decimal}
-use Rattle.std.proofs.lemmas.Int.{ints}
-use Rattle.std.proofs.lemmas.Fmt.{length-decimal-le, length_signed_le}
+use Rattle.std.proofs.lemmas.Fmt.{length-decimal-le}
 use Rattle.std.proofs.lemmas.List.Sums.{sum_by-cons}
-use Rattle.std.proofs.lemmas.List.Elements.{All-nil, All-cons, All-append, All-head, All-tail, All-weaker, All-map}
+use Rattle.std.proofs.lemmas.List.Elements.{All-nil, All-cons, All-append, All-head, All-tail}
 use Rattle.desk_base.specs.Moments.{IsMoment}
-use Rattle.line_forms.specs.Cuts.{Lacks}
-use Rattle.line_forms.specs.Names.{IsName}
 use Rattle.line_forms.specs.Numbers.{IsId}
 use Rattle.line_forms.specs.Fields.{field_text}
 use Rattle.line_forms.specs.FieldLists.{line_of}
-use Rattle.line_forms.specs.Lines.{IsLine, ended_line, lines_text}
+use Rattle.line_forms.specs.Lines.{IsLine}
 use Rattle.line_forms.proofs.Cutting.{lacks_by}
-use Rattle.line_forms.proofs.PlainLemmas.{lacks_fields, plain_id, plain_name, lacks_plain}
-use Rattle.act_rules.specs.declared.row.Outcome.{Outcome}
-use Rattle.act_rules.specs.declared.row.Outcome.TheVariants.{Fixed, Failed, Interrupted}
+use Rattle.line_forms.proofs.LineBytes.{all_flat, all_mapped, id_length, joined_length, lacks_id, lacks_name, moment_length, size, size_append, size_cons, worded}
+use Rattle.line_forms.proofs.PlainLemmas.{lacks_fields}
 use Rattle.act_rules.specs.declared.row.Row.{Row}
 use Rattle.report_text.specs.declared.form.Form.{Form}
 use Rattle.report_text.specs.declared.form.Form.TheVariants.{One, Two}
 use Rattle.report_text.specs.declared.report.Report.{Report}
-use Rattle.report_text.specs.FieldTexts.{IsEnd}
-use Rattle.report_text.specs.ReportRows.{IsExit, IsPlace, IsReportRow}
-use Rattle.report_text.specs.RowLines.{component_field, end_field, exit_field, line_field, outcome_field, row_fields, row_line}
-use Rattle.report_text.specs.Reports.{IsReport, computer_line, end_line, form_line, report_lines, report_text, seq_line}
+use Rattle.report_text.specs.RowLines.{component_field, end_field, exit_field, line_field, outcome_field}
+use Rattle.report_text.specs.Reports.{IsReport, computer_line, end_line, report_lines, report_text}
+use Rattle.report_text.proofs.LineLemmas.{are_lines}
+use Rattle.report_text.proofs.SizeLemmas.{component_length, computer_length, end_length, exit_length, line_length, outcome_length}
 use Rattle.agent_text.specs.declared.saved.Saved.{Saved}
 use Rattle.agent_text.specs.AttemptLines.{attempt_fields, attempt_line, cleared_field}
 use Rattle.agent_text.specs.Histories.{IsHistory, PlainHistory, pending_ids}
 use Rattle.agent_text.specs.SavedTexts.{FitsForm, IsSaved, action_line, agent_line, history_bytes, history_lines, most_bytes, next_line, pending_line, report_bytes, saved_lines, saved_text}
 use Rattle.agent_text.specs.PartReadings.{CanBeNext, IsNoted, IsRowIn}
-use Rattle.agent_text.proofs.AttemptFields.{exit_mag}
 use Rattle.agent_text.proofs.AttemptLists.{each_attempt, next_attempt}
 use Rattle.agent_text.proofs.AttemptRows.{noted, plain_attempt}
-use Rattle.agent_text.proofs.Lasts.{each_all}
-use Rattle.agent_text.proofs.Parts.{Lines}
+use Rattle.line_forms.proofs.Lasts.{each_all}
 use Rattle.agent_text.proofs.PendingIds.{ids_more, ids_same, two}
-use Rattle.agent_text.proofs.ReportRowLines.{plain_row}
 use Rattle.agent_text.proofs.SavedLines.{in_form}
 
 -- ---- lines
--- a word and what follows it
-line_after : (word rest : List ℕ) → list_all (λ x. not (x == 10)) (field_text word) ≡ true → Lacks 10 rest → IsLine (field_text word ++ rest)
-line_after word rest h lacks = All-append (λ x. x ≢ 10) (field_text word) rest (lacks_by 10 (field_text word) h) lacks
-
--- no LF stands in a number or a name
-lacks_id : (n : ℕ) → IsId n → Lacks 10 (decimal n)
-lacks_id n id = lacks_plain 10 (decimal n) (omega arith) (plain_id n id)
-
-lacks_name : (name : List ℕ) → IsName name → Lacks 10 name
-lacks_name name is = lacks_plain 10 name (omega arith) (plain_name name is)
-
 line_agent : (form : Form) → IsLine (agent_line form)
 line_agent One = lacks_by 10 (agent_line One) refl
 line_agent Two = lacks_by 10 (agent_line Two) refl
-
-line_form : (form : Form) → IsLine (form_line form)
-line_form One = lacks_by 10 (form_line One) refl
-line_form Two = lacks_by 10 (form_line Two) refl
-
--- lists of lines
-all_mapped : {V : Type 0} (line : V → List ℕ) (P : V → Type 0) → ((v : V) → P v → IsLine (line v)) → (vs : List V) → All P vs → All IsLine (map line vs)
-all_mapped line P says vs all = All-map IsLine line vs (All-weaker P (λ v. IsLine (line v)) says vs all)
-
-all_flat : {V : Type 0} (lines_of : V → Lines) (P : V → Type 0) → ((v : V) → P v → All IsLine (lines_of v)) → (vs : List V) → All P vs → All IsLine (flat_map lines_of vs)
-all_flat lines_of P says [] all = All-nil IsLine
-all_flat lines_of P says (v ∷ vs) all = All-append IsLine (lines_of v) (flat_map lines_of vs) (says v (All-head P v vs all)) (all_flat lines_of P says vs (All-tail P v vs all))
 
 -- the attempts of a history are those of their form
 noted_rows : (form : Form) (h : PlainHistory) → IsHistory h → All (IsRowIn form) h.rows → All (IsNoted form) h.rows
 noted_rows form h good rows = each_all (IsNoted form) (CanBeNext form) (λ before row can. noted form row (next_attempt form before row can)) h.rows (each_attempt form h.rows good.rows.numbered rows)
 
--- the lines of a history, of a report, and of what is saved
+-- the lines of a history
 history_are : (form : Form) (h : PlainHistory) → IsHistory h × All (IsRowIn form) h.rows → All IsLine (history_lines form h)
 history_are form h (good, rows) =
-    All-cons IsLine (action_line h.action) (map (attempt_line form) h.rows) (line_after (codes "action") (decimal h.action) refl (lacks_id h.action good.action))
-    (all_mapped (attempt_line form) (IsNoted form) (λ row fine. line_after (codes "attempt") (line_of (attempt_fields form row)) refl (lacks_fields (attempt_fields form row) (plain_attempt form row fine))) h.rows (noted_rows form h good rows))
-
-report_are : (report : Report) → IsReport report → All IsLine (report_lines report)
-report_are report good =
-    let rows = map (row_line report.form) report.rows in
-    All-cons IsLine (form_line report.form) (computer_line report.computer ∷ seq_line report.seq ∷ (rows ++ end_line ∷ [])) (line_form report.form)
-    (All-cons IsLine (computer_line report.computer) (seq_line report.seq ∷ (rows ++ end_line ∷ [])) (line_after (codes "computer") report.computer refl (lacks_name report.computer good.computer))
-    (All-cons IsLine (seq_line report.seq) (rows ++ end_line ∷ []) (line_after (codes "seq") (decimal report.seq) refl (lacks_id report.seq good.seq))
-    (All-append IsLine rows (end_line ∷ [])
-    (all_mapped (row_line report.form) (IsReportRow report.form) (λ row fine. line_after (codes "row") (line_of (row_fields report.form row)) refl (lacks_fields (row_fields report.form row) (plain_row report.form row fine))) report.rows good.rows.good)
-    (All-cons IsLine end_line [] (lacks_by 10 end_line refl) (All-nil IsLine)))))
+    All-cons IsLine (action_line h.action) (map (attempt_line form) h.rows) (worded (field_text (codes "action")) (decimal h.action) refl (lacks_id h.action good.action))
+    (all_mapped (attempt_line form) (IsNoted form) (λ row fine. worded (field_text (codes "attempt")) (line_of (attempt_fields form row)) refl (lacks_fields (attempt_fields form row) (plain_attempt form row fine))) h.rows (noted_rows form h good rows))
 
 -- pending ids are ids
 ids_good : (hs : List PlainHistory) → All IsHistory hs → All IsId (pending_ids hs)
@@ -108,68 +67,21 @@ saved_are form saved is fits =
     let reports = flat_map report_lines saved.reports in
     let rows = in_form form saved is fits in
     All-cons IsLine (agent_line form) (computer_line saved.computer ∷ next_line saved.next ∷ (hs ++ (ids ++ (reports ++ end_line ∷ [])))) (line_agent form)
-    (All-cons IsLine (computer_line saved.computer) (next_line saved.next ∷ (hs ++ (ids ++ (reports ++ end_line ∷ [])))) (line_after (codes "computer") saved.computer refl (lacks_name saved.computer is.computer))
-    (All-cons IsLine (next_line saved.next) (hs ++ (ids ++ (reports ++ end_line ∷ []))) (line_after (codes "next") (decimal saved.next) refl (lacks_id saved.next is.next))
+    (All-cons IsLine (computer_line saved.computer) (next_line saved.next ∷ (hs ++ (ids ++ (reports ++ end_line ∷ [])))) (worded (field_text (codes "computer")) saved.computer refl (lacks_name saved.computer is.computer))
+    (All-cons IsLine (next_line saved.next) (hs ++ (ids ++ (reports ++ end_line ∷ []))) (worded (field_text (codes "next")) (decimal saved.next) refl (lacks_id saved.next is.next))
     (All-append IsLine hs (ids ++ (reports ++ end_line ∷ []))
     (all_flat (history_lines form) (λ h. IsHistory h × All (IsRowIn form) h.rows) (λ h fine. history_are form h fine) saved.histories (λ k d within. (is.histories.good k d within, rows k d within)))
     (All-append IsLine ids (reports ++ end_line ∷ [])
-    (all_mapped pending_line IsId (λ n id. line_after (codes "pending") (decimal n) refl (lacks_id n id)) (pending_ids saved.histories) (ids_good saved.histories is.histories.good))
+    (all_mapped pending_line IsId (λ n id. worded (field_text (codes "pending")) (decimal n) refl (lacks_id n id)) (pending_ids saved.histories) (ids_good saved.histories is.histories.good))
     (All-append IsLine reports (end_line ∷ [])
-    (all_flat report_lines IsReport (λ r good. report_are r good) saved.reports is.reports.good)
+    (all_flat report_lines IsReport (λ r good. are_lines r good) saved.reports is.reports.good)
     (All-cons IsLine end_line [] (lacks_by 10 end_line refl) (All-nil IsLine)))))))
 
 -- ---- lengths
-abbrev size : Lines → ℕ
-size lines = length (lines_text lines)
-
-text_append : (a b : Lines) → lines_text (a ++ b) ≡ lines_text a ++ lines_text b
-text_append [] b = refl
-text_append (x ∷ a) b = ap (λ l. ended_line x ++ l) (text_append a b) ∙ sym (append_assoc (ended_line x) (lines_text a) (lines_text b))
-
--- the bytes of lines
-size_append : (a b : Lines) → size (a ++ b) ≡ size a + size b
-size_append a b = ap (length {A = ℕ}) (text_append a b) ∙ length-append (lines_text a) (lines_text b)
-
-size_cons : (x : List ℕ) (lines : Lines) → size (x ∷ lines) ≡ length x + 1 + size lines
-size_cons x lines = omega (arith, length-append (ended_line x) (lines_text lines), length-append x (10 ∷ []))
-
 -- the most bytes of each field
-moment_length : (t : ℤ) → IsMoment t → length (signed_decimal t) ≤ 12
-moment_length (pos n) h = length-decimal-le 12 n (omega arith) (omega (arith, ints, h.1)) (omega (arith, ints, h.1))
-moment_length (negsuc n) h = absurd (omega (arith, ints, h.0))
-
-outcome_length : (e : Option (ℤ × Outcome)) → length (outcome_field e) ≤ 11
-outcome_length None = omega arith
-outcome_length (Some (t, Fixed)) = omega arith
-outcome_length (Some (t, Failed)) = omega arith
-outcome_length (Some (t, Interrupted)) = omega arith
-
-end_length : (e : Option (ℤ × Outcome)) → IsEnd e → length (end_field e) ≤ 12
-end_length None h = omega arith
-end_length (Some e) h = moment_length e.0 h
-
 cleared_length : (c : Option ℤ) → IfSome c IsMoment → length (cleared_field c) ≤ 12
 cleared_length None h = omega arith
 cleared_length (Some t) h = moment_length t h
-
-exit_length : (e : Option ℤ) → IfSome e IsExit → length (exit_field e) ≤ 20
-exit_length None h = omega arith
-exit_length (Some x) h = let m = exit_mag x h in let l = length_signed_le 19 x (omega (arith, m)) m in omega (arith, l)
-
-component_length : (p : Option (ℕ × ℕ)) → IfSome p IsPlace → length (component_field p) ≤ 10
-component_length None h = omega arith
-component_length (Some p) h = length-decimal-le 10 p.0 (omega arith) (omega (arith, h.0)) (omega (arith, h.0))
-
-line_length : (p : Option (ℕ × ℕ)) → IfSome p IsPlace → length (line_field p) ≤ 10
-line_length None h = omega arith
-line_length (Some p) h = length-decimal-le 10 p.1 (omega arith) (omega (arith, h.1)) (omega (arith, h.1))
-
-id_length : (n : ℕ) → IsId n → length (decimal n) ≤ 16
-id_length n id = length-decimal-le 16 n (omega arith) (omega (arith, id.1)) (omega (arith, id.1))
-
--- a field, a space and what follows
-joined : (field rest : List ℕ) (m n : ℕ) → length field ≤ m → length rest ≤ n → length (field ++ 32 ∷ rest) ≤ m + (n + 1)
-joined field rest m n h k = omega (arith, h, k, length-append field (32 ∷ rest))
 
 -- the most bytes of an attempt
 attempt_length : (row : Row) → IsNoted Two row → length (attempt_line Two row) ≤ 112
@@ -185,12 +97,12 @@ attempt_length row ((least, most, (begun, ended, cleared)), (exit, place)) =
     let all : length (decimal row.number ++ 32 ∷ i) ≤ 104 =
     omega (
       arith,
-      joined (decimal row.number) i 10 93 number
-          (let z = joined (signed_decimal row.begun) g 12 80 (moment_length row.begun begun)
-          (let y = joined (outcome_field row.end) f 11 68 (outcome_length row.end)
-          (let x = joined (end_field row.end) e 12 55 (end_length row.end ended)
-          (let w = joined (cleared_field row.cleared) d 12 42 (cleared_length row.cleared cleared)
-          (let v = joined (exit_field row.note.exit) b 20 21 (exit_length row.note.exit exit) (let u = joined (component_field row.note.place) a 10 10 (component_length row.note.place place) (line_length row.note.place place) in omega (arith, u)) in omega (arith, v))
+      joined_length (decimal row.number) i 10 93 number
+          (let z = joined_length (signed_decimal row.begun) g 12 80 (moment_length row.begun begun)
+          (let y = joined_length (outcome_field row.end) f 11 68 (outcome_length row.end)
+          (let x = joined_length (end_field row.end) e 12 55 (end_length row.end ended)
+          (let w = joined_length (cleared_field row.cleared) d 12 42 (cleared_length row.cleared cleared)
+          (let v = joined_length (exit_field row.note.exit) b 20 21 (exit_length row.note.exit exit) (let u = joined_length (component_field row.note.place) a 10 10 (component_length row.note.place place) (line_length row.note.place place) in omega (arith, u)) in omega (arith, v))
           in omega (arith, w))
           in omega (arith, x))
           in omega (arith, y))
@@ -232,9 +144,6 @@ reports_size : ShortReports → (rs : List Report) → All IsReport rs → size 
 reports_size short [] h = omega arith
 reports_size short (r ∷ rs) h =
     omega (arith, short r (All-head IsReport r rs h), reports_size short rs (All-tail IsReport r rs h), size_append (report_lines r) (flat_map report_lines rs), sum_by-cons report_bytes r rs)
-
-computer_length : (name : List ℕ) → IsName name → length (computer_line name) ≤ 73
-computer_length name is = omega (arith, is.1, length-append (field_text (codes "computer")) name)
 
 -- the text is no longer than what is reckoned
 pub saved_short : ShortReports → (saved : Saved) → IsSaved saved → length (saved_text saved) ≤ most_bytes saved.histories saved.reports

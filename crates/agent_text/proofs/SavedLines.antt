@@ -11,19 +11,19 @@ use Rattle.act_rules.specs.declared.row.Row.{Row}
 use Rattle.report_text.specs.declared.form.Form.{Form}
 use Rattle.report_text.specs.declared.form.Form.TheVariants.{One, Two}
 use Rattle.report_text.specs.declared.report.Report.{Report}
-use Rattle.report_text.specs.ReportRows.{no_note}
+use Rattle.act_rules.specs.Notes.{no_note}
 use Rattle.report_text.specs.Reports.{IsReport, end_line, report_lines}
 use Rattle.agent_text.specs.declared.saved.Saved.{Saved}
 use Rattle.agent_text.specs.Histories.{AreHistories, IsHistory, PlainHistory, pending_ids}
 use Rattle.agent_text.specs.SavedTexts.{AreOutbox, AreSavedLines, FitsForm, IsSaved, IsSavedBy, history_lines, pending_line, saved_lines}
 use Rattle.agent_text.specs.PartReadings.{Around, CanCome, CanFollow, IsFormIn, IsFrame, IsRowIn, frame_lines, untold, untold_one}
 use Rattle.agent_text.proofs.HistoryLists.{all_untold, are_histories}
-use Rattle.agent_text.proofs.Lasts.{all_at, ascends, each_all, each_ascends, each_few, increasing, last_below}
-use Rattle.agent_text.proofs.Parts.{Lines, Only, rest_same}
+use Rattle.line_forms.proofs.Lasts.{all_at, ascends, each_all, each_ascends, each_few, increasing, last_below}
+use Rattle.line_forms.proofs.Parts.{Lines, Only, rest_same}
 use Rattle.agent_text.proofs.PendingIds.{CanBePending, action_of, each_has, each_pending, each_up, ids_marked, marked, marked_again, untold_marked, up}
 use Rattle.agent_text.proofs.PendingSteps.{actions_of, told_histories}
 use Rattle.agent_text.proofs.SavedParts.{AfterHistories, Ended, HistoriesPart, ReportsPart, Whole, ended_end, histories_sequence, one_frame, pending_sequence, reports_sequence}
-use Rattle.agent_text.proofs.Sequences.{flat_single, many_one}
+use Rattle.line_forms.proofs.Sequences.{flat_single, many_one}
 
 -- the first three lines of what is saved
 abbrev pub around_saved : Form → Saved → Around

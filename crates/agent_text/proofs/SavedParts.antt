@@ -19,10 +19,10 @@ use Rattle.agent_text.specs.SavedTexts.{action_line, agent_line, history_lines, 
 use Rattle.agent_text.specs.PartReadings.{Around, CanBeNext, CanCome, CanFollow, IsFrame, frame_lines, history_line, report_line}
 use Rattle.agent_text.proofs.AttemptLists.{each_attempt, next_attempt}
 use Rattle.agent_text.proofs.AttemptRows.{attempt_one, noted}
-use Rattle.agent_text.proofs.Parts.{IsOneWay, Lines, Only, Then}
+use Rattle.line_forms.proofs.Parts.{IsOneWay, Lines, Only, Then}
 use Rattle.agent_text.proofs.PendingIds.{CanBePending, action_of}
 use Rattle.agent_text.proofs.ReportLists.{one_report}
-use Rattle.agent_text.proofs.Sequences.{GoesOn, IsSequence, Many, NoNext, flat_single, many_one, no_tail, with_first}
+use Rattle.line_forms.proofs.Sequences.{GoesOn, IsSequence, Many, NoNext, flat_single, many_one, no_tail, with_first}
 
 -- ---- the parts
 -- the lines of a report and of a history behind the first

@@ -13,7 +13,7 @@ use Rattle.act_rules.specs.Rows.{HasMoments, IsRows}
 use Rattle.report_text.specs.declared.form.Form.{Form}
 use Rattle.report_text.specs.declared.form.Form.TheVariants.{One, Two}
 use Rattle.report_text.specs.declared.report.Report.{Report}
-use Rattle.report_text.specs.ReportRows.{no_note}
+use Rattle.act_rules.specs.Notes.{no_note}
 use Rattle.report_text.specs.Reports.{end_line, report_lines}
 use Rattle.agent_text.specs.declared.saved.Saved.{Saved}
 use Rattle.agent_text.specs.AttemptLines.{attempt_line}
@@ -23,14 +23,14 @@ use Rattle.agent_text.specs.SavedTexts.{AreSavedLines, IsSavedBy, action_line, h
 use Rattle.agent_text.specs.PartReadings.{Around, CanBeNext, CanCome, CanFollow, CanPend, HasHistories, HasReports, IsAbove, IsBadAt, IsFrame, IsRowIn, LacksAttempt, NoAttempt, TakesPending, frame_lines, history_line, report_line, untold}
 use Rattle.agent_text.proofs.AttemptLists.{each_attempt}
 use Rattle.agent_text.proofs.HistoryLists.{are_histories}
-use Rattle.agent_text.proofs.Lasts.{each_all}
-use Rattle.agent_text.proofs.Parts.{HasSome, HoldsNone, Lines, Only, holds_none, stuck_behind, stuck_first, stuck_only, stuck_same}
+use Rattle.line_forms.proofs.Lasts.{each_all}
+use Rattle.line_forms.proofs.Parts.{HasSome, HoldsNone, Lines, Only, holds_none, stuck_behind, stuck_first, stuck_only, stuck_same}
 use Rattle.agent_text.proofs.PendingIds.{CanBePending, action_of}
 use Rattle.agent_text.proofs.PendingSteps.{actions_of, told_histories}
 use Rattle.agent_text.proofs.ReportLists.{one_report}
 use Rattle.agent_text.proofs.SavedParts.{HistoriesPart, NextAttempt, PendingPart, ReportsPart, Whole, histories_sequence, one_frame, only_end, pending_sequence, report_tail, reports_sequence}
 use Rattle.agent_text.proofs.SavedLines.{each_waits, flat_untold, saved_by, whole_back, whole_there}
-use Rattle.agent_text.proofs.Sequences.{EndsLast, each_none, flat_single, stuck_inside, stuck_many, with_first}
+use Rattle.line_forms.proofs.Sequences.{EndsLast, each_none, flat_single, stuck_inside, stuck_many, with_first}
 
 -- ---- some lines go on
 reports_some : (around : Around) → HasSome (ReportsPart (Only end_line) around)

@@ -1,7 +1,7 @@
 -- The line of an attempt: `attempt`, and then its fields, each after a space.
-use Rattle.std.specs.Prelude.{ℕ, ℤ, List, ◌∷◌, ◌++◌, Option, Some, None, codes, decimal}
+use Rattle.std.specs.Prelude.{ℕ, ℤ, List, ◌∷◌, ◌++◌, Option, codes, decimal}
 use Rattle.std.specs.Fmt.{signed_decimal}
-use Rattle.line_forms.specs.Fields.{field_text}
+use Rattle.line_forms.specs.Fields.{dash_or, field_text}
 use Rattle.line_forms.specs.FieldLists.{line_of}
 use Rattle.act_rules.specs.declared.row.Row.{Row}
 use Rattle.report_text.specs.declared.form.Form.{Form}
@@ -9,8 +9,7 @@ use Rattle.report_text.specs.RowLines.{outcome_field, end_field, added_fields}
 
 -- the moment at which it was cleared, or `-`
 abbrev pub cleared_field : Option ℤ → List ℕ
-cleared_field None = codes "-"
-cleared_field (Some moment) = signed_decimal moment
+cleared_field cleared = dash_or signed_decimal cleared
 
 -- the fields of an attempt
 abbrev pub attempt_fields : Form → Row → List (List ℕ)

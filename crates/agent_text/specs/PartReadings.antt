@@ -12,9 +12,8 @@ use Rattle.act_rules.specs.Rows.{HasEnded, HasMoments, last_row}
 use Rattle.report_text.specs.declared.form.Form.{Form}
 use Rattle.report_text.specs.declared.form.Form.TheVariants.{One, Two}
 use Rattle.report_text.specs.declared.report.Report.{Report}
-use Rattle.report_text.specs.declared.report_row.ReportRow.{ReportRow}
-use Rattle.act_rules.specs.declared.row.Note.{Note}
-use Rattle.report_text.specs.ReportRows.{IsReportRow, IsExit, IsPlace, no_note}
+use Rattle.act_rules.specs.Notes.{no_note}
+use Rattle.report_text.specs.ReportRows.{IsAdded}
 use Rattle.report_text.specs.FieldTexts.{SpellsEnd}
 use Rattle.report_text.specs.Reports.{IsReport, computer_line, form_line, report_lines}
 use Rattle.agent_text.specs.declared.error.SavedError.{SavedError}
@@ -25,7 +24,7 @@ use Rattle.agent_text.specs.declared.report_reader.Frame.{Frame}
 use Rattle.agent_text.specs.SavedRows.{IsSavedRow}
 use Rattle.agent_text.specs.Histories.{PlainHistory, IsHistory, shown_history, pending_ids}
 use Rattle.agent_text.specs.AttemptLines.{attempt_line, cleared_field}
-use Rattle.agent_text.specs.SavedTexts.{action_line, agent_line, history_lines, next_line, pending_line}
+use Rattle.agent_text.specs.SavedTexts.{action_line, agent_line, history_lines, most_reports, next_line, pending_line}
 
 -- the place of the history of this action, or the one where it would stand
 abbrev pub HasPlace : List PlainHistory → ℕ → Result ℕ ℕ → Type 0
@@ -48,11 +47,6 @@ IsBadAt AreGood old number =
 abbrev pub IsRowIn : Form → Row → Type 0
 IsRowIn One row = IsSavedRow row × (row.note ≡ no_note)
 IsRowIn Two row = IsSavedRow row
-
--- what a form adds to an attempt: nothing, or any exit code and place
-abbrev pub IsAdded : Form → Note → Type 0
-IsAdded One note = note ≡ no_note
-IsAdded Two note = IfSome note.exit IsExit × IfSome note.place IsPlace
 
 -- a row that can stand behind these in a text of this form
 pub record CanBeNext (form : Form) (before : List Row) (row : Row) : Type 0 where
@@ -184,26 +178,16 @@ IsLater before seq = IfSome (slice_get before (length before - 1)) (λ last. las
 
 -- a report that can stand behind these
 pub record CanCome (around : Around) (before : List Report) (report : Report) : Type 0 where
-  pub few : length before < 1000
+  pub few : length before < most_reports
   pub good : IsReport report
   pub form : IsFormIn around.form report.form
   pub own : report.computer ≡ around.computer
   pub later : IsLater before report.seq
   pub below : report.seq < around.next
 
--- there are fewer than 1,000 reports before, and a number is left for one more
+-- there is room for one report more, and a number is left for it
 abbrev pub HasNumber : ℕ → List Report → Type 0
-HasNumber next before = (length before < 1000) × ((seq : ℕ) × IsId seq × IsLater before seq × (seq < next))
-
--- the row's action is above that of the last of these
-abbrev pub IsAboveRow : List ReportRow → ReportRow → Type 0
-IsAboveRow before row = IfSome (slice_get before (length before - 1)) (λ last. last.action < row.action)
-
--- a row of a report that can stand behind these
-pub record CanBeAdded (form : Form) (before : List ReportRow) (row : ReportRow) : Type 0 where
-  pub few : length before < 500
-  pub good : IsReportRow form row
-  pub above : IsAboveRow before row
+HasNumber next before = (length before < most_reports) × ((seq : ℕ) × IsId seq × IsLater before seq × (seq < next))
 
 -- the first line of a report
 abbrev pub report_line : Report → List ℕ

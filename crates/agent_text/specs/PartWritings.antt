@@ -3,9 +3,8 @@ use Rattle.std.specs.Prelude.{ℕ, List, [], ◌∷◌, ◌++◌, decimal, if◌
 use Rattle.std.specs.Fmt.{signed_decimal}
 use Rattle.line_forms.specs.Lines.{ended_line, lines_text}
 use Rattle.act_rules.specs.declared.row.Row.{Row}
-use Rattle.act_rules.specs.declared.row.Note.{Note}
 use Rattle.report_text.specs.declared.form.Form.TheVariants.{Two}
-use Rattle.report_text.specs.RowLines.{outcome_field, end_field, exit_field, component_field, line_field}
+use Rattle.report_text.specs.RowLines.{outcome_field, end_field}
 use Rattle.report_text.specs.Reports.{computer_line}
 use Rattle.agent_text.specs.Histories.{PlainHistory}
 use Rattle.agent_text.specs.AttemptLines.{cleared_field}
@@ -30,7 +29,3 @@ begun_text row = decimal row.number ++ (32 ∷ signed_decimal row.begun)
 
 abbrev pub ended_text : Row → List ℕ
 ended_text row = (32 ∷ outcome_field row.end) ++ ((32 ∷ end_field row.end) ++ (32 ∷ cleared_field row.cleared))
-
--- the fields of a note, each after a space
-abbrev pub note_text : Note → List ℕ
-note_text note = (32 ∷ exit_field note.exit) ++ ((32 ∷ component_field note.place) ++ (32 ∷ line_field note.place))

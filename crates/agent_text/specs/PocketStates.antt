@@ -9,6 +9,10 @@ use Rattle.agent_text.specs.declared.pocket.Loaded.TheVariants as loaded
 use Rattle.agent_text.specs.declared.pocket.SaveResult.{SaveResult}
 use Rattle.agent_text.specs.declared.pocket.SaveResult.TheVariants as save
 
+-- what a pocket tells of which no call fails
+abbrev pub sure_view : Option (List ℕ) → PocketView
+sure_view saved = record { saved = Some saved; faults = 0 }
+
 -- the saved text, if there is one, and the calls of each sort
 pub record PocketState : Type 0 where
   pub text : Option (List ℕ)

@@ -5,7 +5,8 @@ use Rattle.act_rules.specs.declared.row.Row.{Row}
 use Rattle.act_rules.specs.declared.row.Outcome.{Outcome}
 use Rattle.act_rules.specs.declared.row.Outcome.TheVariants.{Fixed, Failed, Interrupted}
 use Rattle.act_rules.specs.Rows.{IsRows}
-use Rattle.report_text.specs.ReportRows.{IsExit, IsPlace, no_note}
+use Rattle.act_rules.specs.Notes.{no_note}
+use Rattle.report_text.specs.ReportRows.{IsExit, IsPlace}
 
 -- A fixed attempt may have an exit code. A failed one may have one too, and a place: it has none where it was read from a text of
 -- form One. An interrupted one has neither.

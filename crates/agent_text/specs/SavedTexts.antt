@@ -10,17 +10,21 @@ use Rattle.line_forms.specs.BadLines.{AnswersBadLine}
 use Rattle.report_text.specs.declared.form.Form.{Form}
 use Rattle.report_text.specs.declared.form.Form.TheVariants.{One, Two}
 use Rattle.report_text.specs.declared.report.Report.{Report}
-use Rattle.report_text.specs.ReportRows.{no_note}
-use Rattle.report_text.specs.Reports.{IsReport, form_number, computer_line, end_line, report_lines}
+use Rattle.act_rules.specs.Notes.{no_note}
+use Rattle.report_text.specs.Reports.{IsReport, form_number, computer_line, end_line, most_report_bytes, report_lines}
 use Rattle.agent_text.specs.declared.saved.Saved.{Saved}
 use Rattle.agent_text.specs.declared.error.SavedError.{SavedError}
 use Rattle.agent_text.specs.declared.error.SavedError.TheVariants as error
 use Rattle.agent_text.specs.Histories.{PlainHistory, AreHistories, pending_ids}
 use Rattle.agent_text.specs.AttemptLines.{attempt_line}
 
--- the reports of a computer that aren't known to have arrived: at most 1,000, in strictly ascending order of numbers below the next
+-- the most reports that aren't known to have arrived
+abbrev pub most_reports : ℕ
+most_reports = 1000
+
+-- the reports of a computer that aren't known to have arrived, in strictly ascending order of numbers below the next
 pub record AreOutbox (computer : List ℕ) (next : ℕ) (reports : List Report) : Type 0 where
-  pub few : length reports ≤ 1000
+  pub few : length reports ≤ most_reports
   pub good : All IsReport reports
   pub own : All (λ report. report.computer ≡ computer) reports
   pub ascending : IsStrictlyIncreasing (map (λ report. report.seq) reports)
@@ -92,7 +96,7 @@ history_bytes h = 49 + 113 * length h.rows
 
 -- the most bytes of a report
 abbrev pub report_bytes : Report → ℕ
-report_bytes report = 108 + 113 * length report.rows
+report_bytes report = most_report_bytes (length report.rows)
 
 -- the most bytes of a saved text: room for it is reckoned by this
 abbrev pub most_bytes : List PlainHistory → List Report → ℕ

@@ -1,26 +1,18 @@
 ghost use Rattle.std.specs.Prelude.{◌≡◌, ◌∷◌, ◌++◌, ℕ, List, IfOk, IfSome, IsTrue, ◌↔◌, MatchOption};
 ghost use Rattle.desk_base.specs.Moments.{IsMoment};
-ghost use Rattle.act_rules.specs.declared.row.Note.{Note};
 ghost use Rattle.act_rules.specs.declared.row.Row.{Row};
 ghost use Rattle.act_rules.specs.Rows.{HasEnded, last_row};
 ghost use Rattle.line_forms.specs.FieldLists.{line_of};
 ghost use Rattle.line_forms.specs.Readers.{Spells, TakesAll, TakesOne};
 ghost use Rattle.agent_text.specs.AttemptLines.{attempt_fields, attempt_line, cleared_field};
 ghost use Rattle.report_text.specs.ReportRows.{IsExit, IsPlace};
-ghost use Rattle.report_text.specs.RowLines.{added_fields};
 ghost use Rattle.agent_text.specs.SavedRows.{IsSavedRow};
-ghost use Rattle.agent_text.specs.PartReadings.{CanBeNext, IsAdded, IsAttempt, IsBare, IsNoted, SpellsBare};
+ghost use Rattle.agent_text.specs.PartReadings.{CanBeNext, IsAttempt, IsBare, IsNoted, SpellsBare};
 
-use act_rules::{Note, Outcome, Row, Rows};
+use act_rules::{NO_NOTE, Outcome, Row, Rows};
 use line_forms::{Fields, Lines, after_word, read_moment};
-use report_text::{Form, read_attempt, read_end, read_exit, read_place};
+use report_text::{Form, read_attempt, read_end, take_note};
 use std::alloc::{AllocError, Global};
-
-/// The note of an attempt that has none.
-const NO_NOTE: Note = Note {
-    exit: None,
-    place: None,
-};
 
 /// The fields of an attempt that both forms have.
 #[derive(Clone, Copy)]
@@ -154,32 +146,15 @@ fn read_cleared(text: &[u8]) -> Option<Option<i64>>
     Some(Some(moment))
 }
 
-/// Takes the fields that a form adds.
-fn take_note(form: Form, fields: &mut Fields<'_>) -> Option<Note>
-    ensures { MatchOption result
-        ((note : Note) (more : List (List ℕ)) → IsAdded form note → ¬ (fields.old ≡ added_fields form note ++ more))
-        (λ note. IsAdded form note × (fields.old ≡ added_fields form note ++ fields.new)) }
-{
-    match form {
-        Form::One => Some(NO_NOTE),
-        Form::Two => {
-            let exit = read_exit(fields.take_field()?)?;
-            let component = fields.take_field()?;
-            let place = read_place(component, fields.take_field()?)?;
-            Some(Note { exit, place })
-        }
-    }
-}
-
 /// Whether an attempt that ended so, or runs, can have this note and can have been cleared.
 fn is_saved_row(row: &Row) -> bool
     ensures { IfSome row.now.note.exit IsExit → IfSome row.now.note.place IsPlace → (IsTrue result ↔ IsSavedRow row.now) }
 {
     let note = row.note;
     match row.end {
-        None => note.exit.is_none() && note.place.is_none() && row.cleared.is_none(),
+        None => note.is_empty() && row.cleared.is_none(),
         Some((_, Outcome::Fixed)) => note.place.is_none(),
         Some((_, Outcome::Failed)) => true,
-        Some((_, Outcome::Interrupted)) => note.exit.is_none() && note.place.is_none(),
+        Some((_, Outcome::Interrupted)) => note.is_empty(),
     }
 }

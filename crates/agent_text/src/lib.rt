@@ -15,6 +15,7 @@ mod report_reader;
 mod room_writer;
 mod saved;
 mod size;
+mod sure_pocket;
 
 pub use error::SavedError;
 pub use histories::Histories;
@@ -25,6 +26,8 @@ pub use law::{
 pub use memory_pocket::MemoryPocket;
 pub use pocket::{Loaded, Pocket, SaveResult};
 pub use reader::read_saved;
+pub use report_reader::MOST_REPORTS;
 pub use room_writer::fill_saved;
 pub use saved::{Reports, Saved};
 pub use size::saved_size;
+pub use sure_pocket::SurePocket;

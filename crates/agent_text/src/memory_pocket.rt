@@ -3,6 +3,7 @@ ghost use Rattle.agent_text.specs.Pockets.{LoadsFrom, SavesTo};
 ghost use Rattle.agent_text.specs.PocketStates.{LoadsMemory, SavesMemory, empty_pocket, pocket_view};
 
 use crate::pocket::{Loaded, Pocket, SaveResult};
+use crate::sure_pocket::SurePocket;
 use desk_base::{Bytes, Calls};
 use rel_lexer::Text;
 use std::alloc::{AllocError, Global};
@@ -11,8 +12,7 @@ use std::marker::Model;
 /// A pocket in memory. A load or a save that fails leaves its text.
 #[derive(Drop)]
 pub struct MemoryPocket {
-    alloc: Global,
-    text: Option<Bytes>,
+    pocket: SurePocket,
     loads: Calls,
     saves: Calls,
 }
@@ -22,7 +22,7 @@ impl Model for MemoryPocket {
 
     ghost Value = { PocketState };
 
-    ghost view = { λ p. record { text = p.text; loads = p.loads; saves = p.saves } };
+    ghost view = { λ p. record { text = p.pocket; loads = p.loads; saves = p.saves } };
 }
 
 impl MemoryPocket {
@@ -31,8 +31,7 @@ impl MemoryPocket {
         ensures { result ≡ empty_pocket loads.items saves.items }
     {
         MemoryPocket {
-            alloc,
-            text: None,
+            pocket: SurePocket::new(alloc),
             loads: Calls::new(alloc, loads),
             saves: Calls::new(alloc, saves),
         }
@@ -42,7 +41,7 @@ impl MemoryPocket {
     pub fn text(&self) -> Option<&Bytes>
         ensures { option_copied result ≡ self.now.text }
     {
-        self.text.as_ref()
+        self.pocket.text()
     }
 }
 
@@ -63,13 +62,7 @@ impl Pocket for MemoryPocket {
             self.loads.fault();
             return Loaded::Failed;
         }
-        let Some(text) = &self.text else {
-            return Loaded::Nothing;
-        };
-        match text.copy() {
-            Ok(copy) => Loaded::Saved(copy),
-            Err(_) => Loaded::Memory,
-        }
+        self.pocket.load()
     }
 
     fn save(&mut self, text: &[u8]) -> SaveResult
@@ -80,12 +73,6 @@ impl Pocket for MemoryPocket {
             self.saves.fault();
             return SaveResult::Failed;
         }
-        match Bytes::from_slice(self.alloc, text) {
-            Ok(copy) => {
-                self.text = Some(copy);
-                SaveResult::Done
-            }
-            Err(_) => SaveResult::Memory,
-        }
+        self.pocket.save(text)
     }
 }

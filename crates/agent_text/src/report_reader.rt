@@ -1,23 +1,19 @@
-ghost use Rattle.std.specs.Prelude.{◌≡◌, ◌<◌, IfOk, IsTrue, ◌↔◌, MatchResult, Ok, Err};
+ghost use Rattle.std.specs.Prelude.{◌≡◌, ◌<◌, IsTrue, ◌↔◌, MatchResult, Ok, Err};
 ghost use Rattle.line_forms.specs.Names.{IsName};
 ghost use Rattle.line_forms.specs.Numbers.{IsId};
-ghost use Rattle.line_forms.specs.Readers.{TakesAll, TakesExactly, TakesOne};
-ghost use Rattle.report_text.specs.RowLines.{row_line};
+ghost use Rattle.line_forms.specs.Readers.{TakesExactly, TakesOne};
 ghost use Rattle.report_text.specs.Reports.{computer_line, form_line, seq_line};
-ghost use Rattle.agent_text.specs.PartReadings.{CanBeAdded, HasNumber, IsAboveRow, IsFormIn, IsLater, TakesAllReports, TakesReport, around_of};
+ghost use Rattle.agent_text.specs.PartReadings.{HasNumber, IsFormIn, IsLater, TakesAllReports, TakesReport, around_of};
 
 use crate::error::SavedError;
 use crate::list::add;
-use line_forms::{Lines, read_id};
+use line_forms::Lines;
 use rel_lexer::Text;
-use report_text::{Form, Report, ReportRow, ReportRows, read_row};
-use std::alloc::{AllocError, Global};
+use report_text::{Form, Report, read_form, read_seq, take_rows};
+use std::alloc::Global;
 
 /// The most reports of a saved text.
-const MOST_REPORTS: usize = 1000;
-
-/// The most rows of a report.
-const MOST_ROWS: usize = 500;
+pub const MOST_REPORTS: usize = 1000;
 
 /// What the reports of a saved text have in common: its form, its computer, and the number of the next report.
 #[derive(Clone, Copy)]
@@ -81,7 +77,7 @@ fn take_report(
     }))
 }
 
-/// Whether there are fewer than 1,000 reports before, and a number is left for one more.
+/// Whether there is room for one report more, and a number is left for it.
 fn has_number(before: &[Report], next: u64) -> bool
     requires { IsId next }
     ensures { IsTrue result ↔ HasNumber next before.now }
@@ -99,18 +95,21 @@ fn has_number(before: &[Report], next: u64) -> bool
 fn take_form(around: Form, lines: &mut Lines<'_>) -> Option<Form>
     ensures { TakesOne (IsFormIn around) form_line lines.old lines.new result }
 {
-    if lines.take_exactly(b"report 1") {
-        return Some(Form::One);
+    let form = read_form(lines.line_ahead()?)?;
+    if !is_form_in(around, form) {
+        return None;
     }
+    lines.skip_line();
+    Some(form)
+}
+
+/// Whether a report of this form can stand in a text of that form.
+fn is_form_in(around: Form, form: Form) -> bool
+    ensures { IsTrue result ↔ IsFormIn around form }
+{
     match around {
-        Form::One => None,
-        Form::Two => {
-            if lines.take_exactly(b"report 2") {
-                Some(Form::Two)
-            } else {
-                None
-            }
-        }
+        Form::One => matches!(form, Form::One),
+        Form::Two => true,
     }
 }
 
@@ -138,7 +137,7 @@ fn is_same(text: &[u8], other: &[u8]) -> bool
 fn take_seq(before: &[Report], next: u64, lines: &mut Lines<'_>) -> Option<u64>
     ensures { TakesOne (λ seq. IsId seq × IsLater before.now seq × (seq < next)) seq_line lines.old lines.new result }
 {
-    let seq = read_id(lines.rest_ahead(b"seq")?)?;
+    let seq = read_seq(lines.line_ahead()?)?;
     if seq >= next {
         return None;
     }
@@ -156,41 +155,5 @@ fn is_later(before: &[Report], seq: u64) -> bool
     match before.last() {
         None => true,
         Some(last) => last.seq < seq,
-    }
-}
-
-/// Takes the lines of rows, as far as they go.
-fn take_rows(alloc: Global, form: Form, lines: &mut Lines<'_>) -> Result<ReportRows, AllocError>
-    ensures { IfOk result (λ rows. TakesAll (CanBeAdded form) (row_line form) lines.old lines.new rows) }
-{
-    let mut rows = Vec::new(alloc);
-    while let Some(row) = take_row(form, rows.as_slice(), lines) {
-        rows.push(row)?;
-    }
-    Ok(ReportRows::from_vec(rows))
-}
-
-/// Takes the line of a row that can follow these rows, if it is ahead.
-fn take_row(form: Form, rows: &[ReportRow], lines: &mut Lines<'_>) -> Option<ReportRow>
-    ensures { TakesOne (CanBeAdded form rows.now) (row_line form) lines.old lines.new result }
-{
-    let row = read_row(form, lines.line_ahead()?)?;
-    if rows.len() >= MOST_ROWS {
-        return None;
-    }
-    if !is_above(rows, &row) {
-        return None;
-    }
-    lines.skip_line();
-    Some(row)
-}
-
-/// Whether the row's action is above that of the last of these rows.
-fn is_above(rows: &[ReportRow], row: &ReportRow) -> bool
-    ensures { IsTrue result ↔ IsAboveRow rows.now row.now }
-{
-    match rows.last() {
-        None => true,
-        Some(last) => last.action < row.action,
     }
 }

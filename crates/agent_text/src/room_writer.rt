@@ -6,16 +6,14 @@ ghost use Rattle.report_text.specs.Reports.{report_text};
 ghost use Rattle.agent_text.specs.Histories.{pending_ids, shown_history};
 ghost use Rattle.agent_text.specs.AttemptLines.{attempt_line, cleared_field};
 ghost use Rattle.agent_text.specs.SavedTexts.{pending_line, saved_text};
-ghost use Rattle.agent_text.specs.PartWritings.{begun_text, ended_text, head_text, history_text, note_text, pending_text};
+ghost use Rattle.agent_text.specs.PartWritings.{begun_text, ended_text, head_text, history_text, pending_text};
 
 use crate::histories::Histories;
 use crate::history::History;
-use act_rules::{Note, Row};
+use act_rules::Row;
 use desk_base::Room;
 use rel_lexer::Text;
-use report_text::{
-    Report, fill_component, fill_end, fill_exit, fill_line, fill_report, outcome_field,
-};
+use report_text::{Report, fill_end, fill_note, fill_report, outcome_field};
 
 /// Appends the text that an agent saves, for which there is room. It takes no memory.
 pub fn fill_saved(
@@ -130,18 +128,6 @@ fn fill_cleared(cleared: Option<i64>, room: &mut Room)
         None => room.push(b'-'),
         Some(moment) => room.signed_decimal(moment),
     }
-}
-
-fn fill_note(note: Note, room: &mut Room)
-    requires { HasRoom room.old (length (note_text note)) }
-    ensures { Fills room.old room.new (note_text note) }
-{
-    room.push(b' ');
-    fill_exit(note.exit, room);
-    room.push(b' ');
-    fill_component(note.place, room);
-    room.push(b' ');
-    fill_line(note.place, room)
 }
 
 /// Appends the lines of the pending actions.

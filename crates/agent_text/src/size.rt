@@ -1,19 +1,19 @@
-ghost use Rattle.std.specs.Prelude.{◌≡◌, ◌+◌, ◌*◌, IfSome, sum_by};
+ghost use Rattle.std.specs.Prelude.{◌≡◌, IfSome, sum_by};
 ghost use Rattle.agent_text.specs.Histories.{shown_history};
 ghost use Rattle.agent_text.specs.SavedTexts.{history_bytes, most_bytes, report_bytes};
 
 use crate::histories::Histories;
 use crate::history::History;
-use report_text::Report;
+use report_text::{Report, report_size};
 
-/// The most bytes of the first three lines and the last, and of the first three lines of a report and its last.
+/// The most bytes of the first three lines and the last.
 const LONGEST_HEAD: usize = 108;
 
 /// The most bytes of the lines `action` and `pending`.
 const LONGEST_ACTION: usize = 49;
 
-/// The most bytes of the line of an attempt, and of the line of a row.
-const LONGEST_ROW: usize = 113;
+/// The most bytes of the line of an attempt.
+const LONGEST_ATTEMPT: usize = 113;
 
 /// The most bytes of a saved text with these histories and reports. None where that is no number of the machine's.
 pub fn saved_size(histories: &Histories, reports: &[Report]) -> Option<usize>
@@ -30,7 +30,7 @@ fn histories_size(histories: &[History]) -> Option<usize>
 {
     let mut most: usize = 0;
     for history in histories {
-        most = most.checked_add(rows_size(LONGEST_ACTION, history.rows.as_slice().len())?)?;
+        most = most.checked_add(history_size(history)?)?;
     }
     Some(most)
 }
@@ -41,14 +41,15 @@ fn reports_size(reports: &[Report]) -> Option<usize>
 {
     let mut most: usize = 0;
     for report in reports {
-        most = most.checked_add(rows_size(LONGEST_HEAD, report.rows.as_slice().len())?)?;
+        most = most.checked_add(report_size(report.rows.as_slice().len())?)?;
     }
     Some(most)
 }
 
-/// The most bytes of so many rows, with what stands around them.
-fn rows_size(around: usize, rows: usize) -> Option<usize>
-    ensures { IfSome result (λ most. most ≡ around + 113 * rows) }
+/// The most bytes of the lines of a history.
+fn history_size(history: &History) -> Option<usize>
+    ensures { IfSome result (λ most. most ≡ history_bytes (shown_history history.now)) }
 {
-    around.checked_add(LONGEST_ROW.checked_mul(rows)?)
+    let attempts = history.rows.as_slice().len();
+    LONGEST_ACTION.checked_add(LONGEST_ATTEMPT.checked_mul(attempts)?)
 }

@@ -20,9 +20,9 @@ use Rattle.fix_site.specs.declared.action_reader.ActionEnd.{ActionEnd}
 use Rattle.fix_site.specs.RuleLines.{IsRules, start_line, rules_lines}
 use Rattle.fix_site.specs.Actions.{IsAction, IsTarget, action_line, issued_line, content_line, members_line, target_lines, state_line, end_line, action_rest, action_lines, AreActionLines}
 use Rattle.fix_site.specs.Readings.{IsTargetOver, choice_line, named_fields, HeadValue, IsHead, head_lines, IsEnd, end_lines, IsActionOf}
-use Rattle.fix_site.proofs.Parts.{Lines, IsOneWay, Then, HasSome, single, one_way-line, rest_same, regroup}
-use Rattle.fix_site.proofs.Lists.{EndsForeign, IsForeign, with_first, Many, each_none, each_more, stops_empty, many_one}
-use Rattle.fix_site.proofs.Stuck.{no_tail, Only, stuck_first, stuck_behind, stuck_many, stuck_same, stuck_line, stuck_only}
+use Rattle.line_forms.proofs.Parts.{HasSome, IsOneWay, Lines, Only, Then, one_way-line, rest_same, single, stuck_behind, stuck_first, stuck_line, stuck_only, stuck_same}
+use Rattle.line_forms.proofs.Sequences.{EndsForeign, IsForeign, Many, each_more, each_none, known, many_known, no_tail, stops_empty, stuck_taken, with_first}
+use Rattle.fix_site.proofs.ListLemmas.{regroup}
 use Rattle.fix_site.proofs.ContentLines.{apart}
 use Rattle.fix_site.proofs.FieldLemmas.{named_one}
 use Rattle.fix_site.proofs.Rules.{rules_one, some_rules}
@@ -260,7 +260,7 @@ at_target old new (passes, none) =
 
 pub behind_target : (t : Target) (old mid new : LineState) → IsTarget t → Passes old mid (target_lines t) → IsTargetOver t mid → IsStuck (AreLinesOf IsEnd end_lines) mid new → IsStuck FromTarget old new
 behind_target t old mid new is passes none stuck =
-    stuck_many CanItem item_line AfterItems (items_of t) old mid new item_one foreign (takes_items old mid t is passes none)
+    stuck_taken (known CanItem item_line no_tail AfterItems item_one foreign) (items_of t) old mid new (takes_items old mid t is passes none)
     (stuck_same (AreLinesOf IsEnd end_lines) (AfterItems (items_of t)) mid new (λ lines h. (items_some t is, h)) (λ lines h. h.1) stuck)
 
 -- the parts are those of an action
@@ -326,7 +326,7 @@ action_one id a b x y (is, a_id) (fine, b_id) e =
     let e1 : (target_lines a.target ++ end_lines (end_in a)) ++ x ≡ (target_lines b.target ++ end_lines (end_in b)) ++ y = rest_same head_lines (head_in a) (head_in b) _ _ head e in
     let e2 : flat_map (with_first item_line no_tail) (items_of a.target) ++ (end_lines (end_in a) ++ x) ≡ flat_map (with_first item_line no_tail) (items_of b.target) ++ (end_lines (end_in b) ++ y) =
     regroup (items_flat a.target) (end_lines (end_in a)) x (items_flat b.target) (end_lines (end_in b)) y e1 in
-    let items = many_one CanItem item_line no_tail (items_of a.target) (items_of b.target) (end_lines (end_in a) ++ x) (end_lines (end_in b) ++ y) item_one
+    let items = many_known CanItem item_line no_tail (items_of a.target) (items_of b.target) (end_lines (end_in a) ++ x) (end_lines (end_in b) ++ y) item_one
     (items_can a.target is.target) (items_can b.target fine.target) (no_item_ahead (end_in a) x) (no_item_ahead (end_in b) y) e2 in
     let end = end_one (end_in a) (end_in b) x y is.rules fine.rules items.1 in
     ap (λ (n : ℕ). action_of n (head_in a) a.target (end_in a)) (a_id ∙ sym b_id)

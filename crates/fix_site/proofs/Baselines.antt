@@ -13,10 +13,10 @@ use Rattle.fix_site.specs.Actions.{end_line}
 use Rattle.fix_site.specs.Contents.{title_line, relevance_line, component_line, baseline_rest}
 use Rattle.fix_site.specs.Blocks.{HasFixlet}
 use Rattle.fix_site.specs.Readings.{Anywhere, IsBaselineOf, IsComponent}
-use Rattle.fix_site.proofs.Parts.{Lines, IsOneWay, Then, HasSome, single, regroup}
-use Rattle.fix_site.proofs.Lists.{OneWayBehind, EndsForeign, with_first, Many, each_none, each_more, many_one, stops_empty}
-use Rattle.fix_site.proofs.Stuck.{no_tail, flat_single, Only, stuck_first, stuck_behind, stuck_many, stuck_same, stuck_line, stuck_only}
-use Rattle.fix_site.proofs.ListLemmas.{all_each, each_all}
+use Rattle.line_forms.proofs.Lasts.{each_all}
+use Rattle.line_forms.proofs.Parts.{HasSome, IsOneWay, Lines, Only, Then, single, stuck_behind, stuck_first, stuck_line, stuck_only, stuck_same}
+use Rattle.line_forms.proofs.Sequences.{EndsForeign, Many, OneWayBehind, each_more, each_none, flat_single, known, many_known, no_tail, stops_empty, stuck_taken, with_first}
+use Rattle.fix_site.proofs.ListLemmas.{all_each, regroup}
 use Rattle.fix_site.proofs.ContentLines.{a_rest, title_one, relevance_one, component_same, component_not_relevance, end_not_component}
 
 abbrev baseline_of : ℕ → List ℕ → List (List ℕ) → List ℕ → Baseline
@@ -123,7 +123,7 @@ baseline_none blocks id title questions components old a b new good (component, 
     let empty : TakesAll (Can blocks) component_line b new [] = subst P none three in
     stuck_whole blocks id old new good
     (stuck_behind IsRest (single title_line) (Behind3 blocks) title old a new title_one is_title one
-    (stuck_many (Anywhere IsRest) relevance_line (Behind2 blocks) questions a b new relevance_one (foreign2 blocks) two
+    (stuck_taken (known (Anywhere IsRest) relevance_line no_tail (Behind2 blocks) relevance_one (foreign2 blocks)) questions a b new two
     ([], empty.1, stops_empty (Can blocks) component_line no_tail Behind1 new (some2 blocks component is questions) (λ rest h. omega (arith, h.0)) empty.2)))
 
 -- the last line isn't ahead
@@ -133,8 +133,8 @@ pub baseline_end : (blocks : List Block) (id : ℕ) (title : List ℕ) (question
 baseline_end blocks id title questions components old a b d new good is_title one two three some none =
     stuck_whole blocks id old new good
     (stuck_behind IsRest (single title_line) (Behind3 blocks) title old a new title_one is_title one
-    (stuck_many (Anywhere IsRest) relevance_line (Behind2 blocks) questions a b new relevance_one (foreign2 blocks) two
-    (stuck_many (Can blocks) component_line Behind1 components b d new (component_one blocks) (foreign1 blocks) three
+    (stuck_taken (known (Anywhere IsRest) relevance_line no_tail (Behind2 blocks) relevance_one (foreign2 blocks)) questions a b new two
+    (stuck_taken (known (Can blocks) component_line no_tail Behind1 (component_one blocks) (foreign1 blocks)) components b d new three
     (stuck_same (Only end_line) (Behind1 components) d new (λ lines h. (some, h)) (λ lines h. h.1) (stuck_only end_line d new none)))))
 
 -- all lines are
@@ -167,11 +167,11 @@ baseline_one blocks id f g x y (is, fixlets, f_id) (fine, others, g_id) e =
     let e1 : (map relevance_line f.relevance ++ m_f) ++ x ≡ (map relevance_line g.relevance ++ m_g) ++ y = cons_tail _ _ _ _ e in
     let e2 : flat_map (with_first relevance_line no_tail) f.relevance ++ (m_f ++ x) ≡ flat_map (with_first relevance_line no_tail) g.relevance ++ (m_g ++ y) =
     regroup (flat_single relevance_line f.relevance) m_f x (flat_single relevance_line g.relevance) m_g y e1 in
-    let two = many_one (Anywhere IsRest) relevance_line no_tail f.relevance g.relevance (m_f ++ x) (m_g ++ y) relevance_one
+    let two = many_known (Anywhere IsRest) relevance_line no_tail f.relevance g.relevance (m_f ++ x) (m_g ++ y) relevance_one
     (all_each IsRest f.relevance is.relevance) (all_each IsRest g.relevance fine.relevance) (no_question f.components x is.some) (no_question g.components y fine.some) e2 in
     let e4 : flat_map (with_first component_line no_tail) f.components ++ (end_line ∷ x) ≡ flat_map (with_first component_line no_tail) g.components ++ (end_line ∷ y) =
     regroup (flat_single component_line f.components) (end_line ∷ []) x (flat_single component_line g.components) (end_line ∷ []) y two.1 in
-    let four = many_one (Can blocks) component_line no_tail f.components g.components (end_line ∷ x) (end_line ∷ y) (component_one blocks)
+    let four = many_known (Can blocks) component_line no_tail f.components g.components (end_line ∷ x) (end_line ∷ y) (component_one blocks)
     (all_each (IsComponent blocks) f.components (both blocks f.components is.components fixlets)) (all_each (IsComponent blocks) g.components (both blocks g.components fine.components others)) (no_component x) (no_component y) e4 in
     baseline_is f g (f_id ∙ sym g_id) title two.0 four.0
   where

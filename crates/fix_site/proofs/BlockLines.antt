@@ -21,10 +21,9 @@ use Rattle.fix_site.specs.Contents.{fixlet_rest, baseline_rest}
 use Rattle.fix_site.specs.Blocks.{IsBlock, IsKindOf, HasId, HasFixlet, CanFollow, AreBlocks, HasNewId, block_id, id_line, block_rest, block_lines}
 use Rattle.fix_site.specs.Readings.{IsTwice, IsFixletOf, IsBaselineOf, IsActionOf, IsComponent}
 use Rattle.fix_site.specs.BlockHeads.{IsKindFor, head_line, CanBegin, CanStand, IsBlockOf}
-use Rattle.fix_site.proofs.Parts.{Lines}
-use Rattle.fix_site.proofs.Lists.{OneWayBehind, with_first}
-use Rattle.fix_site.proofs.Stuck.{stuck_same}
-use Rattle.fix_site.proofs.ListLemmas.{each_all}
+use Rattle.line_forms.proofs.Lasts.{each_all}
+use Rattle.line_forms.proofs.Parts.{Lines, stuck_same}
+use Rattle.line_forms.proofs.Sequences.{OneWayBehind, with_first}
 use Rattle.fix_site.proofs.ContentLines.{apart}
 use Rattle.fix_site.proofs.Fixlets.{fixlet_one}
 use Rattle.fix_site.proofs.Baselines.{baseline_one}

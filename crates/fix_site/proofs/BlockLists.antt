@@ -7,8 +7,8 @@ use Rattle.line_forms.proofs.Passing.{passes_then}
 use Rattle.fix_site.specs.declared.block.Block.{Block}
 use Rattle.fix_site.specs.Blocks.{AreBlocks, CanFollow, block_lines}
 use Rattle.fix_site.specs.Readings.{TakesBlock, TakesBlocks}
-use Rattle.fix_site.proofs.Parts.{Lines}
-use Rattle.fix_site.proofs.Lists.{each_more}
+use Rattle.line_forms.proofs.Parts.{Lines}
+use Rattle.line_forms.proofs.Sequences.{each_more}
 
 all_more : (blocks : List Block) (block : Block) → flat_map block_lines (blocks ++ block ∷ []) ≡ flat_map block_lines blocks ++ block_lines block
 all_more [] block = append-nil (block_lines block)

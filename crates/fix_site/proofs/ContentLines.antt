@@ -18,9 +18,8 @@ use Rattle.line_forms.specs.Numbers.{IsId}
 use Rattle.line_forms.proofs.Passing.{cons_head}
 use Rattle.line_forms.proofs.PlainLemmas.{id_one}
 use Rattle.fix_site.specs.Readings.{Anywhere, FitsScript}
-use Rattle.fix_site.proofs.Parts.{Lines, IsOneWay, single, one_way-line}
-use Rattle.fix_site.proofs.Lists.{OneWayBehind, with_first}
-use Rattle.fix_site.proofs.Stuck.{no_tail, not_taken}
+use Rattle.line_forms.proofs.Parts.{IsOneWay, Lines, not_taken, one_way-line, single}
+use Rattle.line_forms.proofs.Sequences.{OneWayBehind, no_tail, with_first}
 
 -- a short text
 pub a_rest : IsRest (codes "a")

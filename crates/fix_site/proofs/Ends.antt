@@ -4,7 +4,7 @@ use Rattle.std.proofs.lemmas.List.{take_all, take_at}
 use Rattle.line_forms.specs.LineStates.{LineState, before_lines, lines_of}
 use Rattle.line_forms.specs.Readers.{Passes}
 use Rattle.line_forms.proofs.Passing.{all_lines, stands_behind}
-use Rattle.fix_site.proofs.Parts.{Lines}
+use Rattle.line_forms.proofs.Parts.{Lines}
 
 -- the first lines of a text behind which the cursor stands, and the next one where there is one
 pub first_lines : (text : List ℕ) (before : Lines) (new : LineState) (line : List ℕ) (more : Lines) → Passes (before_lines text) new before → new.lines ≡ line ∷ more → take (length before + 1) (lines_of text) ≡ before ++ line ∷ []

@@ -1,17 +1,17 @@
 -- Fields have no spaces, and each is that of one value.
-use Rattle.std.proofs.Common.{ℕ, ◌≡◌, ◌^◌, ◌<◌, ℤ, pos, negsuc, List, [], ◌∷◌, length, sym, ap, ◌∙◌, arith, All}
+use Rattle.std.proofs.Common.{ℕ, ◌≡◌, ◌^◌, ◌<◌, ℤ, pos, negsuc, List, [], ◌∷◌, sym, ap, ◌∙◌, arith, All}
 use Rattle.std.specs.Prelude.{decimal}
 use Rattle.std.specs.Fmt.{signed_decimal}
 use Rattle.std.proofs.lemmas.Int.{ints}
-use Rattle.std.proofs.lemmas.List.Elements.{All-nil, All-cons, All-weaker}
+use Rattle.std.proofs.lemmas.List.Elements.{All-nil, All-cons}
 use Rattle.std.proofs.lemmas.Fmt.{decimal_injective, signed_decimal_injective}
-use Rattle.line_forms.specs.Cuts.{Lacks}
 use Rattle.line_forms.specs.Names.{IsName}
 use Rattle.line_forms.specs.FieldLists.{fields_of, line_of}
-use Rattle.line_forms.proofs.Pieces.{pieces-join, join-pieces}
+use Rattle.line_forms.proofs.FieldReading.{fields_one}
+use Rattle.line_forms.proofs.Pieces.{join-pieces}
 use Rattle.line_forms.specs.Numbers.{IsId}
 use Rattle.line_forms.proofs.Passing.{cons_head, cons_tail}
-use Rattle.line_forms.proofs.PlainLemmas.{IsPlain, id_one, lacks_plain, plain_decimal, plain_id, plain_name, plain_signed}
+use Rattle.line_forms.proofs.PlainLemmas.{IsPlain, id_one, plain_decimal, plain_id, plain_name, plain_signed}
 use Rattle.act_rules.specs.declared.rule.Hours.{Hours}
 use Rattle.fix_site.specs.RuleLines.{IsHours, IsCount, IsWait}
 use Rattle.fix_site.specs.Readings.{named_fields, counted_fields}
@@ -20,14 +20,6 @@ use lib.Signed.{mag}
 wait_mag : (z : ℤ) → IsWait z → mag z < 2 ^ 63
 wait_mag (pos n) h = omega (arith, ints, h.1)
 wait_mag (negsuc n) h = omega (arith, ints, h.0)
-
--- fields without spaces are read again from their line
-pub fields_again : (fields : List (List ℕ)) → 0 < length fields → All IsPlain fields → fields_of (line_of fields) ≡ fields
-fields_again fields some plain = pieces-join 32 fields some (All-weaker IsPlain (Lacks 32) (λ field h. lacks_plain 32 field (omega arith) h) fields plain)
-
--- and known by it
-pub fields_one : (fields others : List (List ℕ)) → 0 < length fields → 0 < length others → All IsPlain fields → All IsPlain others → line_of fields ≡ line_of others → fields ≡ others
-fields_one fields others some any plain clear e = sym (fields_again fields some plain) ∙ ap fields_of e ∙ fields_again others any clear
 
 two_plain : (a b : List ℕ) → IsPlain a → IsPlain b → All IsPlain (a ∷ b ∷ [])
 two_plain a b h k = All-cons IsPlain a (b ∷ []) h (All-cons IsPlain b [] k (All-nil IsPlain))
@@ -61,10 +53,7 @@ pub counted_one : (a b : ℕ) (t u : ℤ) → IsCount a → IsCount b → IsWait
 counted_one a b t u h k m n e =
     both_one a b t u h k m n (fields_one (counted_fields a t) (counted_fields b u) (omega arith) (omega arith) (plain_counted a t h m) (plain_counted b u k n) e)
 
--- the fields of a text that is a line of these
-pub again : (text : List ℕ) (fields : List (List ℕ)) → 0 < length fields → All IsPlain fields → text ≡ line_of fields → fields_of text ≡ fields
-again text fields some plain e = ap fields_of e ∙ fields_again fields some plain
-
+-- two fields of a text
 pub first_same : (text a b x y : List ℕ) → fields_of text ≡ a ∷ b ∷ [] → fields_of text ≡ x ∷ y ∷ [] → a ≡ x
 first_same text a b x y h k = cons_head a x (b ∷ []) (y ∷ []) (sym h ∙ k)
 

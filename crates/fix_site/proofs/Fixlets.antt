@@ -13,10 +13,10 @@ use Rattle.fix_site.specs.declared.fixlet.Success.TheVariants as success
 use Rattle.fix_site.specs.Actions.{end_line}
 use Rattle.fix_site.specs.Contents.{IsSuccess, title_line, relevance_line, success_line, fixlet_rest}
 use Rattle.fix_site.specs.Readings.{Anywhere, FitsScript, IsFixletOf}
-use Rattle.fix_site.proofs.Parts.{Lines, IsOneWay, Then, HasSome, single, regroup}
-use Rattle.fix_site.proofs.Lists.{EndsForeign, with_first, Many, each_none, many_one}
-use Rattle.fix_site.proofs.Stuck.{no_tail, flat_single, Only, stuck_first, stuck_behind, stuck_many, stuck_same, stuck_line, stuck_only}
-use Rattle.fix_site.proofs.ListLemmas.{all_each, each_all, script_each, each_script}
+use Rattle.line_forms.proofs.Lasts.{each_all}
+use Rattle.line_forms.proofs.Parts.{HasSome, IsOneWay, Lines, Only, Then, single, stuck_behind, stuck_first, stuck_line, stuck_only, stuck_same}
+use Rattle.line_forms.proofs.Sequences.{EndsForeign, Many, each_none, flat_single, known, many_known, no_tail, stuck_taken, with_first}
+use Rattle.fix_site.proofs.ListLemmas.{all_each, each_script, regroup, script_each}
 use Rattle.fix_site.proofs.ContentLines.{a_rest, title_one, relevance_one, success_one, success_not_relevance, script_one, end_not_content}
 
 abbrev fixlet_of : ℕ → List ℕ → List (List ℕ) → Success → List (List ℕ) → Fixlet
@@ -101,7 +101,7 @@ pub fixlet_success : (id : ℕ) (title : List ℕ) (questions : List (List ℕ))
 fixlet_success id title questions old a b new good is_title one two none =
     stuck_whole id old new good
     (stuck_behind IsRest (single title_line) Behind4 title old a new title_one is_title one
-    (stuck_many (Anywhere IsRest) relevance_line Behind3 questions a b new relevance_one foreign4 two
+    (stuck_taken (known (Anywhere IsRest) relevance_line no_tail Behind3 relevance_one foreign4) questions a b new two
     (stuck_first IsSuccess (single success_line) Behind2 b new success_one (λ v is. some2 v) (stuck_line IsSuccess success_line success.Lines b new tt none))))
 
 -- the last line isn't ahead
@@ -110,9 +110,9 @@ pub fixlet_end : (id : ℕ) (title : List ℕ) (questions : List (List ℕ)) (s 
 fixlet_end id title questions s script old a b d e new good is_title one two is_s three four none =
     stuck_whole id old new good
     (stuck_behind IsRest (single title_line) Behind4 title old a new title_one is_title one
-    (stuck_many (Anywhere IsRest) relevance_line Behind3 questions a b new relevance_one foreign4 two
+    (stuck_taken (known (Anywhere IsRest) relevance_line no_tail Behind3 relevance_one foreign4) questions a b new two
     (stuck_behind IsSuccess (single success_line) Behind2 s b d new success_one is_s three
-    (stuck_many FitsScript held.content_line Behind1 script d e new script_one foreign2 four (stuck_only end_line e new none)))))
+    (stuck_taken (known FitsScript held.content_line no_tail Behind1 script_one foreign2) script d e new four (stuck_only end_line e new none)))))
 
 -- all lines are
 pub fixlet_whole : (id : ℕ) (title : List ℕ) (questions : List (List ℕ)) (s : Success) (script : List (List ℕ)) (old a b d e new : LineState) → IsId id → IsRest title → Passes old a (title_line title ∷ []) → TakesAll (Anywhere IsRest) relevance_line a b questions →
@@ -144,13 +144,13 @@ fixlet_one id f g x y (is, f_id) (fine, g_id) e =
     let e1 : (map relevance_line f.relevance ++ success_line f.success ∷ m_f) ++ x ≡ (map relevance_line g.relevance ++ success_line g.success ∷ m_g) ++ y = cons_tail _ _ _ _ e in
     let e2 : flat_map (with_first relevance_line no_tail) f.relevance ++ (success_line f.success ∷ (m_f ++ x)) ≡ flat_map (with_first relevance_line no_tail) g.relevance ++ (success_line g.success ∷ (m_g ++ y)) =
     regroup (flat_single relevance_line f.relevance) (success_line f.success ∷ m_f) x (flat_single relevance_line g.relevance) (success_line g.success ∷ m_g) y e1 in
-    let two = many_one (Anywhere IsRest) relevance_line no_tail f.relevance g.relevance (success_line f.success ∷ (m_f ++ x)) (success_line g.success ∷ (m_g ++ y)) relevance_one
+    let two = many_known (Anywhere IsRest) relevance_line no_tail f.relevance g.relevance (success_line f.success ∷ (m_f ++ x)) (success_line g.success ∷ (m_g ++ y)) relevance_one
     (all_each IsRest f.relevance is.relevance) (all_each IsRest g.relevance fine.relevance) (no_question f.success (m_f ++ x)) (no_question g.success (m_g ++ y)) e2 in
     let success = success_one f.success g.success _ _ is.success fine.success two.1 in
     let e3 : m_f ++ x ≡ m_g ++ y = cons_tail _ _ _ _ two.1 in
     let e4 : flat_map (with_first held.content_line no_tail) f.script ++ (end_line ∷ x) ≡ flat_map (with_first held.content_line no_tail) g.script ++ (end_line ∷ y) =
     regroup (flat_single held.content_line f.script) (end_line ∷ []) x (flat_single held.content_line g.script) (end_line ∷ []) y e3 in
-    let four = many_one FitsScript held.content_line no_tail f.script g.script (end_line ∷ x) (end_line ∷ y) script_one
+    let four = many_known FitsScript held.content_line no_tail f.script g.script (end_line ∷ x) (end_line ∷ y) script_one
     (script_each f.script is.script) (script_each g.script fine.script) (no_content x) (no_content y) e4 in
     fixlet_is f g (f_id ∙ sym g_id) title two.0 success four.0
   where

@@ -17,11 +17,11 @@ use Rattle.fix_site.specs.declared.site.Site.{Site}
 use Rattle.fix_site.specs.declared.error.SiteError.{SiteError}
 use Rattle.fix_site.specs.declared.error.SiteError.TheVariants as error
 use Rattle.fix_site.specs.Actions.{IsAction, AreActionLines, action_lines, action_text}
-use Rattle.fix_site.specs.Blocks.{AreBlocks, CanFollow, id_line, block_lines}
+use Rattle.fix_site.specs.Blocks.{AreBlocks, CanFollow, id_line, block_rest, block_lines}
 use Rattle.fix_site.specs.Sites.{IsSite, IsDigestValue, AreSiteLines, site_line, digest_line, site_digest, body_lines, lines_with, site_lines, site_text}
 use Rattle.fix_site.specs.Answers.{IsShort, ReadsAction, ReadsSite}
-use Rattle.fix_site.proofs.Parts.{Lines}
-use Rattle.fix_site.proofs.Lists.{Compares, compare}
+use Rattle.line_forms.proofs.Parts.{Lines}
+use Rattle.line_forms.proofs.Sequences.{Compares, compare}
 use Rattle.fix_site.proofs.Actions.{action_lines_one}
 use Rattle.fix_site.proofs.BlockLines.{block_one}
 use Rattle.fix_site.proofs.SiteParts.{Head, head_one, digest_not_id, digest_same}
@@ -105,7 +105,7 @@ site_known site other digest found is fine is_digest is_found e =
     let names : site.name ≡ other.name = ap (λ (h : Head). h.0) head in
     let good : AreBlocks site.name other.blocks = subst N (sym names) fine.blocks in
     let rest = cons_tail (site_line site.name site.version) (site_line other.name other.version) (flat_map block_lines site.blocks ++ digest_line digest ∷ []) (flat_map block_lines other.blocks ++ digest_line found ∷ []) e in
-    let parts = same (compare (CanFollow site.name) block_lines site.blocks other.blocks (digest_line digest ∷ []) (digest_line found ∷ []) (block_one site.name) is.blocks good rest) in (
+    let parts = same (compare (CanFollow site.name) id_line block_rest site.blocks other.blocks (digest_line digest ∷ []) (digest_line found ∷ []) (block_one site.name) is.blocks good rest) in (
       ap (λ (n : List ℕ). site_of n site.version site.blocks) names ∙ ap (λ (h : Head). site_of other.name h.1 site.blocks) head ∙ ap (λ (l : List Block). site_of other.name other.version l) parts.0,
       digest_same digest found is_digest is_found (cons_head (digest_line digest) (digest_line found) [] [] parts.1),
     )

@@ -1,6 +1,3 @@
-pub mod Parts
-pub mod Lists
-pub mod Stuck
 pub mod Ends
 pub mod ListLemmas
 pub mod Writings

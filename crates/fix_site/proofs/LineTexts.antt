@@ -3,7 +3,7 @@ use Rattle.std.proofs.Common.{ℕ, ◌≡◌, ◌≢◌, ◌==◌, ℤ, List, []
 use Rattle.std.specs.List.{list_all}
 use Rattle.std.specs.Fmt.{signed_decimal}
 use Rattle.std.specs.Prelude.{codes, decimal, not, Bool, flat_map}
-use Rattle.std.proofs.lemmas.List.Elements.{All-nil, All-cons, All-append, All-head, All-tail}
+use Rattle.std.proofs.lemmas.List.Elements.{All-nil, All-cons, All-append}
 use Rattle.hex.specs.Hex.{encode_lower, decode_sized, is_hex_digit, lower_digits}
 use Rattle.hex.proofs.HexLemmas.{decode_sized-encode_lower, decode_sized-twice, decode_of-ok, length-encode_with}
 use Rattle.line_forms.specs.Cuts.{Lacks}
@@ -14,7 +14,8 @@ use Rattle.line_forms.specs.FieldLists.{line_of}
 use Rattle.line_forms.specs.Lines.{IsLine}
 use Rattle.line_forms.specs.Numbers.{IsId}
 use Rattle.line_forms.proofs.Cutting.{lacks_by}
-use Rattle.line_forms.proofs.PlainLemmas.{lacks_fields, lacks_plain, plain_id, plain_moment, plain_name}
+use Rattle.line_forms.proofs.LineBytes.{all_flat, all_mapped, lacks_id, lacks_name, worded}
+use Rattle.line_forms.proofs.PlainLemmas.{lacks_fields, lacks_plain, plain_moment}
 use Rattle.act_rules.specs.declared.rule.Rules.{Rules}
 use Rattle.fix_site.specs.declared.action.Action.{Action}
 use Rattle.fix_site.specs.declared.action.Target.{Target}
@@ -36,21 +37,12 @@ use Rattle.fix_site.proofs.FieldLemmas.{plain_named, plain_counted}
 use Rattle.fix_site.proofs.RuleFields.{hours_one_plain, reapply_plain}
 use Rattle.fix_site.proofs.BlockLines.{all_good}
 
--- a word and what follows it
-worded : (word rest : List ℕ) → list_all (λ x. not (x == 10)) word ≡ true → Lacks 10 rest → IsLine (word ++ rest)
-worded word rest h k = All-append (λ x. x ≢ 10) word rest (lacks_by 10 word h) k
-
-lacks_id : (id : ℕ) → IsId id → Lacks 10 (decimal id)
-lacks_id id is = lacks_plain 10 (decimal id) (omega arith) (plain_id id is)
-
 rest_line : (rest : List ℕ) → IsRest rest → Lacks 10 rest
 rest_line rest is = is.1.1
 
--- lines of a list
+-- lines of a list, and others
 lines_of_all : {V : Type 0} (P : V → Type 0) (first : V → List ℕ) (vs : List V) (rest : List (List ℕ)) → ((v : V) → P v → IsLine (first v)) → All P vs → All IsLine rest → All IsLine (map first vs ++ rest)
-lines_of_all P first [] rest says all h = h
-lines_of_all P first (v ∷ vs) rest says all h =
-    All-cons IsLine (first v) (map first vs ++ rest) (says v (All-head P v vs all)) (lines_of_all P first vs rest says (All-tail P v vs all) h)
+lines_of_all P first vs rest says all h = All-append IsLine (map first vs) rest (all_mapped first P says vs all) h
 
 end_lines : All IsLine (end_line ∷ [])
 end_lines = All-cons IsLine end_line [] (lacks_by 10 end_line refl) (All-nil IsLine)
@@ -91,7 +83,7 @@ target_are target.All rest is h = All-cons IsLine (codes "target all") rest (lac
 target_are (target.Computers names) rest is h = lines_of_all IsName computer_line names rest computer_is is.1 h
   where
     computer_is : (name : List ℕ) → IsName name → IsLine (computer_line name)
-    computer_is name is = worded (field_text (codes "target computer")) name refl (lacks_plain 10 name (omega arith) (plain_name name is))
+    computer_is name is = worded (field_text (codes "target computer")) name refl (lacks_name name is)
 target_are (target.Where question) rest is h = All-cons IsLine _ rest (worded (field_text (codes "target where")) question refl (rest_line question is)) h
 
 moment_is : (moment : Option ℤ) → IsMaybeMoment moment → Lacks 10 (moment_field moment)
@@ -155,9 +147,7 @@ block_are (baseline_block b) is = All-cons IsLine (baseline_line b.id) (baseline
 block_are (action_block a) is = whole_action_are a is
 
 blocks_are : (blocks : List Block) → All IsBlock blocks → All IsLine (flat_map block_lines blocks)
-blocks_are [] h = All-nil IsLine
-blocks_are (block ∷ blocks) h =
-    All-append IsLine (block_lines block) (flat_map block_lines blocks) (block_are block (All-head IsBlock block blocks h)) (blocks_are blocks (All-tail IsBlock block blocks h))
+blocks_are blocks h = all_flat block_lines IsBlock block_are blocks h
 
 -- a hexadecimal digit is no LF
 digits_lack : (text digest : List ℕ) → decode_sized text 32 ≡ Ok digest → length text ≡ 64 → Lacks 10 text

@@ -1,36 +1,21 @@
 -- Lists each of whose values can stand there, in other words.
-use Rattle.std.proofs.Common.{ℕ, suc, ◌≡◌, ◌+◌, ◌<◌, ◌≤◌, List, [], ◌∷◌, ◌++◌, length, refl, sym, ap, subst, ◌∙◌, arith, All, ◌⊎◌, inl, inr, append_assoc, length-append}
-use Rattle.std.proofs.lemmas.List.Elements.{All-nil, All-cons, All-head, All-tail}
+use Rattle.std.proofs.Common.{ℕ, suc, ◌≡◌, ◌+◌, ◌<◌, ◌≤◌, List, [], ◌∷◌, ◌++◌, length, sym, ap, subst, ◌∙◌, arith, All, inl, inr, append_assoc, length-append}
 use Rattle.line_forms.specs.Lines.{lines_text, ended_line}
 use Rattle.line_forms.specs.Names.{IsLineText}
 use Rattle.line_forms.specs.Readers.{EachCan}
+use Rattle.line_forms.proofs.Lasts.{all_at, each_all, last_or_none}
 use Rattle.line_forms.proofs.LineLemmas.{lines_text-append}
+use Rattle.line_forms.proofs.Parts.{Lines}
 use Rattle.fix_site.specs.Contents.{IsScript}
 use Rattle.fix_site.specs.Readings.{Anywhere, FitsScript, FitsRoom}
-
-pub all_at : {V : Type 0} (P : V → Type 0) (before after : List V) (v : V) → All P (before ++ v ∷ after) → P v
-all_at P [] after v h = All-head P v after h
-all_at P (x ∷ before) after v h = all_at P before after v (All-tail P x (before ++ v ∷ after) h)
 
 pub all_each : {V : Type 0} (P : V → Type 0) (vs : List V) → All P vs → EachCan (Anywhere P) vs
 all_each {V} P vs all before after v e = let Q : List V → Type 0 = All P in all_at P before after v (subst Q e all)
 
-pub each_all : {V : Type 0} (P : V → Type 0) (Can : List V → V → Type 0) → ((before : List V) (v : V) → Can before v → P v) → (vs : List V) → EachCan Can vs → All P vs
-each_all {V} P Can says vs each = from [] vs each
-  where
-    from : (done left : List V) → EachCan Can (done ++ left) → All P left
-    from done [] h = All-nil P
-    from done (v ∷ left) h =
-        let E : List V → Type 0 = EachCan Can in
-        All-cons P v left (says done v (h done left v refl)) (from (done ++ v ∷ []) left (subst E (sym (append_assoc done (v ∷ []) left)) h))
-
--- a list is empty or has a last value
-pub last_or_none : {V : Type 0} (vs : List V) → (vs ≡ []) ⊎ ((before : List V) × (v : V) × (vs ≡ before ++ v ∷ []))
-last_or_none [] = inl refl
-last_or_none (v ∷ vs) = elim (last_or_none vs) [
-  | inl e ↦ inr ([], v, ap (λ l. v ∷ l) e)
-  | inr e ↦ inr (v ∷ e.0, e.1, ap (λ l. v ∷ l) e.2)
-]
+-- lists that are the same, and what follows them
+pub regroup : {a b c d : Lines} → a ≡ b → (m x : Lines) → c ≡ d → (n y : Lines) → (b ++ m) ++ x ≡ (d ++ n) ++ y → a ++ (m ++ x) ≡ c ++ (n ++ y)
+regroup {a} {b} {c} {d} h m x k n y e =
+    ap (λ l. l ++ (m ++ x)) h ∙ sym (append_assoc b m x) ∙ e ∙ append_assoc d n y ∙ ap (λ l. l ++ (n ++ y)) (sym k)
 
 -- the bytes of lines, one of which is this
 pub size_at : (before after : List (List ℕ)) (line : List ℕ) → length (lines_text (before ++ line ∷ after)) ≡ length (lines_text before) + length line + 1 + length (lines_text after)
@@ -83,7 +68,3 @@ pub room_left : (items result : List (List ℕ)) (line : List ℕ) (room rest : 
 room_left items result line room rest e left taken =
     let size : length (lines_text result) ≡ length (lines_text items) + length line + 1 + 0 = ap (λ l. length (lines_text l)) e ∙ size_at items [] line in
     omega arith
-
-pub empty_list : {A : Type 0} (xs : List A) → length xs ≡ 0 → xs ≡ []
-empty_list [] h = refl
-empty_list (x ∷ xs) h = absurd (omega (arith, h))

@@ -18,7 +18,7 @@ use Rattle.fix_site.specs.Contents.{fixlet_line, baseline_line, title_line, rele
 use Rattle.fix_site.specs.Blocks.{IsKindOf, block_lines}
 use Rattle.fix_site.specs.Sites.{IsSite, site_line, digest_line, site_digest, site_lines}
 use Rattle.fix_site.specs.Pieces.{relevance_pieces, success_pieces, script_pieces, fixlet_pieces, block_pieces, blocks_pieces, pieces_of, IsPieceOf}
-use Rattle.fix_site.proofs.Parts.{Lines}
+use Rattle.line_forms.proofs.Parts.{Lines}
 
 -- a list of lines with a part in it
 abbrev IsAround : Lines → Lines → Lines → Lines → Type 0

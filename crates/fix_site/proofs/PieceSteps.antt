@@ -9,7 +9,7 @@ use Rattle.fix_site.specs.declared.site.Site.{Site}
 use Rattle.fix_site.specs.Blocks.{CanFollow, IsKindOf, block_lines}
 use Rattle.fix_site.specs.Sites.{IsSite, site_lines}
 use Rattle.fix_site.specs.Readings.{IsContent}
-use Rattle.fix_site.proofs.ListLemmas.{each_all}
+use Rattle.line_forms.proofs.Lasts.{each_all}
 use Rattle.fix_site.proofs.PiecePlaces.{lines_step, site_length}
 
 -- a block of a site that has no actions

@@ -15,7 +15,8 @@ use Rattle.act_rules.specs.declared.rule.Reapply.{Reapply}
 use Rattle.act_rules.specs.declared.rule.Reapply.TheVariants.{Never, Again, While}
 use Rattle.fix_site.specs.RuleLines.{IsHours, IsCount, IsWait, IsReapply, moment_field, hours_fields, day_digit, reapply_fields}
 use Rattle.fix_site.specs.Readings.{IsMaybeMoment, counted_fields}
-use Rattle.fix_site.proofs.FieldLemmas.{plain_counted, fields_one, both_one, hours_plain}
+use Rattle.line_forms.proofs.FieldReading.{fields_one}
+use Rattle.fix_site.proofs.FieldLemmas.{plain_counted, both_one, hours_plain}
 
 -- no byte of a number is above 57, the digit 9
 low_decimal : (n : ℕ) → n < 2 ^ 64 → All (λ byte. byte ≤ 57) (decimal n)

@@ -13,9 +13,8 @@ use Rattle.act_rules.specs.declared.rule.Reapply.{Reapply}
 use Rattle.act_rules.specs.declared.rule.Reapply.TheVariants.{Never}
 use Rattle.fix_site.specs.RuleLines.{IsRules, IsHours, IsCount, IsWait, IsReapply, moment_field, hours_fields, day_digit, reapply_fields, start_line, until_line, client_lines, hours_line, days_line, retries_line, reapply_line, rules_lines}
 use Rattle.fix_site.specs.Readings.{IsMaybeMoment, counted_fields}
-use Rattle.fix_site.proofs.Parts.{Lines, IsOneWay, Then, HasSome, single, one_way-line}
-use Rattle.fix_site.proofs.Lists.{OneWayBehind, EndsForeign, with_first, Many, each_none, each_more}
-use Rattle.fix_site.proofs.Stuck.{no_tail, stuck_first, stuck_behind, stuck_many, stuck_same, stuck_line}
+use Rattle.line_forms.proofs.Parts.{HasSome, IsOneWay, Lines, Then, one_way-line, single, stuck_behind, stuck_first, stuck_line, stuck_same}
+use Rattle.line_forms.proofs.Sequences.{EndsForeign, Many, OneWayBehind, each_more, each_none, known, no_tail, stuck_taken, with_first}
 use Rattle.fix_site.proofs.ContentLines.{apart}
 use Rattle.fix_site.proofs.FieldLemmas.{counted_one}
 use Rattle.fix_site.proofs.RuleFields.{moment_same, hours_same, days_same, reapply_same}
@@ -166,7 +165,7 @@ behind_until until old mid new is passes stuck = stuck_behind IsMaybeMoment (sin
 
 pub behind_client : (client : Bool) (old mid new : LineState) → TakesExactly (codes "time client") old mid client → IsStuck FromHours mid new → IsStuck FromClient old new
 behind_client client old mid new takes stuck =
-    stuck_many Once client_first (λ us. FromHours) (client_list client) old mid new once_one foreign (takes_client old mid client takes) stuck
+    stuck_taken (known Once client_first no_tail (λ us. FromHours) once_one foreign) (client_list client) old mid new (takes_client old mid client takes) stuck
 
 pub behind_hours : (hours : Option Hours) (old mid new : LineState) → IsMaybeHours hours → Passes old mid (hours_line hours ∷ []) → IsStuck FromDays mid new → IsStuck FromHours old new
 behind_hours hours old mid new is passes stuck = stuck_behind IsMaybeHours (single hours_line) (λ h. FromDays) hours old mid new hours_one is passes stuck

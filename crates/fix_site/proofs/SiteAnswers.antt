@@ -18,7 +18,7 @@ use Rattle.fix_site.specs.declared.site.Site.{Site}
 use Rattle.fix_site.specs.Sites.{IsSite, IsDigestValue, AreSiteLines, EndsInTwiceId, site_line, digest_line, body_lines, lines_with, site_digest}
 use Rattle.fix_site.specs.Answers.{IsShort, AnswersOtherLine, ReadsSite}
 use Rattle.fix_site.specs.Readings.{IsTwiceAhead, TakesBlocks, ReadsStated}
-use Rattle.fix_site.proofs.Parts.{Lines}
+use Rattle.line_forms.proofs.Parts.{Lines}
 use Rattle.line_forms.proofs.LineLemmas.{lines_text-append}
 use Rattle.fix_site.proofs.Ends.{first_lines, no_more_lines}
 use Rattle.fix_site.proofs.SiteStops.{site_block, site_twice, twice_not_begun, whole_not_twice, site_ends}

@@ -15,8 +15,8 @@ use Rattle.fix_site.specs.declared.block.Block.TheVariants.{Fixlet as fixlet_blo
 use Rattle.fix_site.specs.Blocks.{CanFollow, id_line, block_rest, block_lines}
 use Rattle.fix_site.specs.Sites.{IsDigestValue, AreSiteLines, site_line, digest_line}
 use Rattle.fix_site.specs.Readings.{named_fields}
-use Rattle.fix_site.proofs.Parts.{Lines, IsOneWay, Then, single, one_way-line}
-use Rattle.fix_site.proofs.Lists.{EndsForeign, Many}
+use Rattle.line_forms.proofs.Parts.{IsOneWay, Lines, Then, one_way-line, single}
+use Rattle.line_forms.proofs.Sequences.{EndsForeign, Many}
 use Rattle.fix_site.proofs.ContentLines.{apart}
 use Rattle.fix_site.proofs.FieldLemmas.{named_one}
 

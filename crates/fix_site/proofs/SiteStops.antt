@@ -12,8 +12,8 @@ use Rattle.fix_site.specs.declared.site.Site.{Site}
 use Rattle.fix_site.specs.Blocks.{AreBlocks, CanFollow, IsKindOf, HasId, block_id, id_line, block_rest, block_lines}
 use Rattle.fix_site.specs.Sites.{IsSite, IsDigestValue, AreSiteLines, EndsInTwiceId, site_line, digest_line, body_lines, lines_with}
 use Rattle.fix_site.specs.Readings.{IsTwice, IsTwiceAhead}
-use Rattle.fix_site.proofs.Parts.{Lines, HasSome, Then, single, covers, stops_line, stops_behind, stops_first, stops_same}
-use Rattle.fix_site.proofs.Lists.{Compares, each_none, compare, stops_many, stops_inside}
+use Rattle.line_forms.proofs.Parts.{HasSome, Lines, Then, covers, holds_none, single, stops_behind, stops_first, stops_line, stops_same}
+use Rattle.line_forms.proofs.Sequences.{Compares, compare, each_none, known, stops_inside, stops_many}
 use Rattle.fix_site.proofs.Actions.{a_named}
 use Rattle.fix_site.proofs.BlockLines.{IsBadBlock, IsTwiceLine, block_one, twice_cannot}
 use Rattle.fix_site.proofs.SiteParts.{Head, IsHead, head_line, head_one, Last, Rest, there, back, digest_not_id, foreign, snoc_front}
@@ -73,7 +73,7 @@ twice_not_begun lines ends (more, (site, digest, is, is_digest, e)) =
     let N : List ℕ → Type 0 = λ n. AreBlocks n site.blocks in
     let fine : AreBlocks t.name site.blocks = subst N (sym (ap (λ (h : Head). h.0) head)) is.blocks in
     never (t.name) t.blocks site.blocks ends.block digest more ends.good.blocks fine ends.twice
-    (compare (CanFollow t.name) block_lines t.blocks site.blocks (id_line ends.block ∷ more) (digest_line digest ∷ []) (block_one t.name) ends.good.blocks fine
+    (compare (CanFollow t.name) id_line block_rest t.blocks site.blocks (id_line ends.block ∷ more) (digest_line digest ∷ []) (block_one t.name) ends.good.blocks fine
     (cons_tail (site_line t.name t.version) (site_line site.name site.version) _ _ long))
   where
     never : (name : List ℕ) (mine others : List Block) (block : Block) (digest : List ℕ) (more : Lines) → AreBlocks name mine → AreBlocks name others → HasId mine (block_id block) → Compares block_lines mine others (id_line block ∷ more) (digest_line digest ∷ []) → ⊥
@@ -111,7 +111,8 @@ block_stops : (head : Head) (blocks : List Block) (before : Lines) (state : Line
 block_stops head blocks [] state is are some stops = absurd (omega (arith, some))
 block_stops head blocks (start ∷ begun) state is are some stops =
     behind_head head (flat_map block_lines blocks ++ start ∷ begun) state is
-    (stops_inside (CanFollow head.0) id_line block_rest Last blocks start begun state (block_one head.0) (foreign head.0) are (λ v can. some_last (blocks ++ v ∷ [])) stops)
+    (stops_inside (known (CanFollow head.0) id_line block_rest Last (block_one head.0) (foreign head.0)) blocks start begun state are (λ v can. some_last (blocks ++ v ∷ []))
+    (holds_none (CanFollow head.0 blocks) block_lines (start ∷ begun) state (block_one head.0 blocks) stops) stops)
 
 -- and they end in no id that stood before
 block_not_twice : (head : Head) (blocks : List Block) (before : Lines) (state : LineState) → IsHead head → AreBlocks head.0 blocks → 0 < length before → StopsAt (AreLinesOf (CanFollow head.0 blocks) block_lines) before state →
@@ -124,7 +125,7 @@ block_not_twice head blocks before state is are some stops (line, more, e, ends)
     let fine : AreBlocks head.0 t.blocks = subst N (sym (ap (λ (h : Head). h.0) same)) ends.good.blocks in
     let rest : flat_map block_lines blocks ++ before ≡ flat_map block_lines t.blocks ++ [] =
     cons_tail (head_line head) (site_line t.name t.version) (flat_map block_lines blocks ++ before) (flat_map block_lines t.blocks) parts.0 ∙ sym (append-nil (flat_map block_lines t.blocks)) in
-    never before t.blocks some stops fine (compare (CanFollow head.0) block_lines blocks t.blocks before [] (block_one head.0) are fine rest)
+    never before t.blocks some stops fine (compare (CanFollow head.0) id_line block_rest blocks t.blocks before [] (block_one head.0) are fine rest)
   where
     never : (before : Lines) (others : List Block) → 0 < length before → StopsAt (AreLinesOf (CanFollow head.0 blocks) block_lines) before state → AreBlocks head.0 others → Compares block_lines blocks others before [] → ⊥
     never [] others some stops fine c = omega (arith, some)
@@ -148,7 +149,8 @@ last_stops : (head : Head) (blocks : List Block) (state : LineState) → IsHead 
     StopsAt AreSiteLines (front head blocks ++ []) state
 last_stops head blocks state is are none no_digest =
     behind_head head (flat_map block_lines blocks ++ []) state is
-    (stops_many (CanFollow head.0) id_line block_rest Last blocks [] state state (block_one head.0) (foreign head.0) are none refl (stops_line IsDigestValue digest_line some_digest.0 state some_digest.1 no_digest))
+    (stops_many (known (CanFollow head.0) id_line block_rest Last (block_one head.0) (foreign head.0)) blocks [] state state are none (λ front v e goes. goes.3) refl
+    (stops_line IsDigestValue digest_line some_digest.0 state some_digest.1 no_digest))
 
 -- an id that stood before is ahead
 pub site_twice : (name : List ℕ) (version : ℕ) (blocks : List Block) (old a mid : LineState) → IsName name → IsId version → Passes old a (site_line name version ∷ []) → AreBlocks name blocks → Passes a mid (flat_map block_lines blocks) →
@@ -207,7 +209,7 @@ site_last name version blocks old a mid new is_name is_version one are two none 
         let fine : AreBlocks name t.blocks = subst N (sym names) ends.good.blocks in
         let rest : flat_map block_lines blocks ++ [] ≡ flat_map block_lines t.blocks ++ [] =
         append-nil (flat_map block_lines blocks) ∙ cons_tail (site_line name version) (site_line t.name t.version) (flat_map block_lines blocks) (flat_map block_lines t.blocks) parts.0 ∙ sym (append-nil (flat_map block_lines t.blocks)) in
-        never t.blocks ends.block line more e parts.1 (subst K (sym names) ends.kind) ends.twice (compare (CanFollow name) block_lines blocks t.blocks [] [] (block_one name) are fine rest)
+        never t.blocks ends.block line more e parts.1 (subst K (sym names) ends.kind) ends.twice (compare (CanFollow name) id_line block_rest blocks t.blocks [] [] (block_one name) are fine rest)
 
 -- a site and its digest were taken
 pub site_whole : (name : List ℕ) (version : ℕ) (blocks : List Block) (digest : List ℕ) (old a mid new : LineState) → Passes old a (site_line name version ∷ []) → Passes a mid (flat_map block_lines blocks) → Passes mid new (digest_line digest ∷ []) →
@@ -225,7 +227,7 @@ whole_not_twice site digest line is is_digest ends =
     let fine : AreBlocks site.name t.blocks = subst N (sym (ap (λ (h : Head). h.0) same)) ends.good.blocks in
     let rest : flat_map block_lines site.blocks ++ (digest_line digest ∷ []) ≡ flat_map block_lines t.blocks ++ [] =
     cons_tail (site_line site.name site.version) (site_line t.name t.version) (flat_map block_lines site.blocks ++ digest_line digest ∷ []) (flat_map block_lines t.blocks) parts.0 ∙ sym (append-nil (flat_map block_lines t.blocks)) in
-    never t.blocks (compare (CanFollow site.name) block_lines site.blocks t.blocks (digest_line digest ∷ []) [] (block_one site.name) is.blocks fine rest)
+    never t.blocks (compare (CanFollow site.name) id_line block_rest site.blocks t.blocks (digest_line digest ∷ []) [] (block_one site.name) is.blocks fine rest)
   where
     never : (others : List Block) → Compares block_lines site.blocks others (digest_line digest ∷ []) [] → ⊥
     never others (inl h) = something (digest_line digest) [] h.1
@@ -240,7 +242,7 @@ site_ends site digest is is_digest line more (other, found, fine, is_found, e) =
     let same = head_one (site.name, site.version) (other.name, other.version) _ _ (is.name, is.version) (fine.name, fine.version) long in
     let N : List ℕ → Type 0 = λ n. AreBlocks n other.blocks in
     let good : AreBlocks site.name other.blocks = subst N (sym (ap (λ (h : Head). h.0) same)) fine.blocks in
-    never other.blocks found (compare (CanFollow site.name) block_lines site.blocks other.blocks (digest_line digest ∷ (line ∷ more)) (digest_line found ∷ []) (block_one site.name) is.blocks good
+    never other.blocks found (compare (CanFollow site.name) id_line block_rest site.blocks other.blocks (digest_line digest ∷ (line ∷ more)) (digest_line found ∷ []) (block_one site.name) is.blocks good
     (cons_tail (site_line site.name site.version) (site_line other.name other.version) _ _ long))
   where
     never : (others : List Block) (found : List ℕ) → Compares block_lines site.blocks others (digest_line digest ∷ (line ∷ more)) (digest_line found ∷ []) → ⊥

@@ -12,10 +12,9 @@ use Rattle.fix_site.specs.declared.action.Target.{Target}
 use Rattle.fix_site.specs.declared.action.Target.TheVariants as target
 use Rattle.fix_site.specs.Actions.{IsTarget, computer_line, where_line, target_lines}
 use Rattle.fix_site.specs.Readings.{TakesTarget, IsTargetOver, Anywhere}
-use Rattle.fix_site.proofs.Parts.{Lines}
-use Rattle.fix_site.proofs.Lists.{OneWayBehind, with_first, each_none, each_more}
-use Rattle.fix_site.proofs.Stuck.{no_tail, not_taken}
-use Rattle.fix_site.proofs.ListLemmas.{all_at, each_all}
+use Rattle.line_forms.proofs.Lasts.{all_at, each_all}
+use Rattle.line_forms.proofs.Parts.{Lines, not_taken}
+use Rattle.line_forms.proofs.Sequences.{OneWayBehind, each_more, each_none, no_tail, with_first}
 use Rattle.fix_site.proofs.ContentLines.{apart}
 
 -- one line of a target

@@ -9,3 +9,9 @@ pub mod BadLines
 pub mod Passing
 pub mod PlainLemmas
 pub mod Sorted
+pub mod FieldReading
+pub mod Lasts
+pub mod LineBytes
+pub mod Parts
+pub mod Sequences
+pub mod Rising

@@ -72,6 +72,12 @@ pub not_spelled : {V : Type 0} (Is : V → Type 0) (text_of : V → List ℕ) (s
 not_spelled Is text_of state word rest more e none v other is h =
     none v is (append_cancel_left (field_text word) rest (text_of v) (cons_head (field_text word ++ rest) (field_text word ++ text_of v) more other (sym e ∙ h)))
 
+-- the value whose line is ahead isn't one of these, and so none of these is
+pub other_ahead : {V : Type 0} (Can : V → Type 0) (line_of : V → List ℕ) (state : LineState) (line : List ℕ) (more : List (List ℕ)) (read : V) → ((v : V) → Can v → line_of v ≡ line_of read → v ≡ read) →
+    state.lines ≡ line ∷ more → line ≡ line_of read → (Can read → ⊥) → IsNotAhead Can line_of state
+other_ahead Can line_of state line more read one ahead spelled other v rest can h =
+    other (subst Can (one v can (cons_head (line_of v) line rest more (sym h ∙ ahead) ∙ spelled)) can)
+
 pub stands_behind : (text : List ℕ) (before : List (List ℕ)) (new : LineState) → Passes (before_lines text) new before → StandsBehind text before new
 stands_behind text before new passes = passes.1 text [] (StandsBehind-start text)
 

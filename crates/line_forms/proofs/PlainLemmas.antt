@@ -1,13 +1,13 @@
 -- Texts of bytes from 45 on, as numbers and names, and what they are known by. Other crates may cite these lemmas.
-use Rattle.std.proofs.Common.{ℕ, suc, ◌≡◌, ◌≢◌, ◌+◌, ◌%◌, ◌^◌, ◌<◌, ◌≤◌, ℤ, pos, negsuc, List, [], ◌∷◌, arith, All, inl, inr, true}
-use Rattle.std.specs.Prelude.{decimal, nat_le}
+use Rattle.std.proofs.Common.{ℕ, suc, ◌≡◌, ◌≢◌, ◌+◌, ◌%◌, ◌^◌, ◌<◌, ◌≤◌, ℤ, pos, negsuc, List, [], ◌∷◌, length, get_or, refl, ap, ◌∙◌, arith, All, inl, inr, true}
+use Rattle.std.specs.Prelude.{codes, decimal, nat_le}
 use Rattle.std.specs.Fmt.{signed_decimal}
 use Rattle.std.specs.List.{list_all}
 use Rattle.std.proofs.lemmas.Int.{ints}
 use Rattle.std.proofs.lemmas.Bool.{cases_lt}
 use Rattle.std.proofs.lemmas.Bool.Decides.{nat_tests}
 use Rattle.std.proofs.lemmas.List.Elements.{All-nil, All-cons, All-append, All-head, All-tail, All-weaker}
-use Rattle.std.proofs.lemmas.Fmt.{decimal_by_steps, decimal_injective, signed_decimal_injective}
+use Rattle.std.proofs.lemmas.Fmt.{decimal_by_steps, decimal_digit, decimal_injective, decimal_nonempty, first_decimal, signed_decimal_injective}
 use Rattle.desk_base.specs.Moments.{IsMoment}
 use Rattle.line_forms.specs.Cuts.{Lacks}
 use Rattle.line_forms.specs.FieldLists.{line_of}
@@ -78,3 +78,21 @@ plain_id id h = plain_decimal id (omega (arith, h.1))
 
 pub id_one : (a b : ℕ) → IsId a → IsId b → decimal a ≡ decimal b → a ≡ b
 id_one a b h k e = decimal_injective a b (omega (arith, h.1)) (omega (arith, k.1)) e
+
+-- ---- `-` for what is missing
+pub plain_dash : IsPlain (codes "-")
+plain_dash = plain_by (codes "-") refl
+
+-- which no number is
+pub dash_decimal : (n : ℕ) → n < 2 ^ 64 → codes "-" ≡ decimal n → ⊥
+dash_decimal n h e = elim (cases_lt n 10) [
+  | inl small ↦ let d = decimal_digit n small in let k : 45 ≡ 48 + n = ap (λ ds. get_or ds 0 0) (e ∙ d) in omega arith
+  | inr large ↦ let first = first_decimal n (omega (arith, large)) h in let k : 45 ≡ get_or (decimal n) 0 0 = ap (λ ds. get_or ds 0 0) e in omega arith
+]
+
+pub dash_signed : (z : ℤ) → mag z < 2 ^ 63 → codes "-" ≡ signed_decimal z → ⊥
+dash_signed (pos n) h e = dash_decimal n (omega (arith, h)) e
+dash_signed (negsuc n) h e =
+    let some = decimal_nonempty (suc n) (omega (arith, h)) in
+    let k : 1 ≡ suc (length (decimal (suc n))) = ap (length {A = ℕ}) e in
+    omega arith

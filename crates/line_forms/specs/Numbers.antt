@@ -7,9 +7,13 @@ use Rattle.desk_base.specs.Moments.{IsMoment}
 abbrev pub IsNumber : ℕ → List ℕ → ℕ → Type 0
 IsNumber most text number = (number ≤ most) × (text ≡ decimal number)
 
--- an id, or the version of a site: from 1 to 2^53
+-- the last id, the last version of a site and the last number of a report
+abbrev pub last_id : ℕ
+last_id = 2 ^ 53
+
+-- an id, or the version of a site, or the number of a report
 abbrev pub IsId : ℕ → Type 0
-IsId number = (1 ≤ number) × (number ≤ 2 ^ 53)
+IsId number = (1 ≤ number) × (number ≤ last_id)
 
 -- the text is this number, from least to most
 abbrev pub IsSignedNumber : ℤ → ℤ → List ℕ → ℤ → Type 0

@@ -3,18 +3,16 @@ use Rattle.std.proofs.Common.{ℕ, ◌≡◌, ◌<◌, List, [], ◌∷◌, leng
 use Rattle.std.specs.Prelude.{codes, decimal, nat_le}
 use Rattle.std.specs.Fmt.{signed_decimal}
 use Rattle.std.specs.List.{list_all}
-use Rattle.std.proofs.lemmas.List.Elements.{All-nil, All-cons, All-weaker}
+use Rattle.std.proofs.lemmas.List.Elements.{All-nil, All-cons}
 use Rattle.std.proofs.lemmas.Fmt.{decimal_injective}
-use Rattle.line_forms.specs.Cuts.{Lacks}
 use Rattle.line_forms.specs.FieldLists.{fields_of, line_of}
 use Rattle.line_forms.specs.Names.{IsName}
-use Rattle.line_forms.proofs.Pieces.{pieces-join}
-use Rattle.line_forms.proofs.PlainLemmas.{IsPlain, lacks_plain, plain_by, plain_decimal, plain_id, plain_moment, plain_name}
+use Rattle.line_forms.proofs.FieldReading.{fields_again}
+use Rattle.line_forms.proofs.PlainLemmas.{IsPlain, plain_by, plain_decimal, plain_id, plain_moment, plain_name}
 use Rattle.office_text.specs.declared.order.Order.{Order}
 use Rattle.office_text.specs.declared.order.Order.TheVariants as order
 use Rattle.office_text.specs.Orders.{IsAnyNumber, IsOrder}
 use Rattle.office_text.specs.OrderLines.{first_fields, first_line}
-use Rattle.office_text.proofs.Fronts.{Lines}
 
 plain_number : (number : ℕ) → IsAnyNumber number → IsPlain (decimal number)
 plain_number number h = plain_decimal number (omega (arith, h))
@@ -54,20 +52,17 @@ some_first : (o : Order) → 0 < length (first_fields o)
 some_first (order.Publish text) = omega arith
 some_first other = omega arith
 
-again : (fields : Lines) → 0 < length fields → All IsPlain fields → fields_of (line_of fields) ≡ fields
-again fields some plain = pieces-join 32 fields some (All-weaker IsPlain (Lacks 32) (λ field h. lacks_plain 32 field (omega arith) h) fields plain)
-
 -- a first line has its fields, and no others
 pub first_again : (o : Order) → IsOrder o → fields_of (first_line o) ≡ first_fields o
-first_again o is = again (first_fields o) (some_first o) (plain_first o is)
+first_again o is = fields_again (first_fields o) (some_first o) (plain_first o is)
 
 pub first_one : (a b : Order) → IsOrder a → IsOrder b → first_line a ≡ first_line b → first_fields a ≡ first_fields b
 first_one a b is also e = sym (first_again a is) ∙ ap fields_of e ∙ first_again b also
 
 -- `end` is the first line of no order, and neither is a line with the word of another
 pub line_again : (line : List ℕ) → list_all (λ x. nat_le 45 x) line ≡ true → fields_of line ≡ line ∷ []
-line_again line h = again (line ∷ []) (omega arith) (one_plain line h)
+line_again line h = fields_again (line ∷ []) (omega arith) (one_plain line h)
 
 -- two names
 pub names_again : (name relay : List ℕ) → IsName name → IsName relay → fields_of (line_of (name ∷ relay ∷ [])) ≡ name ∷ relay ∷ []
-names_again name relay is also = again (name ∷ relay ∷ []) (omega arith) (All-cons IsPlain name (relay ∷ []) (plain_name name is) (All-cons IsPlain relay [] (plain_name relay also) (All-nil IsPlain)))
+names_again name relay is also = fields_again (name ∷ relay ∷ []) (omega arith) (All-cons IsPlain name (relay ∷ []) (plain_name name is) (All-cons IsPlain relay [] (plain_name relay also) (All-nil IsPlain)))

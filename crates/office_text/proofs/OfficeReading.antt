@@ -13,8 +13,10 @@ use Rattle.office_text.specs.declared.order.Order.{Order}
 use Rattle.office_text.specs.OrderLines.{first_line}
 use Rattle.office_text.specs.Offices.{IsOffice, AreOfficeLines, ReadsOffice}
 use Rattle.office_text.specs.OrderReadings.{HasOrders, IsInText, TakesOrder, TakesOrders}
+use Rattle.office_text.specs.Orders.{CanFollow}
 use Rattle.office_text.proofs.Fronts.{Lines}
-use Rattle.office_text.proofs.OrderLists.{each_none, each_more, lines_more, office_one}
+use Rattle.line_forms.proofs.Sequences.{each_more, each_none}
+use Rattle.office_text.proofs.OrderLists.{lines_more, office_one}
 use Rattle.office_text.proofs.Stops.{office_ends, stops_between, stops_first, stops_inside}
 
 -- a cursor that went on in a text stands in it
@@ -30,12 +32,12 @@ from_first text start new lines is passes = let P : LineState → Type 0 = λ s.
 
 -- ---- the orders
 pub has_none : (state : LineState) → HasOrders state state []
-has_none state = record { lines = []; each = each_none; are = refl; passes = passes_none state }
+has_none state = record { lines = []; each = each_none CanFollow; are = refl; passes = passes_none state }
 
 pub has_more : (old mid new : LineState) (orders : List Order) (order : Order) → HasOrders old mid orders → TakesOrder orders mid new (Ok (Some order)) → HasOrders old new (orders ++ order ∷ [])
 has_more old mid new orders order has (body, can, is, passes) = record {
   lines = has.lines ++ first_line order ∷ body;
-  each = each_more orders order has.each can;
+  each = each_more CanFollow orders order has.each can;
   are = lines_more orders has.lines order body has.are is;
   passes = passes_then old mid new has.lines (first_line order ∷ body) has.passes passes;
 }

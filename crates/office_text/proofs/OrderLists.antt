@@ -1,5 +1,5 @@
 -- Lists of orders and their lines, with an order more, and how an office goes on behind them.
-use Rattle.std.proofs.Common.{◌≡◌, List, [], ◌∷◌, ◌++◌, refl, sym, ap, subst, ◌∙◌, ◌⊎◌, inl, inr, All, append_assoc, append-nil}
+use Rattle.std.proofs.Common.{◌≡◌, List, [], ◌∷◌, ◌++◌, refl, sym, ap, subst, ◌∙◌, All, append_assoc, append-nil}
 use Rattle.std.specs.Prelude.{codes}
 use Rattle.std.proofs.lemmas.List.{append_cancel_left}
 use Rattle.std.proofs.lemmas.List.Elements.{All-nil, All-cons, All-head, All-tail}
@@ -14,30 +14,6 @@ use Rattle.office_text.proofs.Fronts.{Lines}
 use Rattle.office_text.proofs.FieldLemmas.{first_again, line_again}
 use Rattle.office_text.proofs.OneOrder.{order_one}
 use Rattle.office_text.proofs.WordLemmas.{not_end}
-
--- one value more at the end
-split_last : {V : Type 0} (xs before after : List V) (x v : V) → xs ++ x ∷ [] ≡ before ++ v ∷ after → ((before ≡ xs) × (v ≡ x)) ⊎ ((rest : List V) × (xs ≡ before ++ v ∷ rest))
-split_last [] [] after x v e = inl (refl, sym (cons_head x v [] after e))
-split_last [] (b ∷ []) after x v e = absurd (let k : [] ≡ v ∷ after = cons_tail x b [] (v ∷ after) e in cc)
-split_last [] (b ∷ c ∷ before) after x v e = absurd (let k : [] ≡ c ∷ (before ++ v ∷ after) = cons_tail x b [] _ e in cc)
-split_last (y ∷ xs) [] after x v e = inr (xs, ap (λ z. z ∷ xs) (cons_head y v _ after e))
-split_last (y ∷ xs) (b ∷ before) after x v e = elim (split_last xs before after x v (cons_tail y b _ _ e)) [
-  | inl h ↦ inl (ap (λ z. z ∷ before) (sym (cons_head y b _ _ e)) ∙ ap (λ z. y ∷ z) h.0, h.1)
-  | inr h ↦ inr (h.0, ap (λ z. z ∷ xs) (cons_head y b _ _ e) ∙ ap (λ z. b ∷ z) h.1)
-]
-
-pub each_none : EachCan CanFollow []
-each_none [] after v e = absurd (let k : [] ≡ v ∷ after = e in cc)
-each_none (b ∷ before) after v e = absurd (let k : [] ≡ b ∷ (before ++ v ∷ after) = e in cc)
-
-pub each_more : (orders : List Order) (order : Order) → EachCan CanFollow orders → CanFollow orders order → EachCan CanFollow (orders ++ order ∷ [])
-each_more orders order each can before after v e = elim (split_last orders before after order v e) [
-  | inl h ↦
-      let P : List Order → Type 0 = λ l. CanFollow l v in
-      let Q : Order → Type 0 = CanFollow orders in
-      subst P (sym h.0) (subst Q (sym h.1) can)
-  | inr h ↦ each before h.0 v h.1
-]
 
 -- each order has its form
 forms : (done left : List Order) → EachCan CanFollow (done ++ left) → All IsOrder left

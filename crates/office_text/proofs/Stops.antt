@@ -13,7 +13,8 @@ use Rattle.office_text.specs.Offices.{AreOfficeLines}
 use Rattle.office_text.specs.OrderReadings.{AreNextLines}
 use Rattle.office_text.proofs.Fronts.{Lines, fronts, nothing, something}
 use Rattle.office_text.proofs.OneOrder.{order_one}
-use Rattle.office_text.proofs.OrderLists.{continues, each_none, each_more, lines_more, first_not_end}
+use Rattle.line_forms.proofs.Sequences.{each_more, each_none}
+use Rattle.office_text.proofs.OrderLists.{continues, lines_more, first_not_end}
 
 -- the lines behind those of the orders so far, where the next order is this one
 next_can : (orders : List Order) (o : Order) (more : List Order) → EachCan CanFollow (orders ++ o ∷ more) → CanFollow orders o
@@ -53,7 +54,7 @@ stops_inside orders between part bad each are some stops = record { begins = beg
         ∙ ap (λ l. between ++ l) (append_assoc part more (codes "end" ∷ []))
         ∙ sym (append_assoc between part (more ++ codes "end" ∷ []))
         ) in
-        (more ++ codes "end" ∷ [], subst AreOfficeLines lines (whole (orders ++ order ∷ []) (between ++ first_line order ∷ body) (each_more orders order each can) (lines_more orders between order body are is)))
+        (more ++ codes "end" ∷ [], subst AreOfficeLines lines (whole (orders ++ order ∷ []) (between ++ first_line order ∷ body) (each_more CanFollow orders order each can) (lines_more orders between order body are is)))
 
     -- it isn't `end`
     not_last : (rest : Lines) → part ≡ codes "end" ∷ rest → Begins (AreNextLines orders) part → ⊥
@@ -131,7 +132,7 @@ stops_between orders between state each are none no_end = record {
 -- the first line isn't ahead
 pub stops_first : (state : LineState) → ((more : Lines) → state.lines ≡ codes "office" ∷ more → ⊥) → StopsAt AreOfficeLines [] state
 stops_first state none = record {
-  begins = (codes "office" ∷ codes "end" ∷ [], whole [] [] each_none refl);
+  begins = (codes "office" ∷ codes "end" ∷ [], whole [] [] (each_none CanFollow) refl);
   unfinished = λ (orders, office). nothing (codes "office") _ office.lines_are;
   ahead = λ line more is (left, (orders, office)).
       none more (is ∙ ap (λ l. l ∷ more) (cons_head line (codes "office") left _ office.lines_are));

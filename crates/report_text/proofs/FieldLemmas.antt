@@ -1,11 +1,9 @@
--- Fields have no spaces, and each is that of one value.
-use Rattle.std.proofs.Common.{ℕ, suc, ◌≡◌, ◌≢◌, ◌+◌, ◌^◌, ◌<◌, ℤ, pos, negsuc, List, length, get_or, refl, sym, ap, ◌∙◌, arith, Option, Some, None, inl, inr}
-use Rattle.std.specs.Prelude.{codes, decimal, IfSome}
-use Rattle.std.specs.Fmt.{signed_decimal}
+-- Fields have no spaces, and each is that of one value. Other crates may cite these lemmas.
+use Rattle.std.proofs.Common.{ℕ, ◌≡◌, ◌≢◌, ◌^◌, ◌<◌, ℤ, pos, negsuc, List, refl, sym, ap, ◌∙◌, arith, Option, Some, None}
+use Rattle.std.specs.Prelude.{codes, IfSome}
 use Rattle.std.proofs.lemmas.Int.{ints}
-use Rattle.std.proofs.lemmas.Fmt.{decimal_injective, signed_decimal_injective, decimal_digit, decimal_nonempty, first_decimal}
-use Rattle.std.proofs.lemmas.Bool.{cases_lt}
-use Rattle.line_forms.proofs.PlainLemmas.{IsPlain, moment_mag, plain_by, plain_decimal, plain_signed}
+use Rattle.std.proofs.lemmas.Fmt.{decimal_injective, signed_decimal_injective}
+use Rattle.line_forms.proofs.PlainLemmas.{IsPlain, dash_decimal, dash_signed, moment_mag, plain_by, plain_dash, plain_decimal, plain_signed}
 use Rattle.act_rules.specs.declared.row.Outcome.{Outcome}
 use Rattle.act_rules.specs.declared.row.Outcome.TheVariants.{Fixed, Failed, Interrupted}
 use Rattle.report_text.specs.ReportRows.{IsExit, IsPlace}
@@ -13,27 +11,12 @@ use Rattle.report_text.specs.RowLines.{outcome_word, outcome_field, end_field, e
 use Rattle.report_text.specs.FieldTexts.{IsEnd}
 use lib.Signed.{mag}
 
+-- a number that a field has fits 64 bits
 pub exit_mag : (z : ℤ) → IsExit z → mag z < 2 ^ 63
 exit_mag (pos n) h = omega (arith, ints, h.1)
 exit_mag (negsuc n) h = omega (arith, ints, h.0)
 
-plain_dash : IsPlain (codes "-")
-plain_dash = plain_by (codes "-") refl
-
--- a number is no dash
-dash_decimal : (n : ℕ) → n < 2 ^ 64 → codes "-" ≡ decimal n → ⊥
-dash_decimal n h e = elim (cases_lt n 10) [
-  | inl small ↦ let d = decimal_digit n small in let k : 45 ≡ 48 + n = ap (λ ds. get_or ds 0 0) (e ∙ d) in omega arith
-  | inr large ↦ let first = first_decimal n (omega (arith, large)) h in let k : 45 ≡ get_or (decimal n) 0 0 = ap (λ ds. get_or ds 0 0) e in omega arith
-]
-
-dash_signed : (z : ℤ) → mag z < 2 ^ 63 → codes "-" ≡ signed_decimal z → ⊥
-dash_signed (pos n) h e = dash_decimal n (omega (arith, h)) e
-dash_signed (negsuc n) h e =
-    let some = decimal_nonempty (suc n) (omega (arith, h)) in
-    let k : 1 ≡ suc (length (decimal (suc n))) = ap (length {A = ℕ}) e in
-    omega arith
-
+-- a word is that of one outcome
 outcome_one : (o p : Outcome) → outcome_word o ≡ outcome_word p → o ≡ p
 outcome_one Fixed Fixed h = refl
 outcome_one Fixed Failed h = cc
@@ -60,12 +43,14 @@ end_one (Some (t, o)) (Some (u, p)) a b h k =
     let o_is = outcome_one o p h in
     ap (λ x. Some (x, o)) t_is ∙ ap (λ x. Some (u, x)) o_is
 
+-- a field is that of one exit code, if there is one
 pub exit_one : (e f : Option ℤ) → IfSome e IsExit → IfSome f IsExit → exit_field e ≡ exit_field f → e ≡ f
 exit_one None None a b h = refl
 exit_one None (Some y) a b h = absurd (dash_signed y (exit_mag y b) h)
 exit_one (Some x) None a b h = absurd (dash_signed x (exit_mag x a) (sym h))
 exit_one (Some x) (Some y) a b h = ap Some (signed_decimal_injective x y (exit_mag x a) (exit_mag y b) h)
 
+-- two fields are those of one place, if there is one
 pub place_one : (p q : Option (ℕ × ℕ)) → IfSome p IsPlace → IfSome q IsPlace → component_field p ≡ component_field q → line_field p ≡ line_field q → p ≡ q
 place_one None None a b h k = refl
 place_one None (Some (c, l)) a b h k = absurd (dash_decimal c (omega (arith, b.0)) h)

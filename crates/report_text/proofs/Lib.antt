@@ -1,8 +1,7 @@
 pub mod FieldLemmas
 pub mod RowLemmas
 pub mod RowReading
-pub mod GrammarLemmas
-pub mod StopLemmas
+pub mod ReportParts
 pub mod PassLemmas
 pub mod TextLemmas
 pub mod LineLemmas

@@ -1,14 +1,16 @@
--- The text of a report isn't too long.
-use Rattle.std.proofs.Common.{ℕ, ap, ◌≡◌, ◌+◌, ◌*◌, ◌^◌, ◌≤◌, ℤ, pos, negsuc, List, [], ◌∷◌, ◌++◌, length, All, map, Option, Some, None, arith, length-append}
-use Rattle.std.specs.Prelude.{decimal, IfSome}
+-- The text of a report isn't too long, and the most bytes of its fields. Other crates may cite these lemmas.
+use Rattle.std.proofs.Common.{ℕ, ap, ◌≡◌, ◌+◌, ◌*◌, ◌≤◌, ℤ, List, [], ◌∷◌, ◌++◌, length, All, map, Option, Some, None, arith, length-append}
+use Rattle.std.specs.Prelude.{codes, decimal, IfSome}
 use Rattle.std.specs.Fmt.{signed_decimal}
-use Rattle.std.proofs.lemmas.Int.{ints}
 use Rattle.std.proofs.lemmas.Fmt.{length-decimal-le, length_signed_le}
 use Rattle.std.proofs.lemmas.List.Elements.{All-head, All-tail}
-use Rattle.desk_base.specs.Moments.{IsMoment}
 use Rattle.desk_base.specs.Rooms.{HasRoom, RoomState}
+use Rattle.line_forms.specs.Fields.{field_text}
 use Rattle.line_forms.specs.FieldLists.{line_of}
 use Rattle.line_forms.specs.Lines.{ended_line, lines_text}
+use Rattle.line_forms.specs.Names.{IsName}
+use Rattle.line_forms.specs.Numbers.{IsId}
+use Rattle.line_forms.proofs.LineBytes.{id_length, joined_length, moment_length}
 use Rattle.act_rules.specs.declared.row.Note.{Note}
 use Rattle.act_rules.specs.declared.row.Outcome.{Outcome}
 use Rattle.act_rules.specs.declared.row.Outcome.TheVariants.{Fixed, Failed, Interrupted}
@@ -25,29 +27,25 @@ use Rattle.report_text.proofs.RowLemmas.{note_exit, note_place}
 use Rattle.report_text.proofs.TextLemmas.{added_line}
 use Rattle.report_text.proofs.FieldLemmas.{exit_mag}
 
-moment_length : (t : ℤ) → IsMoment t → length (signed_decimal t) ≤ 12
-moment_length (pos n) h = length-decimal-le 12 n (omega arith) (omega (arith, ints, h.1)) (omega (arith, ints, h.1))
-moment_length (negsuc n) h = absurd (omega (arith, ints, h.0))
-
-outcome_length : (e : Option (ℤ × Outcome)) → length (outcome_field e) ≤ 11
+pub outcome_length : (e : Option (ℤ × Outcome)) → length (outcome_field e) ≤ 11
 outcome_length None = omega arith
 outcome_length (Some (t, Fixed)) = omega arith
 outcome_length (Some (t, Failed)) = omega arith
 outcome_length (Some (t, Interrupted)) = omega arith
 
-end_length : (e : Option (ℤ × Outcome)) → IsEnd e → length (end_field e) ≤ 12
+pub end_length : (e : Option (ℤ × Outcome)) → IsEnd e → length (end_field e) ≤ 12
 end_length None h = omega arith
 end_length (Some e) h = moment_length e.0 h
 
-exit_length : (e : Option ℤ) → IfSome e IsExit → length (exit_field e) ≤ 20
+pub exit_length : (e : Option ℤ) → IfSome e IsExit → length (exit_field e) ≤ 20
 exit_length None h = omega arith
 exit_length (Some x) h = let m = exit_mag x h in let l = length_signed_le 19 x (omega (arith, m)) m in omega (arith, l)
 
-component_length : (p : Option (ℕ × ℕ)) → IfSome p IsPlace → length (component_field p) ≤ 10
+pub component_length : (p : Option (ℕ × ℕ)) → IfSome p IsPlace → length (component_field p) ≤ 10
 component_length None h = omega arith
 component_length (Some p) h = length-decimal-le 10 p.0 (omega arith) (omega (arith, h.0)) (omega (arith, h.0))
 
-line_length : (p : Option (ℕ × ℕ)) → IfSome p IsPlace → length (line_field p) ≤ 10
+pub line_length : (p : Option (ℕ × ℕ)) → IfSome p IsPlace → length (line_field p) ≤ 10
 line_length None h = omega arith
 line_length (Some p) h = length-decimal-le 10 p.1 (omega arith) (omega (arith, h.1)) (omega (arith, h.1))
 
@@ -61,13 +59,9 @@ added_length Two end note h =
     let all = length-append (32 ∷ exit_field note.exit) ((32 ∷ component_field note.place) ++ (32 ∷ line_field note.place)) in
     omega (arith, x, c, l, inner, all)
 
--- a field, a space and what follows
-joined_length : (field rest : List ℕ) (m n : ℕ) → length field ≤ m → length rest ≤ n → length (field ++ 32 ∷ rest) ≤ m + (n + 1)
-joined_length field rest m n h k = omega (arith, h, k, length-append field (32 ∷ rest))
-
 pub fields_length : (form : Form) (row : ReportRow) → IsReportRow form row → length (line_of (row_fields form row)) ≤ 108
 fields_length form row h =
-    let action = length-decimal-le 16 row.action (omega arith) (omega (arith, h.action.1)) (omega (arith, h.action.1)) in
+    let action = id_length row.action h.action in
     let number = length-decimal-le 10 row.number (omega arith) (omega (arith, h.number.1)) (omega (arith, h.number.1)) in
     let last = end_field row.end ++ added_text form row.note in
     let last_size : length last ≤ 12 + 43 = omega (arith, length-append (end_field row.end) (added_text form row.note), end_length row.end h.end, added_length form row.end row.note h.note) in
@@ -94,13 +88,11 @@ form_length : (form : Form) → length (ended_line (form_line form)) ≤ 9
 form_length One = omega arith
 form_length Two = omega arith
 
-computer_length : (name : List ℕ) → length name ≤ 64 → length (ended_line (computer_line name)) ≤ 74
-computer_length name h = omega (arith, h, length-append name (10 ∷ []))
+pub computer_length : (name : List ℕ) → IsName name → length (computer_line name) ≤ 73
+computer_length name is = omega (arith, is.1, length-append (field_text (codes "computer")) name)
 
-seq_length : (seq : ℕ) → seq ≤ 2 ^ 53 → length (ended_line (seq_line seq)) ≤ 21
-seq_length seq h =
-    let digits = length-decimal-le 16 seq (omega arith) (omega (arith, h)) (omega (arith, h)) in
-    omega (arith, digits, length-append (decimal seq) (10 ∷ []))
+pub seq_length : (seq : ℕ) → IsId seq → length (seq_line seq) ≤ 20
+seq_length seq is = omega (arith, id_length seq is, length-append (field_text (codes "seq")) (decimal seq))
 
 four_parts : (a b c d : List ℕ) (k l m n : ℕ) → length a ≤ k → length b ≤ l → length c ≤ m → length d ≤ n → length (a ++ (b ++ (c ++ d))) ≤ k + (l + (m + n))
 four_parts a b c d k l m n h i j o = omega (arith, h, i, j, o, length-append a (b ++ (c ++ d)), length-append b (c ++ d), length-append c d)
@@ -110,7 +102,8 @@ report_room report good =
     let rows = lines_text (map (row_line report.form) report.rows ++ end_line ∷ []) in
     let size = rows_length report.form report.rows good.rows.good in
     let all = four_parts (ended_line (form_line report.form)) (ended_line (computer_line report.computer)) (ended_line (seq_line report.seq)) rows 9 74 21 (113 * length report.rows + 4)
-    (form_length report.form) (computer_length report.computer good.computer.1) (seq_length report.seq good.seq.1) size in
+    (form_length report.form) (omega (arith, computer_length report.computer good.computer, length-append (computer_line report.computer) (10 ∷ [])))
+    (omega (arith, seq_length report.seq good.seq, length-append (seq_line report.seq) (10 ∷ []))) size in
     omega (arith, all)
 
 pub report_length : (report : Report) → IsReport report → length (report_text report) ≤ 65536

@@ -3,6 +3,7 @@ use Rattle.std.specs.Prelude.{◌≡◌, ℕ, ◌^◌, ◌-◌, ◌<◌, ◌≤�
 use Rattle.desk_base.specs.Moments.{IsMoment}
 use Rattle.line_forms.specs.Numbers.{IsId}
 use Rattle.act_rules.specs.declared.row.Note.{Note}
+use Rattle.act_rules.specs.Notes.{no_note}
 use Rattle.act_rules.specs.declared.row.Outcome.{Outcome}
 use Rattle.act_rules.specs.declared.row.Outcome.TheVariants.{Fixed, Failed, Interrupted}
 use Rattle.report_text.specs.declared.form.Form.{Form}
@@ -21,10 +22,6 @@ IsExit exit = (negsuc (2 ^ 63 - 1) ≤ℤ exit) × (exit ≤ℤ pos (2 ^ 63 - 1)
 abbrev pub IsPlace : ℕ × ℕ → Type 0
 IsPlace place = (place.0 ≤ 2 ^ 32 - 1) × (place.1 ≤ 2 ^ 32 - 1)
 
--- the empty note
-abbrev pub no_note : Note
-no_note = record { exit = None; place = None }
-
 -- A fixed row may have an exit code, a failed one may too and has a place, and an interrupted one has neither.
 abbrev pub IsNoteOf : Outcome → Note → Type 0
 IsNoteOf Fixed note = IfSome note.exit IsExit × (note.place ≡ None)
@@ -40,6 +37,11 @@ IsNoteAt (Some end) note = IsNoteOf end.1 note
 abbrev pub IsNoteIn : Form → Option (ℤ × Outcome) → Note → Type 0
 IsNoteIn One end note = note ≡ no_note
 IsNoteIn Two end note = IsNoteAt end note
+
+-- what a form adds to the fields of a row, and to those of an attempt: nothing, or any exit code and place
+abbrev pub IsAdded : Form → Note → Type 0
+IsAdded One note = note ≡ no_note
+IsAdded Two note = IfSome note.exit IsExit × IfSome note.place IsPlace
 
 -- a row that a report of this form can have
 pub record IsReportRow (form : Form) (row : ReportRow) : Type 0 where

@@ -1,5 +1,5 @@
 -- Reports and their texts.
-use Rattle.std.specs.Prelude.{◌≡◌, ℕ, ◌<◌, ◌≤◌, List, [], ◌∷◌, ◌++◌, length, map, All, codes, decimal, ⊤}
+use Rattle.std.specs.Prelude.{◌≡◌, ℕ, ◌+◌, ◌-◌, ◌*◌, ◌<◌, ◌≤◌, List, [], ◌∷◌, ◌++◌, length, map, All, codes, decimal, slice_get, IfSome, ⊤}
 use Rattle.std.specs.declared.result.Result.{Result}
 use Rattle.std.specs.Prelude.{Ok, Err}
 use Rattle.line_forms.specs.Names.{IsName}
@@ -16,11 +16,25 @@ use Rattle.report_text.specs.ReportRows.{IsReportRow, AreAscending}
 use Rattle.line_forms.specs.Numbers.{IsId}
 use Rattle.report_text.specs.RowLines.{row_line}
 
--- the rows of a report of this form: at most 500, in strictly ascending order of actions
+-- the most rows of a report
+abbrev pub most_rows : ℕ
+most_rows = 500
+
+-- the rows of a report of this form, in strictly ascending order of actions
 pub record AreReportRows (form : Form) (rows : List ReportRow) : Type 0 where
-  pub few : length rows ≤ 500
+  pub few : length rows ≤ most_rows
   pub good : All (IsReportRow form) rows
   pub ascending : AreAscending rows
+
+-- the row's action is above that of the last of these
+abbrev pub IsAbove : List ReportRow → ReportRow → Type 0
+IsAbove before row = IfSome (slice_get before (length before - 1)) (λ last. last.action < row.action)
+
+-- a row of a report that can stand behind these
+pub record CanFollow (form : Form) (before : List ReportRow) (row : ReportRow) : Type 0 where
+  pub few : length before < most_rows
+  pub good : IsReportRow form row
+  pub above : IsAbove before row
 
 -- a report that can be spelled
 pub record IsReport (report : Report) : Type 0 where
@@ -60,6 +74,14 @@ report_text report = lines_text (report_lines report)
 -- these are the lines of a report
 abbrev pub AreReportLines : List (List ℕ) → Type 0
 AreReportLines lines = (report : Report) × IsReport report × (lines ≡ report_lines report)
+
+-- the most bytes of a row's fields
+abbrev pub row_bytes : ℕ
+row_bytes = 108
+
+-- the most bytes of a report of so many rows: room for it is reckoned by this
+abbrev pub most_report_bytes : ℕ → ℕ
+most_report_bytes rows = 108 + 113 * rows
 
 -- A text of more than 65,536 bytes is too long. Any other is the text of the report that is answered, or has the first bad
 -- line that is answered.

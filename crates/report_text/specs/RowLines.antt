@@ -1,7 +1,7 @@
 -- The line of a row: `row`, and then its fields, each after a space.
 use Rattle.std.specs.Prelude.{ℕ, ℤ, List, [], ◌∷◌, ◌++◌, Option, Some, None, codes, decimal}
 use Rattle.std.specs.Fmt.{signed_decimal}
-use Rattle.line_forms.specs.Fields.{field_text}
+use Rattle.line_forms.specs.Fields.{dash_or, field_text}
 use Rattle.line_forms.specs.FieldLists.{line_of}
 use Rattle.act_rules.specs.declared.row.Note.{Note}
 use Rattle.act_rules.specs.declared.row.Outcome.{Outcome}
@@ -23,27 +23,27 @@ outcome_field (Some end) = outcome_word end.1
 
 -- the moment of the end, or `-`
 abbrev pub end_field : Option (ℤ × Outcome) → List ℕ
-end_field None = codes "-"
-end_field (Some end) = signed_decimal end.0
+end_field end = dash_or (λ end. signed_decimal end.0) end
 
 -- the exit code, or `-`
 abbrev pub exit_field : Option ℤ → List ℕ
-exit_field None = codes "-"
-exit_field (Some exit) = signed_decimal exit
+exit_field exit = dash_or signed_decimal exit
 
 -- the component of the place, or `-`
 abbrev pub component_field : Option (ℕ × ℕ) → List ℕ
-component_field None = codes "-"
-component_field (Some place) = decimal place.0
+component_field place = dash_or (λ place. decimal place.0) place
 
 -- the line of the place, or `-`
 abbrev pub line_field : Option (ℕ × ℕ) → List ℕ
-line_field None = codes "-"
-line_field (Some place) = decimal place.1
+line_field place = dash_or (λ place. decimal place.1) place
 
 -- the fields that form Two adds
 abbrev pub note_fields : Note → List (List ℕ)
 note_fields note = exit_field note.exit ∷ component_field note.place ∷ line_field note.place ∷ []
+
+-- the fields of a note, each after a space
+abbrev pub note_text : Note → List ℕ
+note_text note = (32 ∷ exit_field note.exit) ++ ((32 ∷ component_field note.place) ++ (32 ∷ line_field note.place))
 
 -- what a form adds
 abbrev pub added_fields : Form → Note → List (List ℕ)

@@ -1,5 +1,5 @@
 -- What the writers of parts append. Only private functions cite these definitions.
-use Rattle.std.specs.Prelude.{ℕ, List, [], ◌∷◌, ◌++◌, Option, decimal}
+use Rattle.std.specs.Prelude.{ℕ, List, [], ◌∷◌, ◌++◌, decimal}
 use Rattle.std.specs.Fmt.{signed_decimal}
 use Rattle.report_text.specs.declared.report_row.ReportRow.{ReportRow}
 use Rattle.act_rules.specs.declared.row.Note.{Note}
@@ -7,16 +7,8 @@ use Rattle.line_forms.specs.Lines.{ended_line}
 use Rattle.report_text.specs.declared.form.Form.{Form}
 use Rattle.report_text.specs.declared.form.Form.TheVariants.{One, Two}
 use Rattle.report_text.specs.declared.report.Report.{Report}
-use Rattle.report_text.specs.RowLines.{outcome_field, end_field, exit_field, component_field, line_field}
+use Rattle.report_text.specs.RowLines.{outcome_field, end_field, note_text}
 use Rattle.report_text.specs.Reports.{form_line, computer_line, seq_line}
-
--- a place, each part after a space
-abbrev pub place_text : Option (ℕ × ℕ) → List ℕ
-place_text place = 32 ∷ component_field place ++ 32 ∷ line_field place
-
--- the fields of a note, each after a space
-abbrev pub note_text : Note → List ℕ
-note_text note = (32 ∷ exit_field note.exit) ++ place_text note.place
 
 -- what a form adds
 abbrev pub added_text : Form → Note → List ℕ

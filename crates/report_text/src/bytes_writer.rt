@@ -2,8 +2,8 @@
 ghost use Rattle.std.specs.Prelude.{◌≡◌, ◌++◌, OnOk};
 ghost use Rattle.line_forms.specs.FieldLists.{line_of};
 ghost use Rattle.report_text.specs.declared.form.Form.TheVariants.{Two};
-ghost use Rattle.report_text.specs.RowLines.{component_field, end_field, exit_field, line_field, row_fields};
-ghost use Rattle.report_text.specs.Writings.{note_text, numbers_text, times_text};
+ghost use Rattle.report_text.specs.RowLines.{component_field, end_field, exit_field, line_field, note_text, row_fields};
+ghost use Rattle.report_text.specs.Writings.{numbers_text, times_text};
 
 use crate::report_row::ReportRow;
 use crate::room_writer::outcome_field;

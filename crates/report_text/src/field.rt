@@ -63,7 +63,7 @@ pub fn read_end(word: &[u8], moment: &[u8]) -> Option<Option<(i64, Outcome)>>
 }
 
 /// Reads an exit code, or `-`.
-pub fn read_exit(text: &[u8]) -> Option<Option<i64>>
+pub(crate) fn read_exit(text: &[u8]) -> Option<Option<i64>>
     ensures { Spells (λ exit. IfSome exit IsExit) exit_field text.now result }
 {
     if is_dash(text) {
@@ -74,7 +74,7 @@ pub fn read_exit(text: &[u8]) -> Option<Option<i64>>
 }
 
 /// Reads the component and the line of a failure, or `-` twice.
-pub fn read_place(component: &[u8], line: &[u8]) -> Option<Option<(u32, u32)>>
+pub(crate) fn read_place(component: &[u8], line: &[u8]) -> Option<Option<(u32, u32)>>
     ensures { ReadsPlace component.now line.now result }
 {
     if is_dash(component) {

@@ -17,7 +17,7 @@ pub fn fill_end(end: Option<(i64, Outcome)>, room: &mut Room)
 }
 
 /// Appends an exit code, or `-`. It takes no memory.
-pub fn fill_exit(exit: Option<i64>, room: &mut Room)
+pub(crate) fn fill_exit(exit: Option<i64>, room: &mut Room)
     requires { HasRoom room.old (length (exit_field exit)) }
     ensures { Fills room.old room.new (exit_field exit) }
 {
@@ -28,7 +28,7 @@ pub fn fill_exit(exit: Option<i64>, room: &mut Room)
 }
 
 /// Appends the component of a failure's place, or `-`. It takes no memory.
-pub fn fill_component(place: Option<(u32, u32)>, room: &mut Room)
+pub(crate) fn fill_component(place: Option<(u32, u32)>, room: &mut Room)
     requires { HasRoom room.old (length (component_field place)) }
     ensures { Fills room.old room.new (component_field place) }
 {
@@ -39,7 +39,7 @@ pub fn fill_component(place: Option<(u32, u32)>, room: &mut Room)
 }
 
 /// Appends the line of a failure's place, or `-`. It takes no memory.
-pub fn fill_line(place: Option<(u32, u32)>, room: &mut Room)
+pub(crate) fn fill_line(place: Option<(u32, u32)>, room: &mut Room)
     requires { HasRoom room.old (length (line_field place)) }
     ensures { Fills room.old room.new (line_field place) }
 {

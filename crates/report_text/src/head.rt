@@ -7,7 +7,8 @@ ghost use Rattle.line_forms.specs.Readers.{Spells, IsAny, TakesOne};
 use crate::form::Form;
 use line_forms::{Lines, after_word, read_id, read_name};
 
-fn read_form(line: &[u8]) -> Option<Form>
+/// Reads the first line of a report: its form.
+pub fn read_form(line: &[u8]) -> Option<Form>
     ensures { Spells IsAny form_line line.now result }
 {
     match after_word(line, b"report")? {
@@ -23,7 +24,8 @@ fn read_computer(line: &[u8]) -> Option<&str>
     read_name(after_word(line, b"computer")?)
 }
 
-fn read_seq(line: &[u8]) -> Option<u64>
+/// Reads the line of the report's number.
+pub fn read_seq(line: &[u8]) -> Option<u64>
     ensures { Spells IsId seq_line line.now result }
 {
     read_id(after_word(line, b"seq")?)

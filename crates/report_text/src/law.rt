@@ -1,5 +1,5 @@
 // What holds of every report. The body of a law calls the laws that its proof stands on.
-ghost use Rattle.std.specs.Prelude.{◌≡◌, ◌≤◌, ◌⊎◌, ◌+◌, ◌*◌, Result, length};
+ghost use Rattle.std.specs.Prelude.{◌≡◌, ◌≤◌, ◌⊎◌, Result, length};
 ghost use Rattle.line_forms.specs.FieldLists.{line_of};
 ghost use Rattle.report_text.specs.declared.form.Form.{Form};
 ghost use Rattle.report_text.specs.declared.report_row.ReportRow.{ReportRow};
@@ -8,7 +8,7 @@ ghost use Rattle.report_text.specs.RowLines.{row_fields};
 ghost use Rattle.report_text.specs.declared.error.ReportError.{ReportError};
 ghost use Rattle.report_text.specs.declared.error.ReportError.TheVariants.{Memory};
 ghost use Rattle.report_text.specs.declared.report.Report.{Report};
-ghost use Rattle.report_text.specs.Reports.{IsReport, ReadsReport, report_text};
+ghost use Rattle.report_text.specs.Reports.{IsReport, ReadsReport, most_report_bytes, report_text, row_bytes};
 
 use line_forms::lines_are_read_again;
 
@@ -31,7 +31,7 @@ pub fn a_report_is_read_again()
 
 /// The most bytes of a row's fields, and of a report by the number of its rows: room for them is reckoned by these.
 pub fn reports_are_short()
-    ensures row { (form : Form) (row : ReportRow) → IsReportRow form row → length (line_of (row_fields form row)) ≤ 108 }
+    ensures row { (form : Form) (row : ReportRow) → IsReportRow form row → length (line_of (row_fields form row)) ≤ row_bytes }
     ensures report { (report : Report) → IsReport report
-        → length (report_text report) ≤ 108 + 113 * length report.rows }
+        → length (report_text report) ≤ most_report_bytes (length report.rows) }
 {}

@@ -1,8 +1,7 @@
 ghost use Rattle.std.specs.Prelude.{IfOk, IsTrue, ◌↔◌};
 ghost use Rattle.report_text.specs.RowLines.{row_line};
-ghost use Rattle.report_text.specs.Reports.{IsReport, ReadsReport, report_lines};
-ghost use Rattle.report_text.specs.Readings.{CanFollow, IsAbove, TakesRows};
-ghost use Rattle.line_forms.specs.Readers.{ReadsPart, TakesOne};
+ghost use Rattle.report_text.specs.Reports.{CanFollow, IsAbove, IsReport, ReadsReport, report_lines};
+ghost use Rattle.line_forms.specs.Readers.{ReadsPart, TakesAll, TakesOne};
 
 use crate::error::ReportError;
 use crate::form::Form;
@@ -18,7 +17,7 @@ use std::alloc::{AllocError, Global};
 const LONGEST_REPORT: usize = 65_536;
 
 /// The most rows of a report.
-const MOST_ROWS: usize = 500;
+pub const MOST_ROWS: usize = 500;
 
 /// Reads a report: its form, the computer, its number, the rows and `end`, a line each. A text that isn't a report is
 /// answered by its first bad line, one with too many bytes by `TooLong`.
@@ -70,8 +69,8 @@ pub fn take_report(alloc: Global, lines: &mut Lines<'_>) -> Result<Option<Report
 }
 
 /// Takes the lines of rows, as far as they go.
-fn take_rows(alloc: Global, form: Form, lines: &mut Lines<'_>) -> Result<ReportRows, AllocError>
-    ensures { IfOk result (λ rows. TakesRows form lines.old lines.new rows) }
+pub fn take_rows(alloc: Global, form: Form, lines: &mut Lines<'_>) -> Result<ReportRows, AllocError>
+    ensures { IfOk result (λ rows. TakesAll (CanFollow form) (row_line form) lines.old lines.new rows) }
 {
     let mut rows = Vec::new(alloc);
     while let Some(row) = take_row(form, rows.as_slice(), lines) {

@@ -4,8 +4,8 @@ ghost use Rattle.desk_base.specs.Rooms.{HasRoom, Fills};
 ghost use Rattle.line_forms.specs.FieldLists.{line_of};
 ghost use Rattle.line_forms.specs.Lines.{ended_line};
 ghost use Rattle.report_text.specs.Reports.{form_line, report_text};
-ghost use Rattle.report_text.specs.RowLines.{outcome_field, row_fields, row_line};
-ghost use Rattle.report_text.specs.Writings.{added_text, head_text, note_text, numbers_text, place_text, times_text};
+ghost use Rattle.report_text.specs.RowLines.{note_text, outcome_field, row_fields, row_line};
+ghost use Rattle.report_text.specs.Writings.{added_text, head_text, numbers_text, times_text};
 
 use crate::field_writer::{fill_component, fill_end, fill_exit, fill_line};
 use crate::form::Form;
@@ -127,21 +127,15 @@ fn fill_added(form: Form, note: Note, room: &mut Room)
     }
 }
 
-fn fill_note(note: Note, room: &mut Room)
+/// Appends the exit code and the place of a failure, each part after a space. It takes no memory.
+pub fn fill_note(note: Note, room: &mut Room)
     requires { HasRoom room.old (length (note_text note)) }
     ensures { Fills room.old room.new (note_text note) }
 {
     room.push(b' ');
     fill_exit(note.exit, room);
-    fill_place(note.place, room)
-}
-
-fn fill_place(place: Option<(u32, u32)>, room: &mut Room)
-    requires { HasRoom room.old (length (place_text place)) }
-    ensures { Fills room.old room.new (place_text place) }
-{
     room.push(b' ');
-    fill_component(place, room);
+    fill_component(note.place, room);
     room.push(b' ');
-    fill_line(place, room)
+    fill_line(note.place, room)
 }

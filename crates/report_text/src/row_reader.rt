@@ -1,23 +1,17 @@
-ghost use Rattle.std.specs.Prelude.{◌≡◌, ℕ, List, ◌∷◌, ◌++◌, IsTrue, ◌↔◌, IfSome, MatchOption};
+ghost use Rattle.std.specs.Prelude.{◌≡◌, ℕ, List, ◌∷◌, ◌++◌, IsTrue, ◌↔◌, MatchOption};
 ghost use Rattle.act_rules.specs.declared.row.Note.{Note};
 ghost use Rattle.report_text.specs.declared.report_row.ReportRow.{ReportRow};
 ghost use Rattle.line_forms.specs.FieldLists.{line_of};
-ghost use Rattle.report_text.specs.ReportRows.{IsExit, IsPlace, IsReportRow, IsNoteAt, IsNoteIn};
+ghost use Rattle.report_text.specs.ReportRows.{IsAdded, IsReportRow, IsNoteAt, IsNoteIn};
 ghost use Rattle.report_text.specs.RowLines.{row_line, row_fields, added_fields};
-ghost use Rattle.report_text.specs.Readings.{SpellsBareRow, SpellsNote, IsBareRow};
+ghost use Rattle.report_text.specs.Readings.{SpellsBareRow, IsBareRow};
 ghost use Rattle.line_forms.specs.Readers.{Spells};
 
 use crate::field::{read_attempt, read_end, read_exit, read_place};
 use crate::form::Form;
 use crate::report_row::ReportRow;
-use act_rules::{Note, Outcome};
+use act_rules::{NO_NOTE, Note, Outcome};
 use line_forms::{Fields, after_word, read_id, read_moment};
-
-/// The note of a row that has none.
-const NO_NOTE: Note = Note {
-    exit: None,
-    place: None,
-};
 
 /// The fields of a row that both forms have.
 #[derive(Clone, Copy)]
@@ -27,14 +21,6 @@ struct RowFields<'a> {
     outcome: &'a [u8],
     begun: &'a [u8],
     end: &'a [u8],
-}
-
-/// The fields that form Two adds.
-#[derive(Clone, Copy)]
-struct NoteFields<'a> {
-    exit: &'a [u8],
-    component: &'a [u8],
-    line: &'a [u8],
 }
 
 /// Reads the line of a row in a report of this form, its word `row` with it.
@@ -70,9 +56,12 @@ pub fn take_row(form: Form, fields: &mut Fields<'_>) -> Option<ReportRow>
     let Some(bare) = read_bare_row(taken) else {
         return None;
     };
-    let Some(note) = take_note(form, bare.end, fields) else {
+    let Some(note) = take_note(form, fields) else {
         return None;
     };
+    if !is_note_in(form, bare.end, note) {
+        return None;
+    }
     Some(ReportRow { note, ..bare })
 }
 
@@ -91,18 +80,6 @@ fn take_row_fields<'a>(fields: &mut Fields<'a>) -> Option<RowFields<'a>>
     })
 }
 
-fn take_note_fields<'a>(fields: &mut Fields<'a>) -> Option<NoteFields<'a>>
-    ensures { MatchOption result
-        ((a b c : List ℕ) (more : List (List ℕ)) → ¬ (fields.old ≡ a ∷ b ∷ c ∷ more))
-        (λ note. fields.old ≡ note.exit.now ∷ note.component.now ∷ note.line.now ∷ fields.new) }
-{
-    Some(NoteFields {
-        exit: fields.take_field()?,
-        component: fields.take_field()?,
-        line: fields.take_field()?,
-    })
-}
-
 /// Reads a row without its note.
 fn read_bare_row(fields: RowFields<'_>) -> Option<ReportRow>
     ensures { MatchOption result
@@ -118,40 +95,42 @@ fn read_bare_row(fields: RowFields<'_>) -> Option<ReportRow>
     })
 }
 
-/// Reads what this form adds for a row that ended so.
-fn take_note(form: Form, end: Option<(i64, Outcome)>, fields: &mut Fields<'_>) -> Option<Note>
+/// Takes the fields that a form adds to a row or an attempt, which others may follow. Where those ahead aren't such, some may have
+/// been taken.
+pub fn take_note(form: Form, fields: &mut Fields<'_>) -> Option<Note>
     ensures { MatchOption result
-        ((note : Note) (more : List (List ℕ)) → IsNoteIn form end note → ¬ (fields.old ≡ added_fields form note ++ more))
-        (λ note. IsNoteIn form end note × (fields.old ≡ added_fields form note ++ fields.new)) }
+        ((note : Note) (more : List (List ℕ)) → IsAdded form note → ¬ (fields.old ≡ added_fields form note ++ more))
+        (λ note. IsAdded form note × (fields.old ≡ added_fields form note ++ fields.new)) }
 {
     match form {
         Form::One => Some(NO_NOTE),
-        Form::Two => read_note(end, take_note_fields(fields)?),
+        Form::Two => {
+            let exit = read_exit(fields.take_field()?)?;
+            let component = fields.take_field()?;
+            let place = read_place(component, fields.take_field()?)?;
+            Some(Note { exit, place })
+        }
     }
 }
 
-fn read_note(end: Option<(i64, Outcome)>, fields: NoteFields<'_>) -> Option<Note>
-    ensures { MatchOption result
-        ((note : Note) → IsNoteAt end note → ¬ SpellsNote fields.entry note)
-        (λ note. IsNoteAt end note × SpellsNote fields.entry note) }
+/// Whether a row that ended so can have this note in a report of the form, whose rows have such notes.
+fn is_note_in(form: Form, end: Option<(i64, Outcome)>, note: Note) -> bool
+    requires { IsAdded form note }
+    ensures { IsTrue result ↔ IsNoteIn form end note }
 {
-    let note = Note {
-        exit: read_exit(fields.exit)?,
-        place: read_place(fields.component, fields.line)?,
-    };
-    if !is_note_at(end, note) {
-        return None;
+    match form {
+        Form::One => true,
+        Form::Two => is_note_at(end, note),
     }
-    Some(note)
 }
 
-/// Whether a row that ended so can have this exit code and this place.
-fn is_note_at(end: Option<(i64, Outcome)>, note: Note) -> bool
-    ensures { IfSome note.exit IsExit → IfSome note.place IsPlace → (IsTrue result ↔ IsNoteAt end note) }
+/// Whether a row that ended so can have this note in a report of form Two.
+pub fn is_note_at(end: Option<(i64, Outcome)>, note: Note) -> bool
+    ensures { IsTrue result ↔ IsNoteAt end note }
 {
     match end {
         Some((_, Outcome::Fixed)) => note.place.is_none(),
         Some((_, Outcome::Failed)) => note.place.is_some(),
-        Some((_, Outcome::Interrupted)) | None => note.exit.is_none() && note.place.is_none(),
+        _ => note.is_empty(),
     }
 }

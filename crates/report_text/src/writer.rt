@@ -1,6 +1,6 @@
-ghost use Rattle.std.specs.Prelude.{◌≡◌, IfOk};
+ghost use Rattle.std.specs.Prelude.{◌≡◌, IfOk, IfSome};
 ghost use Rattle.sha2.specs.Sha256.{sha256};
-ghost use Rattle.report_text.specs.Reports.{IsReport, report_text};
+ghost use Rattle.report_text.specs.Reports.{IsReport, most_report_bytes, report_text};
 
 use crate::report::Report;
 use crate::room_writer::fill_report;
@@ -8,10 +8,18 @@ use desk_base::{Bytes, Room};
 use sha2::{Digest, Sha256};
 use std::alloc::{AllocError, Global};
 
-/// The most bytes of the first three lines and the last, and of the line of a row.
+/// The most bytes of the first three lines and the last.
 const LONGEST_HEAD: usize = 108;
 
+/// The most bytes of the line of a row.
 const LONGEST_ROW: usize = 113;
+
+/// The most bytes of a report of so many rows. None where that is no number of the machine's.
+pub fn report_size(rows: usize) -> Option<usize>
+    ensures { IfSome result (λ most. most ≡ most_report_bytes rows) }
+{
+    LONGEST_HEAD.checked_add(LONGEST_ROW.checked_mul(rows)?)
+}
 
 /// The text of a report, by its form. The error is want of memory.
 pub fn write_report(alloc: Global, report: &Report) -> Result<Bytes, AllocError>

@@ -1,5 +1,8 @@
 use Rattle.std.proofs.Common.{sym, ◌∙◌}
-use Rattle.agent_text.proofs.AttemptReading.{no_fields, none_left, not_so, other_row, row_good, row_spelled}
+use Rattle.std.proofs.lemmas.Bool.{iff_false}
+use Rattle.line_forms.proofs.FieldReading.{spelled_by}
+use Rattle.agent_text.specs.AttemptLines.{attempt_fields}
+use Rattle.agent_text.proofs.AttemptReading.{no_fields, no_more, other_row, row_good}
 use Rattle.agent_text.proofs.attempt_reader.read_attempt_fields.Goals as goal
 
 pub returns-in_default : goal.returns-in_default
@@ -7,8 +10,8 @@ returns-in_default c = λ row is e. no_fields c.args.form c.args.rest.now row (�
 
 pub returns-then-not-is_over : goal.returns-then-not-is_over
 returns-then-not-is_over c = λ row is e.
-    none_left c.args.form c.args.rest.now row c.in-Some.row c.take_attempt_fields.new.fields (sym c.new-fields.ensures ∙ c.in-Some.ensures.1)
-    (λ h. not_so _ _ c.if-not-is_over.true c.is_over.ensures h) is e
+    no_more c.args.form c.args.rest.now row c.in-Some.row c.take_attempt_fields.new.fields (sym c.new-fields.ensures ∙ c.in-Some.ensures.1)
+    (iff_false c.is_over.ensures c.if-not-is_over.true) is e
 
 pub returns-then-not-is_saved_row : goal.returns-then-not-is_saved_row
 returns-then-not-is_saved_row c = λ row is e.
@@ -18,5 +21,5 @@ returns-then-not-is_saved_row c = λ row is e.
 pub returns : goal.returns
 returns c = (
   row_good c.args.form c.in-Some.row c.is_saved_row.result c.in-Some.ensures.0 c.if-not-is_saved_row.false c.is_saved_row.ensures,
-  row_spelled c.args.form c.args.rest.now c.in-Some.row c.take_attempt_fields.new.fields (sym c.new-fields.ensures ∙ c.in-Some.ensures.1) (c.is_over.ensures.0 c.if-not-is_over.false),
+  spelled_by c.args.rest.now (attempt_fields c.args.form c.in-Some.row) c.take_attempt_fields.new.fields (sym c.new-fields.ensures ∙ c.in-Some.ensures.1) (c.is_over.ensures.0 c.if-not-is_over.false),
 )

@@ -1,7 +1,7 @@
 use Rattle.std.proofs.Common.{refl}
 use Rattle.agent_text.specs.AttemptLines.{attempt_line}
 use Rattle.agent_text.specs.PartReadings.{CanBeNext}
-use Rattle.agent_text.proofs.Sequences.{taken_all, taken_more}
+use Rattle.line_forms.proofs.Sequences.{taken_all, taken_more}
 use Rattle.agent_text.proofs.attempt_reader.take_attempts.Goals as goal
 
 pub loop-row-preserved : goal.loop-row-preserved

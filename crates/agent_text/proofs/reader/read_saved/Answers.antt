@@ -1,14 +1,13 @@
 use Rattle.std.proofs.Common.{◌≡◌, List, drop, length, map, refl, sym, ap, subst, ◌∙◌}
 use Rattle.std.proofs.lemmas.Result.{err_from_is_err_and}
-use Rattle.line_forms.specs.Readers.{IsOver}
 use Rattle.report_text.specs.Reports.{end_line}
 use Rattle.agent_text.specs.declared.history.History.{History}
 use Rattle.agent_text.specs.declared.saved.Saved.{Saved}
 use Rattle.agent_text.specs.Histories.{AreHistories, PlainHistory, shown_history}
 use Rattle.agent_text.specs.PartReadings.{TakesPending, around_of, untold}
-use Rattle.agent_text.proofs.AttemptReading.{not_so}
+use Rattle.std.proofs.lemmas.Bool.{iff_false}
 use Rattle.agent_text.proofs.HistoryLists.{all_untold, are_histories}
-use Rattle.agent_text.proofs.Parts.{not_taken, was_taken}
+use Rattle.line_forms.proofs.Parts.{not_taken, was_taken}
 use Rattle.agent_text.proofs.SavedAnswers.{bad_frame, bad_histories, bad_reports, marked_good, marked_items, not_ended, not_over, saved_is}
 use Rattle.agent_text.proofs.SavedLines.{saved_parts}
 use Rattle.agent_text.proofs.SavedStops.{saved_of}
@@ -58,7 +57,7 @@ returns-then-not-is_over c =
     c.new-lines.result c.take_frame.new.lines c.take_histories.new.lines c.take_pending.new.lines c.take_reports.new.lines c.take_exactly.new.self c.number-then-not-is_over.result c.new-lines.ensures c.requires
     c.in_ok-frame.ensures.0 c.in_ok-frame.ensures.1 c.in_ok-histories.ensures (subst T c.deref_mut.ensures.value c.take_pending.ensures) c.in_ok-reports.ensures
     (was_taken end_line c.take_reports.new.lines c.take_exactly.new.self c.take_exactly.result c.take_exactly.ensures c.if-not-take_exactly.false)
-    (not_so c.is_over.result (IsOver c.take_exactly.new.self) c.if-not-is_over.true c.is_over.ensures) c.number-then-not-is_over.ensures
+    (iff_false c.is_over.ensures c.if-not-is_over.true) c.number-then-not-is_over.ensures
 
 pub from_vec-requires : goal.from_vec-requires
 from_vec-requires c =

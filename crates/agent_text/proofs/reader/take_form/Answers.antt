@@ -1,6 +1,6 @@
 use Rattle.report_text.specs.declared.form.Form.TheVariants.{One, Two}
 use Rattle.agent_text.specs.SavedTexts.{agent_line}
-use Rattle.agent_text.proofs.Parts.{second_taken}
+use Rattle.line_forms.proofs.Parts.{second_taken}
 use Rattle.agent_text.proofs.reader.take_form.Goals as goal
 
 pub returns-then-take_exactly-2 : goal.returns-then-take_exactly-2

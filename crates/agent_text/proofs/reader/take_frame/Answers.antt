@@ -1,7 +1,7 @@
 use Rattle.std.proofs.Common.{refl}
 use Rattle.report_text.specs.Reports.{computer_line}
 use Rattle.agent_text.proofs.FrameLines.{no_computer, no_form, no_next, three_lines}
-use Rattle.agent_text.proofs.Parts.{not_taken, was_taken}
+use Rattle.line_forms.proofs.Parts.{not_taken, was_taken}
 use Rattle.agent_text.proofs.reader.take_frame.Goals as goal
 
 pub returns-in_default : goal.returns-in_default

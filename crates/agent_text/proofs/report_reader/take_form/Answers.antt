@@ -1,16 +1,21 @@
-use Rattle.std.proofs.Common.{subst, sym}
-use Rattle.report_text.specs.declared.form.Form.{Form}
-use Rattle.report_text.specs.declared.form.Form.TheVariants.{Two}
+use Rattle.std.proofs.Common.{refl}
+use Rattle.std.proofs.lemmas.Bool.{iff_false}
+use Rattle.line_forms.proofs.Passing.{other_ahead, takes_it}
 use Rattle.report_text.specs.Reports.{form_line}
-use Rattle.report_text.specs.declared.form.Form.TheVariants as form
+use Rattle.report_text.proofs.ReportParts.{form_one}
 use Rattle.agent_text.specs.PartReadings.{IsFormIn}
-use Rattle.agent_text.proofs.Parts.{second_taken}
 use Rattle.agent_text.proofs.report_reader.take_form.Goals as goal
 
-pub returns-then-take_exactly-2 : goal.returns-then-take_exactly-2
-returns-then-take_exactly-2 c =
-    let I : Form → Type 0 = λ f. IsFormIn f Two in (
-      subst I (sym c.in-Two.is) tt,
-      second_taken (form_line form.One) (form_line Two) c.args.lines.now c.take_exactly.new.self c.take_exactly-in-Two.new.self c.take_exactly.result c.take_exactly-in-Two.result
-          c.take_exactly.ensures c.if-take_exactly.false c.take_exactly-in-Two.ensures c.if-take_exactly-2.true,
-    )
+pub returns-then-not-is_form_in : goal.returns-then-not-is_form_in
+returns-then-not-is_form_in c = (
+  refl,
+  other_ahead (IsFormIn c.args.around) form_line c.args.lines.now c.in_ok-line_ahead.field-0.now c.in_ok-line_ahead.ensures.0 c.in_ok-form.form
+      (λ form is e. form_one form c.in_ok-form.form e) c.in_ok-line_ahead.ensures.1 c.in_ok-form.ensures.1
+      (λ fits. iff_false c.is_form_in.ensures c.if-not-is_form_in.true fits),
+)
+
+pub returns : goal.returns
+returns c = (
+  c.is_form_in.ensures.0 c.if-not-is_form_in.false,
+  takes_it form_line c.args.lines.now c.skip_line.new.self c.in_ok-line_ahead.field-0.now c.in_ok-line_ahead.ensures.0 c.in_ok-form.form c.in_ok-line_ahead.ensures.1 c.in_ok-form.ensures.1 c.skip_line.ensures,
+)

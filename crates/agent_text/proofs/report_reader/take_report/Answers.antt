@@ -1,13 +1,13 @@
 use Rattle.std.proofs.Common.{refl}
 use Rattle.report_text.specs.Reports.{computer_line, end_line}
 use Rattle.agent_text.specs.PartReadings.{around_of}
-use Rattle.agent_text.proofs.AttemptReading.{not_so}
-use Rattle.agent_text.proofs.Parts.{not_taken, was_taken}
+use Rattle.std.proofs.lemmas.Bool.{iff_false}
+use Rattle.line_forms.proofs.Parts.{not_taken, was_taken}
 use Rattle.agent_text.proofs.ReportLists.{no_computer, no_end, no_seq, number_left, whole}
 use Rattle.agent_text.proofs.report_reader.take_report.Goals as goal
 
 pub returns-then-not-has_number : goal.returns-then-not-has_number
-returns-then-not-has_number c = (refl, λ report more can e. not_so _ _ c.if-not-has_number.true c.has_number.ensures (number_left (around_of c.args.frame) c.args.before.now report can))
+returns-then-not-has_number c = (refl, λ report more can e. iff_false c.has_number.ensures c.if-not-has_number.true (number_left (around_of c.args.frame) c.args.before.now report can))
 
 pub returns-then-not-take_computer : goal.returns-then-not-take_computer
 returns-then-not-take_computer c =

@@ -1,4 +1,4 @@
-use Rattle.fix_site.proofs.Stuck.{second_taken}
+use Rattle.line_forms.proofs.Parts.{second_taken}
 use Rattle.fix_site.proofs.action_reader.take_choice.Goals as goal
 
 pub returns-then-take_exactly-2 : goal.returns-then-take_exactly-2

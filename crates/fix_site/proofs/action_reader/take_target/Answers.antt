@@ -1,9 +1,9 @@
 use Rattle.std.proofs.Common.{◌≡◌, ◌<◌, ℕ, List, [], ◌∷◌, length, sym, subst, arith}
 use Rattle.std.proofs.lemmas.Bool.Decides.{nat_tests}
+use Rattle.std.proofs.lemmas.List.{nil_from_length}
 use Rattle.line_forms.specs.Names.{IsRest}
 use Rattle.line_forms.specs.Readers.{Passes}
 use Rattle.fix_site.specs.Actions.{where_line}
-use Rattle.fix_site.proofs.ListLemmas.{empty_list}
 use Rattle.fix_site.proofs.Targets.{where_taken, computers_taken, no_target}
 use Rattle.fix_site.proofs.action_reader.take_target.Goals as goal
 
@@ -16,7 +16,7 @@ returns-in-Some c =
 pub returns-then-is_empty : goal.returns-then-is_empty
 returns-then-is_empty c =
     let zero : length c.in_ok-names.names ≡ 0 = search (arith, nat_tests) in
-    no_target c.args.lines.now c.take_exactly.new.self c.take_rest.new.lines c.take_computers.new.lines c.take_exactly.result c.in_ok-names.names c.take_exactly.ensures c.if-take_exactly.false c.in_default.ensures c.in_ok-names.ensures (empty_list c.in_ok-names.names zero)
+    no_target c.args.lines.now c.take_exactly.new.self c.take_rest.new.lines c.take_computers.new.lines c.take_exactly.result c.in_ok-names.names c.take_exactly.ensures c.if-take_exactly.false c.in_default.ensures c.in_ok-names.ensures (nil_from_length c.in_ok-names.names zero)
 
 pub returns : goal.returns
 returns c =

@@ -4,7 +4,7 @@ use Rattle.fix_site.specs.declared.fixlet.Success.TheVariants as success
 use Rattle.line_forms.specs.Names.{IsRest}
 use Rattle.line_forms.specs.Readers.{Passes}
 use Rattle.fix_site.specs.Contents.{success_line}
-use Rattle.fix_site.proofs.Stuck.{second_taken}
+use Rattle.line_forms.proofs.Parts.{second_taken}
 use Rattle.fix_site.proofs.ContentLines.{clause_taken, no_success}
 use Rattle.fix_site.proofs.content_reader.take_success.Goals as goal
 

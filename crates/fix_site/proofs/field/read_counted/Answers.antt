@@ -3,7 +3,8 @@ use Rattle.std.specs.Prelude.{decimal}
 use Rattle.std.specs.Fmt.{signed_decimal}
 use Rattle.std.proofs.lemmas.Int.{to_z-of_z}
 use Rattle.fix_site.specs.Readings.{counted_fields}
-use Rattle.fix_site.proofs.FieldLemmas.{plain_counted, again, first_same, second_same, pair_text}
+use Rattle.line_forms.proofs.FieldReading.{again}
+use Rattle.fix_site.proofs.FieldLemmas.{plain_counted, first_same, second_same, pair_text}
 use Rattle.fix_site.proofs.field.read_counted.Goals as goal
 
 pub returns-in_default : goal.returns-in_default

@@ -2,7 +2,8 @@ use Rattle.std.proofs.Common.{ℕ, List, arith, sym, subst}
 use Rattle.std.specs.Prelude.{decimal}
 use Rattle.line_forms.specs.Names.{IsName}
 use Rattle.fix_site.specs.Readings.{named_fields}
-use Rattle.fix_site.proofs.FieldLemmas.{plain_named, again, first_same, second_same, pair_text}
+use Rattle.line_forms.proofs.FieldReading.{again}
+use Rattle.fix_site.proofs.FieldLemmas.{plain_named, first_same, second_same, pair_text}
 use Rattle.fix_site.proofs.field.read_named.Goals as goal
 
 pub returns-in_default : goal.returns-in_default

@@ -1,6 +1,7 @@
 use Rattle.std.proofs.Common.{◌≡◌, ◌∷◌, [], ◌≤◌, arith, sym, ◌∙◌, inl, inr}
 use Rattle.std.specs.Prelude.{decimal}
-use Rattle.fix_site.proofs.FieldLemmas.{hours_plain, again, first_same, second_same, pair_text}
+use Rattle.line_forms.proofs.FieldReading.{again}
+use Rattle.fix_site.proofs.FieldLemmas.{hours_plain, first_same, second_same, pair_text}
 use Rattle.fix_site.proofs.rule_reader.read_hours.Goals as goal
 
 pub returns-in_default : goal.returns-in_default

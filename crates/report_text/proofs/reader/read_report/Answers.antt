@@ -6,7 +6,7 @@ use Rattle.line_forms.specs.Readers.{IsStuck, Passes, ReadsPart}
 use Rattle.line_forms.proofs.Passing.{left_answers, stuck_answers}
 use Rattle.report_text.specs.declared.report.Report.{Report}
 use Rattle.report_text.specs.Reports.{AreReportLines, IsReport, report_lines}
-use Rattle.report_text.proofs.StopLemmas.{never_goes_on}
+use Rattle.report_text.proofs.ReportParts.{never_goes_on}
 use Rattle.report_text.proofs.reader.read_report.Goals as goal
 
 pub returns-in-None : goal.returns-in-None

@@ -1,11 +1,11 @@
--- Parts that are repeated, as far as they go, before a part that begins otherwise.
+-- Parts that are repeated, as far as they go, before a part that begins otherwise. Other crates may cite these lemmas.
 use Rattle.std.proofs.Common.{ℕ, ◌≡◌, List, [], ◌∷◌, ◌++◌, map, refl, sym, ap, subst, ◌∙◌, ◌⊎◌, inl, inr, append_assoc, append-nil}
 use Rattle.std.specs.Prelude.{flat_map}
 use Rattle.line_forms.specs.LineStates.{LineState}
 use Rattle.line_forms.specs.BadLines.{Begins}
 use Rattle.line_forms.specs.Readers.{AreLinesOf, StopsAt, EachCan, IsNotAhead, IsStuck, Passes, TakesAll}
 use Rattle.line_forms.proofs.Passing.{cons_head, cons_tail, map_snoc, passes_then}
-use Rattle.agent_text.proofs.Parts.{Lines, splits, rest_same, no_value_ahead, HoldsNone, Then, HasSome}
+use Rattle.line_forms.proofs.Parts.{Lines, splits, rest_same, no_value_ahead, HoldsNone, Then, HasSome}
 
 -- ---- each value of a list stands behind those before it; one more can be added
 pub each_none : {V : Type 0} (Can : List V → V → Type 0) → EachCan Can []
@@ -160,7 +160,7 @@ module _ {V : Type 0} {Can : List V → V → Type 0} {first : V → List ℕ} {
       only (inr (inr (v, us, vs_is, y_is))) = absurd (s.foreign ws v y (tail v ++ (flat_map (with_first first tail) us ++ x)) other (each ws us v vs_is) y_is)
 
   -- A list stands there as far as it goes, and behind it nothing goes on.
-  stops_many : (vs : List V) (before : Lines) (mid state : LineState) → EachCan Can vs → IsNotAhead (Can vs) first mid → EndsLast Next vs mid.lines → mid.lines ≡ before ++ state.lines →
+  pub stops_many : (vs : List V) (before : Lines) (mid state : LineState) → EachCan Can vs → IsNotAhead (Can vs) first mid → EndsLast Next vs mid.lines → mid.lines ≡ before ++ state.lines →
       StopsAt (After vs) before state → StopsAt (Many Can first tail After) (flat_map (with_first first tail) vs ++ before) state
   stops_many vs before mid state each none ends mid_is stops = record {
     begins = (stops.begins.0, (vs, before ++ stops.begins.0, each, stops.begins.1, append_assoc (spelled vs) before stops.begins.0));
@@ -203,7 +203,7 @@ module _ {V : Type 0} {Can : List V → V → Type 0} {first : V → List ℕ} {
           s.foreign ws v end (tail v ++ (spelled us ++ (before ++ line ∷ rest))) after (each ws us v vs_is) y_is
 
   -- The lines of a list are taken, and those of a further value don't go on.
-  stops_inside : (vs : List V) (start : List ℕ) (begun : Lines) (state : LineState) → EachCan Can vs → ((v : V) → Can vs v → HasSome (After (vs ++ v ∷ []))) → HoldsNone (Can vs) (with_first first tail) (start ∷ begun) →
+  pub stops_inside : (vs : List V) (start : List ℕ) (begun : Lines) (state : LineState) → EachCan Can vs → ((v : V) → Can vs v → HasSome (After (vs ++ v ∷ []))) → HoldsNone (Can vs) (with_first first tail) (start ∷ begun) →
       StopsAt (AreLinesOf (Can vs) (with_first first tail)) (start ∷ begun) state → StopsAt (Many Can first tail After) (flat_map (with_first first tail) vs ++ start ∷ begun) state
   stops_inside vs start begun state each some holds stops = record {
     begins = begin stops.begins;
@@ -275,6 +275,68 @@ module _ {V : Type 0} {Can : List V → V → Type 0} {first : V → List ℕ} {
     passes_then old mid new (flat_map (with_first first tail) vs) (start ∷ begun) taken passes,
     stops_inside vs start begun new each some holds stops,
   )
+
+-- where values of one line each were taken, with which no line goes on, and what follows them stops, all stops
+pub stuck_taken : {V : Type 0} {Can : List V → V → Type 0} {first : V → List ℕ} {After : List V → Lines → Type 0} → IsSequence Can first no_tail NoNext After → (vs : List V) (old mid new : LineState) →
+    TakesAll Can first old mid vs → IsStuck (After vs) mid new → IsStuck (Many Can first no_tail After) old new
+stuck_taken {V} {Can} {first} {After} s vs old mid new taken stuck =
+    let P : Lines → Type 0 = Passes old mid in
+    stuck_many s vs old mid new taken.0 (subst P (sym (flat_single first vs)) taken.1) taken.2 (λ front v e goes. goes.3) stuck
+
+-- Not one value of a list stands there, and the list can't be empty.
+pub stops_empty : {V : Type 0} (Can : List V → V → Type 0) (first : V → List ℕ) (tail : V → Lines) (After : List V → Lines → Type 0) (state : LineState) →
+    HasSome (Many Can first tail After) → ((rest : Lines) → ¬ After [] rest) → IsNotAhead (Can []) first state → StopsAt (Many Can first tail After) [] state
+stops_empty {V} Can first tail After state some never none = record {
+  begins = some;
+  unfinished = λ (ws, rest, fine, after, e). no_end ws rest after e;
+  ahead = λ line more is_ahead (rest, (ws, end, fine, after, e)). no_line line more is_ahead rest ws end fine after e;
+}
+  where
+    no_end : (ws : List V) (rest : Lines) → After ws rest → [] ≡ flat_map (with_first first tail) ws ++ rest → ⊥
+    no_end [] rest after e = never rest after
+    no_end (w ∷ ws) rest after e = cc
+
+    no_line : (line : List ℕ) (more : Lines) → state.lines ≡ line ∷ more → (rest : Lines) (ws : List V) (end : Lines) → EachCan Can ws → After ws end → line ∷ rest ≡ flat_map (with_first first tail) ws ++ end → ⊥
+    no_line line more is_ahead rest [] end fine after e = never end after
+    no_line line more is_ahead rest (w ∷ ws) end fine after e =
+        none w more (fine [] ws w refl) (is_ahead ∙ ap (λ l. l ∷ more) (cons_head line (first w) rest ((tail w ++ flat_map (with_first first tail) ws) ++ end) e))
+
+-- ---- values that are known by their lines, whatever follows
+-- behind the same values, one value is
+abbrev pub OneWayBehind : {V : Type 0} → (List V → V → Type 0) → (V → Lines) → Type 0
+OneWayBehind {V} Can lines_of =
+    (before : List V) (v w : V) (x y : Lines) → Can before v → Can before w → lines_of v ++ x ≡ lines_of w ++ y → v ≡ w
+
+-- no such value begins these lines
+abbrev pub IsForeign : {V : Type 0} → (List V → V → Type 0) → (V → List ℕ) → Lines → Type 0
+IsForeign {V} Can first lines = (before : List V) (v : V) (more : Lines) → Can before v → lines ≡ first v ∷ more → ⊥
+
+-- what follows a list begins with no value of it
+abbrev pub EndsForeign : {V : Type 0} → (List V → V → Type 0) → (V → List ℕ) → (List V → Lines → Type 0) → Type 0
+EndsForeign {V} Can first After = (vs : List V) (rest : Lines) → After vs rest → IsForeign Can first rest
+
+-- such values stand one behind another, and no line goes on with one
+pub known : {V : Type 0} (Can : List V → V → Type 0) (first : V → List ℕ) (tail : V → Lines) (After : List V → Lines → Type 0) → OneWayBehind Can (with_first first tail) → EndsForeign Can first After → IsSequence Can first tail NoNext After
+known Can first tail After one foreign = record {
+  one = λ before v w x y can also _ _ e. one before v w x y can also e;
+  firsts = λ before v w can next. next;
+  foreign = λ vs v rest more after can e. foreign vs rest after vs v more can e;
+  ends = λ vs rest v after goes. goes.3;
+}
+
+-- two lists of such values whose lines begin one list of lines
+pub compare : {V : Type 0} (Can : List V → V → Type 0) (first : V → List ℕ) (tail : V → Lines) (vs ws : List V) (x y : Lines) → OneWayBehind Can (with_first first tail) → EachCan Can vs → EachCan Can ws →
+    flat_map (with_first first tail) vs ++ x ≡ flat_map (with_first first tail) ws ++ y → Compares (with_first first tail) vs ws x y
+compare {V} Can first tail vs ws x y one each fine e =
+    let After : List V → Lines → Type 0 = λ us rest. ⊥ in
+    compare_from (known Can first tail After one (λ us rest after. absurd after)) [] vs ws x y each fine (λ front v e goes. goes.3) (λ front v e goes. goes.3) e
+
+-- and where no value begins what follows them, the lists are the same
+pub many_known : {V : Type 0} (Can : List V → V → Type 0) (first : V → List ℕ) (tail : V → Lines) (vs ws : List V) (x y : Lines) → OneWayBehind Can (with_first first tail) → EachCan Can vs → EachCan Can ws →
+    IsForeign Can first x → IsForeign Can first y → flat_map (with_first first tail) vs ++ x ≡ flat_map (with_first first tail) ws ++ y → (vs ≡ ws) × (x ≡ y)
+many_known {V} Can first tail vs ws x y one each fine clear other e =
+    let After : List V → Lines → Type 0 = λ us rest. IsForeign Can first rest in
+    many_one (known Can first tail After one (λ us rest foreign. foreign)) vs ws x y each fine clear other e
 
 -- ---- values that were taken, a line each
 -- one more value was taken

@@ -1,4 +1,5 @@
--- Parts of texts: sets of lists of lines, one behind another, and where the lines ahead go on with none.
+-- Parts of texts: sets of lists of lines, one behind another, and where the lines ahead go on with none. Other crates may cite these
+-- lemmas.
 use Rattle.std.proofs.Common.{ℕ, ◌≡◌, List, [], ◌∷◌, ◌++◌, Bool, true, false, refl, sym, ap, subst, ◌∙◌, ◌⊎◌, inl, inr, append_assoc, append-nil}
 use Rattle.std.proofs.lemmas.List.{append_cancel_left}
 use Rattle.line_forms.specs.LineStates.{LineState}
@@ -76,7 +77,7 @@ no_value_ahead Is lines_of before state line more rest v tail none stops is_ahea
 no_value_ahead Is lines_of before state line more rest v tail none stops is_ahead is (inr (y, e, h)) = none v y is e
 
 -- the first part doesn't go on, and so nothing does
-stops_first : {V : Type 0} (Is : V → Type 0) (lines_of : V → Lines) (After : V → Lines → Type 0) (before : Lines) (state : LineState) → IsOneWay Is lines_of →
+pub stops_first : {V : Type 0} (Is : V → Type 0) (lines_of : V → Lines) (After : V → Lines → Type 0) (before : Lines) (state : LineState) → IsOneWay Is lines_of →
     ((v : V) → Is v → HasSome (After v)) → StopsAt (AreLinesOf Is lines_of) before state → StopsAt (Then Is lines_of After) before state
 stops_first {V} Is lines_of After before state one some stops = record {
   begins = begin stops.begins;
@@ -94,7 +95,7 @@ stops_first {V} Is lines_of After before state one some stops = record {
         (more ++ s.0, (v, s.0, is, s.1, sym (append_assoc before more s.0) ∙ ap (λ l. l ++ s.0) e))
 
 -- a part stands whole, and behind it nothing goes on
-stops_behind : {V : Type 0} (Is : V → Type 0) (lines_of : V → Lines) (After : V → Lines → Type 0) (v : V) (before : Lines) (state : LineState) → IsOneWay Is lines_of → Is v →
+pub stops_behind : {V : Type 0} (Is : V → Type 0) (lines_of : V → Lines) (After : V → Lines → Type 0) (v : V) (before : Lines) (state : LineState) → IsOneWay Is lines_of → Is v →
     StopsAt (After v) before state → StopsAt (Then Is lines_of After) (lines_of v ++ before) state
 stops_behind {V} Is lines_of After v before state one is stops = record {
   begins = begin stops.begins;
@@ -128,7 +129,7 @@ stops_same S T before state there back stops = record {
 abbrev pub single : {V : Type 0} → (V → List ℕ) → V → Lines
 single line_of v = line_of v ∷ []
 
-stops_line : {V : Type 0} (Is : V → Type 0) (line_of : V → List ℕ) (v : V) (state : LineState) → Is v → IsNotAhead Is line_of state → StopsAt (AreLinesOf Is (single line_of)) [] state
+pub stops_line : {V : Type 0} (Is : V → Type 0) (line_of : V → List ℕ) (v : V) (state : LineState) → Is v → IsNotAhead Is line_of state → StopsAt (AreLinesOf Is (single line_of)) [] state
 stops_line {V} Is line_of v state is none = record {
   begins = (single line_of v, (v, is, refl));
   unfinished = λ (w, fine, e). nothing (line_of w) e;

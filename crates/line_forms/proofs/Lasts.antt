@@ -1,4 +1,4 @@
--- Lists by their last values, and lists in ascending order.
+-- Lists by their last values, and lists in ascending order. Other crates may cite these lemmas.
 use Rattle.std.proofs.Common.{ℕ, zero, suc, ◌≡◌, ◌+◌, ◌-◌, ◌<◌, ◌≤◌, List, [], ◌∷◌, ◌++◌, length, map, refl, sym, ap, subst, ◌∙◌, arith, All, Option, ◌⊎◌, inl, inr, append_assoc, length-append}
 use Rattle.std.specs.Prelude.{slice_get, slice_index, IfSome}
 use Rattle.std.specs.List.Sorted.{IsStrictlyIncreasing}
