@@ -1,2 +1,4 @@
 pub mod Telling
 pub mod Looking
+pub mod Alike
+pub mod Answering

@@ -1,11 +1,12 @@
 -- Lists that grow and counts that rise, step by step. Other crates may cite these lemmas.
 use Rattle.std.proofs.Common.{◌≡◌, ℕ, ◌+◌, ◌-◌, ◌^◌, ◌≤◌, max, min, List, [], ◌++◌, None, Some, refl, sym, ap, ◌∙◌, append_assoc, append-nil, subst, arith}
 use Rattle.std.specs.declared.option.Option.{Option}
+use Rattle.desk_base.specs.Counts.{Rose}
 use Rattle.bf_world.specs.declared.key.Key.{Key}
 use Rattle.bf_world.specs.Worlds.{WorldState}
 use Rattle.bf_machine.specs.Told.{Grows}
 use Rattle.bf_machine.specs.Looks.{LooksUp}
-use Rattle.bf_machine.specs.Rises.{RoseBy}
+use Rattle.bf_machine.specs.Rises.{CountsFailed, RoseBy}
 
 pub Grows-nil : {T : Type 0} (a : Option (List T)) → Grows a a []
 Grows-nil None = refl
@@ -44,3 +45,16 @@ RoseBy-later a x y z p q =
 
 pub later-RoseBy : (a x y : ℕ) → RoseBy a x y → x ≤ y
 later-RoseBy a x y p = grind arith
+
+-- how a count follows the calls that failed, stretch by stretch
+pub CountsFailed-none : (a b : ℕ) → b ≡ a → CountsFailed 0 a b
+CountsFailed-none a b same = record { rose = RoseBy-none a b (omega (arith, same)); steady = λ none. same }
+
+pub CountsFailed-one : (a b : ℕ) → Rose a b → CountsFailed 1 a b
+CountsFailed-one a b rose = record { rose = rose; steady = λ none. absurd (omega (arith, none)) }
+
+pub CountsFailed-more : (m n a b c : ℕ) → CountsFailed m a b → CountsFailed n b c → CountsFailed (m + n) a c
+CountsFailed-more m n a b c p q = record {
+  rose = RoseBy-more m n a b c p.rose q.rose;
+  steady = λ none. q.steady (omega (arith, none)) ∙ p.steady (omega (arith, none));
+}

@@ -4,5 +4,7 @@ pub mod Rises
 pub mod Looks
 pub mod Acts
 pub mod Polls
-pub mod Numbers
+pub mod Steps
+pub mod Chains
+pub mod Sure
 pub mod Plain

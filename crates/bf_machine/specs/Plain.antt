@@ -1,6 +1,5 @@
 -- The machine over a described world, as contracts see it, and what a call does to it beyond what its trait says.
 use Rattle.std.specs.Prelude.{◌≡◌, ℕ, ◌+◌, List, [], length, Some}
-use Rattle.std.proofs.Common.{ap}
 use Rattle.desk_base.specs.CallStates.{CallState, IsListed, no_calls}
 use Rattle.desk_base.specs.MemoryStates.{Succeeds, Fails}
 use Rattle.bf_world.specs.declared.key.Key.{Key}
@@ -65,7 +64,3 @@ ActsPlain old new answer = Succeeds old.acts new.acts
 abbrev pub PollsPlain : PlainState → PlainState → Polled → Type 0
 PollsPlain old new polled.Failed = Fails old.polls new.polls × IsListed new.polls
 PollsPlain old new answer = Succeeds old.polls new.polls
-
--- The world that the machine tells has as many programs started as the machine counts.
-pub counted : (m : PlainState) (w : WorldState) → Some m.world ≡ Some w → length m.world.started ≡ length w.started
-counted m w is = let same : m.world ≡ w = cc in ap (λ (v : WorldState). length v.started) same

@@ -1,4 +1,4 @@
-ghost use Rattle.std.specs.Prelude.{◌≡◌, ◌<◌, length, Some};
+ghost use Rattle.std.specs.Prelude.{◌≡◌, ◌<◌, length, IfOk, Some};
 ghost use Rattle.desk_base.specs.Moments.{IsMoment};
 ghost use Rattle.bf_world.specs.Worlds.{WorldState};
 ghost use Rattle.bf_world.specs.Answers.{HasMoment};
@@ -20,6 +20,19 @@ pub enum Looked {
     Failed,
     /// Memory ran out.
     Memory,
+}
+
+impl Looked {
+    /// The same answer once more. The error is want of memory.
+    pub fn copy(&self) -> Result<Looked, AllocError>
+        ensures { IfOk result (λ looked. looked ≡ self.now) }
+    {
+        Ok(match self {
+            Looked::Answer(answer) => Looked::Answer(answer.copy()?),
+            Looked::Failed => Looked::Failed,
+            Looked::Memory => Looked::Memory,
+        })
+    }
 }
 
 /// A machine: what is on it can be looked up, and commands are done on it.

@@ -1,15 +1,14 @@
-ghost use Rattle.std.specs.Prelude.{◌≡◌, ◌≢◌, ◌<◌, ◌∷◌, ◌++◌, [], length, IfOk, OnErr};
+ghost use Rattle.std.specs.Prelude.{◌≡◌, ◌<◌, ◌∷◌, ◌++◌, [], length, IfOk, OnErr};
 ghost use Rattle.desk_base.specs.Moments.{IsMoment};
 ghost use Rattle.bf_world.specs.Answers.{HasMoment, IsGoodAnswer, HasAscendingNames};
-ghost use Rattle.bf_world.specs.Done.{FitsCommand, StartsByStart};
 ghost use Rattle.bf_world.specs.Shown.{shown};
 ghost use Rattle.bf_machine.specs.Looks.{LooksOn};
-ghost use Rattle.bf_machine.specs.Acts.{Acts, ActsOn, commands_added, CountsStarted};
+ghost use Rattle.bf_machine.specs.Acts.{ActsOn};
 ghost use Rattle.bf_machine.specs.Polls.{PollsOn};
-ghost use Rattle.bf_machine.specs.Plain.{unasked, counted, plain_view, LooksPlain, ActsPlain, PollsPlain};
+ghost use Rattle.bf_machine.specs.Sure.{world_counted};
+ghost use Rattle.bf_machine.specs.Plain.{unasked, plain_view, LooksPlain, ActsPlain, PollsPlain};
 
-use crate::polled_numbers::PolledNumbers;
-use crate::{Looked, Machine};
+use crate::{Looked, Machine, SureMachine};
 use bf_world::{Acted, Answer, Command, Key, Polled, ProcessNo, World};
 use desk_base::Calls;
 use rel_lexer::Text;
@@ -19,10 +18,8 @@ use std::marker::Model;
 /// The machine over a described world. It keeps what was looked up and done, and tells what was polled.
 #[derive(Drop)]
 pub struct PlainMachine {
-    world: World,
+    machine: SureMachine,
     looked: Vec<Key>,
-    acted: Vec<Command>,
-    polled: PolledNumbers,
     looks: Calls,
     acts: Calls,
     polls: Calls,
@@ -34,10 +31,10 @@ impl Model for PlainMachine {
     ghost Value = { PlainState };
 
     ghost view = { λ m. record {
-      world = m.world;
+      world = m.machine.world;
       looked = m.looked.items;
-      acted = m.acted.items;
-      polled = m.polled;
+      acted = m.machine.acted;
+      polled = m.machine.polled;
       looks = m.looks;
       acts = m.acts;
       polls = m.polls;
@@ -56,10 +53,8 @@ impl PlainMachine {
         ensures { result ≡ unasked world looks.items acts.items polls.items }
     {
         PlainMachine {
-            world,
+            machine: SureMachine::new(alloc, world),
             looked: Vec::new(alloc),
-            acted: Vec::new(alloc),
-            polled: PolledNumbers::new(),
             looks: Calls::new(alloc, looks),
             acts: Calls::new(alloc, acts),
             polls: Calls::new(alloc, polls),
@@ -70,7 +65,7 @@ impl PlainMachine {
     pub fn world(&self) -> &World
         ensures { result.now ≡ self.now.world }
     {
-        &self.world
+        self.machine.world()
     }
 
     /// The keys of the looks that answered, in their order.
@@ -84,10 +79,10 @@ impl PlainMachine {
     pub fn acted(&self) -> &[Command]
         ensures { result.now ≡ self.now.acted }
     {
-        self.acted.as_slice()
+        self.machine.acted()
     }
 
-    /// Looks something up, and keeps its key.
+    /// Looks something up, and keeps its key, for which the room is taken first.
     fn answer(&mut self, key: &Key) -> Result<Answer, AllocError>
         ensures shown { IfOk result (λ answer. answer ≡ shown self.old.world key.now) }
         ensures good { IfOk result IsGoodAnswer }
@@ -95,37 +90,14 @@ impl PlainMachine {
         ensures kept { IfOk result (λ answer. self.new ≡ record self.old { looked = self.old.looked ++ key.now ∷ [] }) }
         ensures err { OnErr result (self.new ≡ self.old) }
     {
-        let answer = self.world.look(key)?;
-        self.looked.push(key.copy()?)?;
-        Ok(answer)
-    }
-
-    /// Does a command, and keeps it where it is done, started or refused.
-    fn carry_out(&mut self, command: &Command, moment: i64) -> Acted
-        requires moment { IsMoment moment }
-        requires date { HasMoment command.now }
-        ensures acts { Acts self.old.world self.new.world command.now moment result }
-        ensures acted { self.new.acted ≡ self.old.acted ++ commands_added command.now result }
-        ensures fits { FitsCommand command.now result }
-        ensures started { CountsStarted (length self.old.world.started) (length self.new.world.started) result }
-        ensures by_start { StartsByStart command.now (length self.old.world.started) (length self.new.world.started) }
-        ensures rest { self.new ≡ record self.old { world = self.new.world; acted = self.new.acted } }
-        ensures never { result ≢ Acted.Failed }
-    {
-        let Ok(kept) = command.copy() else {
-            return Acted::Memory;
-        };
-        if self.acted.push(kept).is_err() {
-            return Acted::Memory;
-        }
-        match self.world.act(command, moment) {
-            Acted::Done => Acted::Done,
-            Acted::Started(process) => Acted::Started(process),
-            Acted::Refused(reason) => Acted::Refused(reason),
-            Acted::Failed | Acted::Memory => {
-                self.acted.pop();
-                Acted::Memory
+        let kept = key.copy()?;
+        self.looked.reserve(1)?;
+        match self.machine.look(key) {
+            Looked::Answer(answer) => {
+                self.looked.push_reserved(kept);
+                Ok(answer)
             }
+            Looked::Failed | Looked::Memory => Err(AllocError),
         }
     }
 }
@@ -165,7 +137,7 @@ impl Machine for PlainMachine {
             self.acts.fault();
             return Acted::Failed;
         }
-        self.carry_out(command, moment)
+        self.machine.act(command, moment)
     }
 
     fn poll(&mut self, process: ProcessNo) -> Polled
@@ -178,9 +150,8 @@ impl Machine for PlainMachine {
             self.polls.fault();
             return Polled::Failed;
         }
-        self.polled.push(process.0);
-        self.world.poll(process.0)
+        self.machine.poll(process)
     }
 
-    ghost counted = { counted };
+    ghost counted = { λ m. world_counted m.world };
 }

@@ -1,9 +1,13 @@
--- The keeper in memory, as contracts see it, and what a call does to it beyond what its trait says.
+-- The keepers in memory, as contracts see them, and what a call does to one beyond what the trait says.
 use Rattle.std.specs.Prelude.{◌≡◌, ℕ, ◌+◌, List, [], Some}
 use Rattle.desk_base.specs.CallStates.{CallState, IsListed, no_calls}
 use Rattle.desk_base.specs.MemoryStates.{Succeeds, Fails}
 use Rattle.desk_keep.specs.declared.change.Change.{Change}
 use Rattle.desk_keep.specs.Views.{KeeperView}
+
+-- what a keeper of these rows tells of which no call fails
+abbrev pub sure_view : List Change → KeeperView
+sure_view rows = record { rows = Some rows; faults = 0 }
 
 -- the rows of all tables, the applies and the reading calls
 pub record KeeperState : Type 0 where

@@ -1,4 +1,7 @@
+ghost use Rattle.std.specs.Prelude.{◌≡◌, IfOk};
+
 use crate::{Change, Changes};
+use std::alloc::AllocError;
 
 /// What opening a keeper and putting a batch answer.
 #[derive(Clone, Copy)]
@@ -22,6 +25,20 @@ pub enum Found {
     Memory,
 }
 
+impl Found {
+    /// The same answer once more. The error is want of memory, here and below.
+    pub fn copy(&self) -> Result<Found, AllocError>
+        ensures { IfOk result (λ found. found ≡ self.now) }
+    {
+        Ok(match self {
+            Found::Change(row) => Found::Change(row.copy()?),
+            Found::Nothing => Found::Nothing,
+            Found::Failed => Found::Failed,
+            Found::Memory => Found::Memory,
+        })
+    }
+}
+
 /// What asking for rows answers.
 #[derive(Drop)]
 pub enum Listed {
@@ -31,6 +48,19 @@ pub enum Listed {
     Failed,
     /// Memory ran out.
     Memory,
+}
+
+impl Listed {
+    /// The same answer once more.
+    pub fn copy(&self) -> Result<Listed, AllocError>
+        ensures { IfOk result (λ listed. listed ≡ self.now) }
+    {
+        Ok(match self {
+            Listed::Changes(rows) => Listed::Changes(rows.copy()?),
+            Listed::Failed => Listed::Failed,
+            Listed::Memory => Listed::Memory,
+        })
+    }
 }
 
 /// What asking for a number of rows answers.

@@ -1,16 +1,15 @@
-ghost use Rattle.std.specs.Prelude.{◌≡◌, ◌↔◌, IsTrue, IfSome, None};
+ghost use Rattle.std.specs.Prelude.{◌↔◌, IsTrue, IfSome};
 ghost use Rattle.desk_base.specs.Moments.{IsMoment};
 ghost use Rattle.line_forms.specs.Names.{IsName};
 ghost use Rattle.line_forms.specs.Numbers.{IsId};
-ghost use Rattle.report_text.specs.ReportRows.{IsNoteAt, no_note};
 ghost use Rattle.desk_keep.specs.Forms.{Fits, IsResult, IsRowOfReport};
 
 use crate::{Change, ResultRow};
-use act_rules::{Note, Outcome};
+use act_rules::Outcome;
 use desk_base::LAST_MOMENT;
 use line_forms::{LAST_ID, read_name};
 use rel_lexer::Text;
-use report_text::ReportRow;
+use report_text::{ReportRow, is_note_at};
 
 impl Change {
     /// Whether its names, numbers and moments have their forms.
@@ -60,7 +59,7 @@ fn is_row_of_report(row: &ReportRow) -> bool
         && row.number >= 1
         && is_moment(row.begun)
         && ends_at_moment(row.end)
-        && (is_empty(row.note) || is_note_at(row.end, row.note))
+        && (row.note.is_empty() || is_note_at(row.end, row.note))
 }
 
 fn ends_at_moment(end: Option<(i64, Outcome)>) -> bool
@@ -69,22 +68,5 @@ fn ends_at_moment(end: Option<(i64, Outcome)>) -> bool
     match end {
         Some((moment, _)) => is_moment(moment),
         None => true,
-    }
-}
-
-fn is_empty(note: Note) -> bool
-    ensures { IsTrue result ↔ (note ≡ no_note) }
-{
-    note.exit.is_none() && note.place.is_none()
-}
-
-/// Whether a report of form Two can have the note at a row that ended so.
-fn is_note_at(end: Option<(i64, Outcome)>, note: Note) -> bool
-    ensures { IsTrue result ↔ IsNoteAt end note }
-{
-    match end {
-        Some((_, Outcome::Fixed)) => note.place.is_none(),
-        Some((_, Outcome::Failed)) => note.place.is_some(),
-        _ => is_empty(note),
     }
 }

@@ -1,4 +1,4 @@
-//! What a server keeps: rows of tables, and the trait by which they are kept, with a keeper in memory.
+//! What a server keeps: rows of tables, and the trait by which they are kept, with keepers in memory.
 #![tactic(auto)]
 
 mod answer;
@@ -14,6 +14,7 @@ mod listing;
 mod memory;
 mod ordered_rows;
 mod result_row;
+mod sure;
 mod table;
 
 pub use answer::{Applied, Counted, Found, Listed};
@@ -25,4 +26,5 @@ pub use law::{a_new_row_is_counted, a_row_is_found_where_it_was_put, one_key, ro
 pub use memory::MemoryKeeper;
 pub use report_text::ReportRow;
 pub use result_row::ResultRow;
+pub use sure::SureKeeper;
 pub use table::Table;

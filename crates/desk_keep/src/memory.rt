@@ -1,24 +1,20 @@
-ghost use Rattle.std.specs.Prelude.{◌≡◌, ◌⊎◌, All, IfOk, OnErr, IsTrue};
+ghost use Rattle.std.specs.Prelude.{◌≡◌, All, IsTrue};
 ghost use Rattle.desk_keep.specs.Keys.{asked_key};
 ghost use Rattle.desk_keep.specs.Forms.{Fits};
 ghost use Rattle.desk_keep.specs.Tables.{is_of, is_result_of, AreRows};
 ghost use Rattle.desk_keep.specs.Calls.{Lists, ListsVersions, Opens, Puts, Gets, ListsBy, CountsRows};
 ghost use Rattle.desk_keep.specs.Memory.{empty_keeper, keeper_view, CallsAsListed, ReadsAsListed};
 
-use crate::batch::put_all;
-use crate::listing::{results_of, rows_of, versions};
-use crate::ordered_rows::OrderedRows;
-use crate::{Applied, Change, Changes, Counted, Find, Found, Keeper, Listed, Table};
+use crate::{Applied, Change, Counted, Find, Found, Keeper, Listed, SureKeeper, Table};
 use desk_base::Calls;
 use rel_lexer::Text;
-use std::alloc::{AllocError, Global};
+use std::alloc::Global;
 use std::marker::Model;
 
 /// A keeper in memory.
 #[derive(Drop)]
 pub struct MemoryKeeper {
-    alloc: Global,
-    rows: OrderedRows,
+    keeper: SureKeeper,
     applies: Calls,
     reads: Calls,
 }
@@ -29,9 +25,9 @@ impl Model for MemoryKeeper {
 
     ghost Value = { KeeperState };
 
-    ghost view = { λ k. record { rows = k.rows; applies = k.applies; reads = k.reads } };
+    ghost view = { λ k. record { rows = k.keeper; applies = k.applies; reads = k.reads } };
 
-    ghost invariant = { λ k. AreRows k.rows };
+    ghost invariant = { λ k. AreRows k.keeper };
 }
 
 impl MemoryKeeper {
@@ -40,8 +36,7 @@ impl MemoryKeeper {
         ensures { result ≡ empty_keeper applies.items reads.items }
     {
         MemoryKeeper {
-            alloc,
-            rows: OrderedRows::new(alloc),
+            keeper: SureKeeper::new(alloc),
             applies: Calls::new(alloc, applies),
             reads: Calls::new(alloc, reads),
         }
@@ -60,28 +55,17 @@ impl MemoryKeeper {
     }
 }
 
-/// The answer of a call that lists.
-fn listed(rows: Result<Changes, AllocError>) -> Listed
-    ensures ok { IfOk rows (λ list. result ≡ Listed.Changes list) }
-    ensures err { OnErr rows (result ≡ Listed.Memory) }
-{
-    match rows {
-        Ok(rows) => Listed::Changes(rows),
-        Err(_) => Listed::Memory,
-    }
-}
-
 impl Keeper for MemoryKeeper {
     ghost told = { keeper_view };
 
-    fn open(&mut self, _place: &Text) -> Applied
+    fn open(&mut self, place: &Text) -> Applied
         ensures opens { Opens (keeper_view self.old) result (keeper_view self.new) }
         ensures reads { ReadsAsListed (result ≡ Applied.Failed) self.old self.new }
     {
         if self.read_fails() {
             return Applied::Failed;
         }
-        Applied::Done
+        self.keeper.open(place)
     }
 
     fn apply(&mut self, batch: &[Change]) -> Applied
@@ -94,10 +78,7 @@ impl Keeper for MemoryKeeper {
             self.applies.fault();
             return Applied::Failed;
         }
-        match put_all(self.alloc, &mut self.rows, batch) {
-            Ok(()) => Applied::Done,
-            Err(_) => Applied::Memory,
-        }
+        self.keeper.apply(batch)
     }
 
     fn get(&mut self, find: &Find) -> Found
@@ -107,10 +88,7 @@ impl Keeper for MemoryKeeper {
         if self.read_fails() {
             return Found::Failed;
         }
-        match self.rows.get(find) {
-            Some(row) => found(row),
-            None => Found::Nothing,
-        }
+        self.keeper.get(find)
     }
 
     fn list(&mut self, table: Table) -> Listed
@@ -120,7 +98,7 @@ impl Keeper for MemoryKeeper {
         if self.read_fails() {
             return Listed::Failed;
         }
-        listed(rows_of(self.alloc, &self.rows, table))
+        self.keeper.list(table)
     }
 
     fn versions(&mut self) -> Listed
@@ -130,7 +108,7 @@ impl Keeper for MemoryKeeper {
         if self.read_fails() {
             return Listed::Failed;
         }
-        listed(versions(self.alloc, &self.rows))
+        self.keeper.versions()
     }
 
     fn results(&mut self, computer: &Text) -> Listed
@@ -140,7 +118,7 @@ impl Keeper for MemoryKeeper {
         if self.read_fails() {
             return Listed::Failed;
         }
-        listed(results_of(self.alloc, &self.rows, computer))
+        self.keeper.results(computer)
     }
 
     fn count(&mut self, table: Table) -> Counted
@@ -150,16 +128,6 @@ impl Keeper for MemoryKeeper {
         if self.read_fails() {
             return Counted::Failed;
         }
-        Counted::Rows(self.rows.count(table))
-    }
-}
-
-/// The answer of a call that found this row.
-fn found(row: &Change) -> Found
-    ensures { (result ≡ Found.Change row.now) ⊎ (result ≡ Found.Memory) }
-{
-    match row.copy() {
-        Ok(row) => Found::Change(row),
-        Err(_) => Found::Memory,
+        self.keeper.count(table)
     }
 }

@@ -1,3 +1,4 @@
 mod KeyLists
 mod QueueLemmas
 mod SiteLemmas
+pub mod OneKeeping

@@ -12,6 +12,10 @@ pub record RelayState : Type 0 where
   pub held : List (ReportKey × List ℕ)
   pub sites : List Site
 
+-- the most reports that a relay of the desk queues
+abbrev pub desk_queue : ℕ
+desk_queue = 10000
+
 -- a relay that keeps nothing
 abbrev pub empty_relay : ℕ → RelayState
 empty_relay limit = record { limit = limit; queue = []; held = []; sites = [] }

@@ -2,9 +2,11 @@
 #![tactic(auto)]
 
 mod key;
+mod law;
 mod relay;
 mod report_queue;
 mod site_list;
 
+pub use law::one_keeping;
 pub use relay::{Asked, Relay, RelayAnswer};
 pub use report_text::{Gathered, Verdict};

@@ -1,7 +1,7 @@
 ghost use Rattle.std.specs.Prelude.{◌≡◌, ◌≤◌, length, All, IfOk, OnOk, OnErr};
 ghost use Rattle.report_text.specs.Reports.{IsReport};
 ghost use Rattle.fix_site.specs.Sites.{IsSite};
-ghost use Rattle.relay_core.specs.Relays.{empty_relay};
+ghost use Rattle.relay_core.specs.Relays.{desk_queue, empty_relay};
 ghost use Rattle.relay_core.specs.ReportsUp.{AnswersUp, up_verdict, after_up, is_queued, after_sent};
 ghost use Rattle.relay_core.specs.ReportsUp as verdict;
 ghost use Rattle.relay_core.specs.KeptSites.{KeepsSite, AnswersAsk, AreKept, with_site};
@@ -14,6 +14,9 @@ use rel_lexer::Text;
 use report_text::{Gathered, Report, Verdict, digest};
 use std::alloc::{AllocError, Global};
 use std::marker::Model;
+
+/// The most reports that a relay of the desk queues.
+const DESK_QUEUE: u64 = 10_000;
 
 /// What a relay answers to a report.
 #[derive(Clone, Copy)]
@@ -64,6 +67,13 @@ impl Relay {
             reports: ReportQueue::new(alloc),
             sites: SiteList::new(alloc),
         }
+    }
+
+    /// A relay of the desk, which keeps nothing and queues at most 10,000 reports. It takes no memory.
+    pub fn of_the_desk(alloc: Global) -> Relay
+        ensures { result ≡ empty_relay desk_queue }
+    {
+        Relay::new(alloc, DESK_QUEUE)
     }
 
     /// Takes a report that comes up. `Stored` where the server is known to hold it, `Carried` where it is queued, now or already; `Conflict`

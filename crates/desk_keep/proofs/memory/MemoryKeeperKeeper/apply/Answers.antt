@@ -1,16 +1,5 @@
-use Rattle.std.proofs.Common.{rules}
-use Rattle.desk_keep.specs.Tables.{AreRows}
-use Rattle.desk_keep.proofs.Answering.{if_told}
-use Rattle.desk_keep.proofs.Putting.{AreRows-tried}
+use Rattle.std.proofs.Common.{refl}
 use Rattle.desk_keep.proofs.memory.MemoryKeeperKeeper.apply.Goals as goal
 
 pub invariant_of-self-2 : goal.invariant_of-self-2
-invariant_of-self-2 c = AreRows-tried c.put_all.result c.args.batch.now _ c.put_all.new.rows c.requires c.self.invariant c.put_all.ensures.ok c.put_all.ensures.err
-
-pub returns-clause-puts : goal.returns-clause-puts
-returns-clause-puts c = record {
-  applies = search rules;
-  good = if_told c.put_all.new.rows AreRows
-      (AreRows-tried c.put_all.result c.args.batch.now _ c.put_all.new.rows c.requires c.self.invariant c.put_all.ensures.ok c.put_all.ensures.err);
-  counts = search rules;
-}
+invariant_of-self-2 c = c.apply.ensures.puts.good c.apply.new.self refl
