@@ -17,6 +17,7 @@ use Rattle.rel_session.specs.declared.line.Line.{Line}
 use Rattle.rel_session.specs.declared.line.Line.TheVariants.{Question, Page, More, NoCommand}
 use Rattle.bf_machine.specs.Looks.{LooksUp}
 use Rattle.bf_machine.specs.Rises.{RoseBy}
+use Rattle.rel_eval.specs.Questions.{Reads}
 use Rattle.rel_session.specs.Devices.{Devices, DidAll}
 use Rattle.rel_session.specs.Lines.{lines_of}
 use Rattle.rel_session.specs.Sessions.{Answers, Asks, Run, Runs, Session, begins_with_colon, fresh}
@@ -32,7 +33,7 @@ use Rattle.desk_top.specs.WorldInputs.{IsBadInput, IsWorldInput, bad_line}
 
 -- what rel_session says of every run, in its law on them
 abbrev pub OneRun : Type 0
-OneRun = (w : WorldState) (offset : ℤ) (s : Session) (lines : List (List ℕ)) (moments : List ℤ) (a b : Run) → Runs (Some w) offset s lines moments a → Runs (Some w) offset s lines moments b → a.faults ≡ 0 → b.faults ≡ 0 → a ≡ b
+OneRun = (w : WorldState) (offset : ℤ) (s : Session) (lines : List (List ℕ)) (moments : List ℤ) (a b : Run) → Runs Reads (Some w) offset s lines moments a → Runs Reads (Some w) offset s lines moments b → a.faults ≡ 0 → b.faults ≡ 0 → a ≡ b
 
 -- how many of the lines are questions: each of these uses a moment
 abbrev asked : List ℕ → ℕ
@@ -46,13 +47,13 @@ asked_so : (line : List ℕ) (now : List ℤ) (colon : Bool) → begins_with_col
 asked_so line now colon is many = many ∙ sym (ap (λ b. cond b 0 1) is)
 
 count_answer : (world : Option WorldState) (offset : ℤ) (s : Session) (line : List ℕ) (what : Line) (now : List ℤ) (answer : Run) (s' : Session)
-    → Asks line what → Answers world offset s line what now answer s' → length now ≡ asked line
+    → Asks line what → Answers Reads world offset s line what now answer s' → length now ≡ asked line
 count_answer world offset s line Question now answer s' asks (moment, is, answers) = asked_so line now false asks (ap (length {A = ℤ}) is)
 count_answer world offset s line (Page size) now answer s' asks answers = asked_so line now true (ap begins_with_colon asks.1) (ap (length {A = ℤ}) answers.0)
 count_answer world offset s line More now answer s' asks answers = asked_so line now true (ap begins_with_colon asks) (ap (length {A = ℤ}) answers.0)
 count_answer world offset s line NoCommand now answer s' asks answers = asked_so line now true asks.0 (ap (length {A = ℤ}) answers.0)
 
-count_runs : (world : Option WorldState) (offset : ℤ) (s : Session) (lines : List (List ℕ)) (moments : List ℤ) (run : Run) → Runs world offset s lines moments run → length moments ≡ questions lines
+count_runs : (world : Option WorldState) (offset : ℤ) (s : Session) (lines : List (List ℕ)) (moments : List ℤ) (run : Run) → Runs Reads world offset s lines moments run → length moments ≡ questions lines
 count_runs world offset s [] moments run (none, is) = ap (length {A = ℤ}) none
 count_runs world offset s (line ∷ lines) moments run (now, later, all, (first, s', (what, asks, (answer, answers, said)), (rest, runs, is))) =
     ap (length {A = ℤ}) all ∙ length-append now later
@@ -102,9 +103,9 @@ abbrev SameRuns : Devices → Devices → Type 0
 SameRuns one other = (one.sink.held ≡ other.sink.held) × (one.machine.looked ≡ other.machine.looked)
 
 qna_once : OneRun → (input : List ℕ) (old one other : Devices) → TellsAll old → RanAlike old one other
-    → DidAll (pos 0) fresh (lines_of input) None old one → DidAll (pos 0) fresh (lines_of input) None old other → SameRuns one other
+    → DidAll Reads (pos 0) fresh (lines_of input) None old one → DidAll Reads (pos 0) fresh (lines_of input) None old other → SameRuns one other
 qna_once one_run input old one other tells alike (moments, run, runs, did) (moments', run', runs', did') =
-    let In : List ℤ → Run → Option WorldState → Type 0 = λ m r v. Runs v (pos 0) fresh (lines_of input) m r in
+    let In : List ℤ → Run → Option WorldState → Type 0 = λ m r v. Runs Reads v (pos 0) fresh (lines_of input) m r in
     let Ran : List ℤ → Type 0 = λ m. In m run (Some tells.world) in
     let same : moments ≡ moments' = moments_fixed old.clock.given one.clock.given other.clock.given tells.given moments moments' tells.gives alike.moments did.dated did'.dated in
     let here : In moments run (Some tells.world) = subst (In moments run) tells.shows runs in
@@ -119,7 +120,7 @@ qna_once one_run input old one other tells alike (moments, run, runs, did) (mome
 -- what questions to a described world write
 described_once : OneRun → (w : WorldState) (rest held : List ℕ) (old one other : SinkView) → old.held ≡ Some held → DidDescribed w rest old one → DidDescribed w rest old other → one.held ≡ other.held
 described_once one_run w rest held old one other holds (moments, run, runs, all, none, is) (moments', run', runs', all', none', is') =
-    let Ran : List ℤ → Type 0 = λ m. Runs (Some w) w.offset fresh (lines_of rest) m run in
+    let Ran : List ℤ → Type 0 = λ m. Runs Reads (Some w) w.offset fresh (lines_of rest) m run in
     let same : moments ≡ moments' = all_same w.moment moments moments' all all' (count_runs (Some w) w.offset fresh (lines_of rest) moments run runs ∙ sym (count_runs (Some w) w.offset fresh (lines_of rest) moments' run' runs')) in
     let alone : run ≡ run' = one_run w w.offset fresh (lines_of rest) moments' run run' (subst Ran same runs) runs' none none' in
     bytes_fixed old.held one.held other.held held run.bytes run'.bytes holds (ap (λ r. r.bytes) alone) is is'

@@ -5,6 +5,7 @@ use Rattle.bf_world.specs.Worlds.{WorldState}
 use Rattle.desk_base.specs.Flow.{AppendsFront, AppendsSome, IsFront}
 use Rattle.desk_base.specs.Views.{SinkView}
 use Rattle.rel_session.specs.Lines.{lines_of}
+use Rattle.rel_eval.specs.Questions.{Reads}
 use Rattle.rel_session.specs.Sessions.{Run, Runs, IsFrontOfRun, fresh}
 use Rattle.rel_session.specs.Devices.{Devices, DidAll, DidFront}
 use Rattle.desk_top.specs.declared.command.DeskCommand.{DeskCommand}
@@ -19,17 +20,17 @@ use Rattle.desk_top.specs.WorldInputs.{IsBadInput, IsWorldInput, bad_line}
 
 -- The lines are answered by a described world, at its moment and in its offset. No look fails.
 abbrev pub DidDescribed : WorldState → List ℕ → SinkView → SinkView → Type 0
-DidDescribed w rest old new = (moments : List ℤ) × (run : Run) × Runs (Some w) w.offset fresh (lines_of rest) moments run
+DidDescribed w rest old new = (moments : List ℤ) × (run : Run) × Runs Reads (Some w) w.offset fresh (lines_of rest) moments run
     × All (λ moment. moment ≡ w.moment) moments × (run.faults ≡ 0) × Appends old.held new.held run.bytes
 
 -- A front of that was done.
 abbrev pub DidDescribedFront : WorldState → List ℕ → SinkView → SinkView → Type 0
-DidDescribedFront w rest old new = (moments : List ℤ) × (front : Run) × IsFrontOfRun (Some w) w.offset fresh (lines_of rest) moments front
+DidDescribedFront w rest old new = (moments : List ℤ) × (front : Run) × IsFrontOfRun Reads (Some w) w.offset fresh (lines_of rest) moments front
     × All (λ moment. moment ≡ w.moment) moments × (front.faults ≡ 0) × Appends old.held new.held front.bytes
 
 -- A command did all that it is to do. The questions of `qna` are answered in the offset 0, by the machine's world where that is told.
 abbrev pub Did : DeskCommand → List ℕ → Devices → Devices → Type 0
-Did Qna input old new = DidAll (pos 0) fresh (lines_of input) None old new
+Did Qna input old new = DidAll Reads (pos 0) fresh (lines_of input) None old new
 Did QnaWorld input old new = (w : WorldState) × (rest : List ℕ) × IsWorldInput input w rest × DidDescribed w rest old.sink new.sink
 Did Check input old new =
     (fixlets baselines : ℕ) × Finds input (Good fixlets baselines)
@@ -57,7 +58,7 @@ IsRefused command input P = (line : List ℕ) × Refuses command input line × P
 
 -- A front of it was done.
 abbrev pub Began : DeskCommand → List ℕ → Devices → Devices → Type 0
-Began Qna input old new = DidFront (pos 0) fresh (lines_of input) None old new
+Began Qna input old new = DidFront Reads (pos 0) fresh (lines_of input) None old new
 Began QnaWorld input old new =
     ((w : WorldState) × (rest : List ℕ) × IsWorldInput input w rest × DidDescribedFront w rest old.sink new.sink)
     ⊎ IsRefused QnaWorld input (AppendsFront old.sink.held new.sink.held)

@@ -1,6 +1,5 @@
 // What a described world is asked through. Nothing fails there.
-ghost use Rattle.std.specs.Prelude.{[]};
-ghost use Rattle.bf_machine.specs.Plain.{counted, unasked};
+ghost use Rattle.bf_machine.specs.Sure.{world_counted};
 ghost use Rattle.desk_top.specs.Asked.{described, no_clock};
 
 use bf_machine::{Looked, Machine};
@@ -37,7 +36,7 @@ impl Machine for DescribedMachine {
         self.world.poll(process.0)
     }
 
-    ghost counted = { λ m w is. counted (unasked m.world [] [] []) w is };
+    ghost counted = { λ m. world_counted m.world };
 }
 
 /// A clock for questions whose moment is known, which is asked for none. It stands at 1970-01-01 00:00:00 UTC.

@@ -6,7 +6,7 @@ ghost use Rattle.desk_top.specs.declared.command.DeskCommand.TheVariants.{Qna};
 ghost use Rattle.desk_top.specs.Said.{Did, IsGoodInput, Refuses};
 ghost use Rattle.desk_top.specs.Tellings.{RanAlike, TellsAll};
 
-use rel_session::one_run;
+use rel_session::{PlainReader, one_run};
 use site_check::one_finding;
 use world_text::{a_world_is_read, one_front};
 
@@ -21,7 +21,7 @@ pub fn one_said()
     ensures apart { (command : DeskCommand) (input line : List ℕ) → IsGoodInput command input → ¬ Refuses command input line }
 {
     // Proof: this is made of the laws of the parts.
-    one_run();
+    one_run::<PlainReader>();
     one_finding();
     one_front();
     a_world_is_read();

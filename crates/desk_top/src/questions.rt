@@ -12,7 +12,7 @@ use crate::{DeskCommand, Status};
 use bf_machine::Machine;
 use bf_world::World;
 use desk_base::{Bytes, Clock, Sink, decimal};
-use rel_session::{Asking, Halt, answer_lines, put};
+use rel_session::{Asking, Halt, PlainReader, answer_lines, put};
 use std::alloc::{AllocError, Global};
 use world_text::{WorldError, a_world_is_read, one_front, read_world, world_front};
 
@@ -35,7 +35,7 @@ pub(crate) fn ask_machine<W: Sink, M: Machine, C: Clock>(
         offset: 0,
         moment: None,
     };
-    match answer_lines(alloc, input, asking, sink, machine, clock) {
+    match answer_lines::<PlainReader, W, M, C>(alloc, input, asking, sink, machine, clock) {
         Ok(()) => Status::Done,
         Err(halt) => Status::of_halt(halt),
     }
@@ -67,7 +67,14 @@ fn ask_described<W: Sink>(alloc: Global, world: World, lines: &[u8], sink: &mut 
         moment: Some(world.moment()),
     };
     let mut machine = DescribedMachine { world };
-    match answer_lines(alloc, lines, asking, sink, &mut machine, &mut NoClock) {
+    match answer_lines::<PlainReader, W, DescribedMachine, NoClock>(
+        alloc,
+        lines,
+        asking,
+        sink,
+        &mut machine,
+        &mut NoClock,
+    ) {
         Ok(()) => Status::Done,
         Err(halt) => Status::of_halt(halt),
     }

@@ -18,13 +18,14 @@ use Rattle.rel_session.specs.declared.line.Line.{Line}
 use Rattle.rel_session.specs.declared.paused.Left.{Left}
 use Rattle.rel_session.specs.declared.paused.Left.TheVariants as left
 use Rattle.rel_session.specs.declared.paused.Paused as code_paused
-use Rattle.rel_session.specs.Devices.{CountsFailed, Dates, Did, devices}
+use Rattle.bf_machine.specs.Rises.{CountsFailed}
+use Rattle.rel_session.specs.Devices.{Dates, Did, devices}
 use Rattle.rel_session.specs.Printed.{said_question, said_error, said_nothing_paused, said_undefined}
+use Rattle.rel_session.specs.Readings.{Readings}
 use Rattle.rel_session.specs.Sessions.{Asks, Paused, Session, Run, nothing, saying, after, told_run, pausing, last_sixteen, IsGiven, TellsOf, AnswersText, GoesOnWith, Answers, RunsLine, IsFrontOfLine}
 use Rattle.rel_session.specs.Tellings.{Telling, TellsSome, room_of}
 use Rattle.rel_session.specs.Waiting.{IsLeft, State, state_of, paused_of, left_of, some_given, meaning_of, span_of, IsRead, IsStarted, IsOpened, last_fifteen, Says, Stops, SaysRefusal, Unwritten, Obeys, DoesLine, SaysAll, SaysDated, SaysFront, SaysOf, SaysOrStops, SaysOrStopsEarly, StopsEarly}
-use Rattle.bf_machine.proofs.Telling.{LooksUp-nil}
-use Rattle.rel_session.proofs.Failing.{CountsFailed-none}
+use Rattle.bf_machine.proofs.Telling.{CountsFailed-none, LooksUp-nil}
 use Rattle.rel_session.proofs.Lasting.{LooksFront-none, LooksFront-all}
 use Rattle.rel_session.proofs.Running.{Dates-nil}
 
@@ -56,14 +57,14 @@ Stops-Says old new run says = record {
 -- ---- a question's text
 
 -- a refusal is said
-pub answers_refusal : (world : Option WorldState) (moment offset : ℤ) (s : Session) (text : List ℕ) (refusal : Refusal) (sink : SinkView) (old new : List ℕ) (machine : MachineView)
-    → IsRead text (Err refusal) → SaysRefusal refusal old new → SaysOf (AnswersText world moment offset s text) s (state_of sink old machine) (state_of sink new machine)
+pub answers_refusal : (reads : Readings) (world : Option WorldState) (moment offset : ℤ) (s : Session) (text : List ℕ) (refusal : Refusal) (sink : SinkView) (old new : List ℕ) (machine : MachineView)
+    → IsRead reads text (Err refusal) → SaysRefusal refusal old new → SaysOf (AnswersText reads world moment offset s text) s (state_of sink old machine) (state_of sink new machine)
 unfolding AnswersText IsRead
-answers_refusal world moment offset s text (At kind place) sink old new machine prepares says =
+answers_refusal reads world moment offset s text (At kind place) sink old new machine prepares says =
     (saying (said_error kind place), (refused kind place, prepares, (refl, refl)), Says-bytes sink old new machine (said_error kind place) says)
-answers_refusal world moment offset s text (NotDefined place words) sink old new machine prepares says =
+answers_refusal reads world moment offset s text (NotDefined place words) sink old new machine prepares says =
     (saying (said_undefined place words), (undefined place words, prepares, (refl, refl)), Says-bytes sink old new machine (said_undefined place words) says)
-answers_refusal world moment offset s text Memory sink old new machine prepares says = absurd says
+answers_refusal reads world moment offset s text Memory sink old new machine prepares says = absurd says
 
 -- what a started question has to give is what it means
 given_at_start : (world : Option WorldState) (moment offset : ℤ) (q : Question) (started : code_paused.Paused) (t : Trace) → IsStarted moment offset q started → IsGiven world (left_of started.cursor) t
@@ -72,10 +73,10 @@ given_at_start None moment offset q started t begins is = tt
 given_at_start (Some w) moment offset q started t begins is = is ∙ begins.rest w
 
 -- a question is told
-pub answers_question : (world : Option WorldState) (moment offset : ℤ) (s : Session) (text : List ℕ) (started : code_paused.Paused) (run : Run) (s' : Session)
-    → IsOpened moment offset text started → TellsOf offset s (IsGiven world (left_of started.cursor)) started.span run s' → AnswersText world moment offset s text run s'
+pub answers_question : (reads : Readings) (world : Option WorldState) (moment offset : ℤ) (s : Session) (text : List ℕ) (started : code_paused.Paused) (run : Run) (s' : Session)
+    → IsOpened reads moment offset text started → TellsOf offset s (IsGiven world (left_of started.cursor)) started.span run s' → AnswersText reads world moment offset s text run s'
 unfolding AnswersText IsRead meaning_of span_of
-answers_question world moment offset s text started run s' (q, is, begins) (told, (t, given, tells), ran, next) =
+answers_question reads world moment offset s text started run s' (q, is, begins) (told, (t, given, tells), ran, next) =
     let At : Place → Type 0 = λ p. TellsOf offset s (IsGiven world (λ w. meaning_of w moment offset q)) p run s' in
     (question (plan_of q), is, subst At begins.span (told, (t, given_at_start world moment offset q started t begins given, tells), ran, next))
 
@@ -120,10 +121,10 @@ echoed old echo mid more written rest is whole = sym (append_assoc old echo more
 behind_echo : (n x y : ℕ) → CountsFailed n x y → CountsFailed (0 + n) x y
 behind_echo n x y failed = let Fails : ℕ → Type 0 = λ m. CountsFailed m x y in let same : n ≡ 0 + n = omega arith in subst Fails same failed
 
-line_says_all : (world : Option WorldState) (offset : ℤ) (s : Session) (line : List ℕ) (fixed : Option ℤ) (clock clock' : ClockView) (s' : Session) (sink : SinkView) (old mid : List ℕ) (machine : MachineView) (new : State)
-    → mid ≡ old ++ said_question line → SaysAll fixed clock clock' (Obeys world offset s line) s' (state_of sink mid machine) new
-    → SaysAll fixed clock clock' (RunsLine world offset s line) s' (state_of sink old machine) new
-line_says_all world offset s line fixed clock clock' s' sink old mid machine new is all = record {
+line_says_all : (reads : Readings) (world : Option WorldState) (offset : ℤ) (s : Session) (line : List ℕ) (fixed : Option ℤ) (clock clock' : ClockView) (s' : Session) (sink : SinkView) (old mid : List ℕ) (machine : MachineView) (new : State)
+    → mid ≡ old ++ said_question line → SaysAll fixed clock clock' (Obeys reads world offset s line) s' (state_of sink mid machine) new
+    → SaysAll fixed clock clock' (RunsLine reads world offset s line) s' (state_of sink old machine) new
+line_says_all reads world offset s line fixed clock clock' s' sink old mid machine new is all = record {
   moments = all.moments;
   run = after (saying (said_question line)) all.run;
   runs = (all.runs.0, all.runs.1, (all.run, all.runs.2, refl));
@@ -137,10 +138,10 @@ line_says_all world offset s line fixed clock clock' s' sink old mid machine new
   dated = all.dated;
 }
 
-line_stops : (world : Option WorldState) (offset : ℤ) (s : Session) (line : List ℕ) (moments : List ℤ) (sink : SinkView) (old mid : List ℕ) (machine : MachineView) (new : State) → mid ≡ old ++ said_question line
-    → StopsEarly (Obeys world offset s line moments) (state_of sink mid machine) new → StopsEarly (RunsLine world offset s line moments) (state_of sink old machine) new
-line_stops world offset s line moments sink old mid machine new is (inl none) = inl (record { keeps = none.keeps; looked = none.looked; steady = none.steady })
-line_stops world offset s line moments sink old mid machine new is (inr (run, s', obeys, stops)) =
+line_stops : (reads : Readings) (world : Option WorldState) (offset : ℤ) (s : Session) (line : List ℕ) (moments : List ℤ) (sink : SinkView) (old mid : List ℕ) (machine : MachineView) (new : State) → mid ≡ old ++ said_question line
+    → StopsEarly (Obeys reads world offset s line moments) (state_of sink mid machine) new → StopsEarly (RunsLine reads world offset s line moments) (state_of sink old machine) new
+line_stops reads world offset s line moments sink old mid machine new is (inl none) = inl (record { keeps = none.keeps; looked = none.looked; steady = none.steady })
+line_stops reads world offset s line moments sink old mid machine new is (inr (run, s', obeys, stops)) =
     inr (
       after (saying (said_question line)) run,
       s',
@@ -155,14 +156,14 @@ line_stops world offset s line moments sink old mid machine new is (inr (run, s'
       },
     )
 
-line_says_front : (world : Option WorldState) (offset : ℤ) (s : Session) (line : List ℕ) (fixed : Option ℤ) (clock clock' : ClockView) (sink : SinkView) (old mid : List ℕ) (machine : MachineView) (new : State)
-    → mid ≡ old ++ said_question line → SaysFront fixed clock clock' (Obeys world offset s line) (state_of sink mid machine) new
-    → SaysFront fixed clock clock' (RunsLine world offset s line) (state_of sink old machine) new
-line_says_front world offset s line fixed clock clock' sink old mid machine new is some = record {
+line_says_front : (reads : Readings) (world : Option WorldState) (offset : ℤ) (s : Session) (line : List ℕ) (fixed : Option ℤ) (clock clock' : ClockView) (sink : SinkView) (old mid : List ℕ) (machine : MachineView) (new : State)
+    → mid ≡ old ++ said_question line → SaysFront fixed clock clock' (Obeys reads world offset s line) (state_of sink mid machine) new
+    → SaysFront fixed clock clock' (RunsLine reads world offset s line) (state_of sink old machine) new
+line_says_front reads world offset s line fixed clock clock' sink old mid machine new is some = record {
   moments = some.moments;
   few = some.few;
   dated = some.dated;
-  front = line_stops world offset s line some.moments sink old mid machine new is some.front;
+  front = line_stops reads world offset s line some.moments sink old mid machine new is some.front;
 }
 
 -- nothing is said so far
@@ -178,10 +179,10 @@ says_nothing fixed clock Runs sink old new machine = record {
 -- ---- what a line does to the devices
 
 -- all of it is written
-line_ran : (offset : ℤ) (s : Session) (line : List ℕ) (fixed : Option ℤ) (clock clock' : ClockView) (s' : Session) (sink mid sink' : SinkView) (old waits : List ℕ) (machine machine' : MachineView)
-    → old ≡ [] → SaysAll fixed clock clock' (RunsLine machine.world offset s line) s' (state_of sink old machine) (state_of mid waits machine') → Appends mid.held sink'.held waits
-    → (moments : List ℤ) × (run : Run) × RunsLine machine.world offset s line moments run s' × Did machine.world fixed (devices sink machine clock) (devices sink' machine' clock') moments run
-line_ran offset s line fixed clock clock' s' sink mid sink' old waits machine machine' none all flushed =
+line_ran : (reads : Readings) (offset : ℤ) (s : Session) (line : List ℕ) (fixed : Option ℤ) (clock clock' : ClockView) (s' : Session) (sink mid sink' : SinkView) (old waits : List ℕ) (machine machine' : MachineView)
+    → old ≡ [] → SaysAll fixed clock clock' (RunsLine reads machine.world offset s line) s' (state_of sink old machine) (state_of mid waits machine') → Appends mid.held sink'.held waits
+    → (moments : List ℤ) × (run : Run) × RunsLine reads machine.world offset s line moments run s' × Did machine.world fixed (devices sink machine clock) (devices sink' machine' clock') moments run
+line_ran reads offset s line fixed clock clock' s' sink mid sink' old waits machine machine' none all flushed =
     let Written : List ℕ → Type 0 = λ l. Appends sink.held sink'.held l in
     let whole : all.run.bytes ≡ all.says.written ++ waits = ap (λ l. l ++ all.run.bytes) (sym none) ∙ all.says.whole in (
       all.moments,
@@ -196,10 +197,10 @@ line_ran offset s line fixed clock clock' s' sink mid sink' old waits machine ma
     )
 
 -- a write at the end failed
-line_unwritten : (offset : ℤ) (s : Session) (line : List ℕ) (fixed : Option ℤ) (clock clock' : ClockView) (s' : Session) (sink mid sink' : SinkView) (old waits : List ℕ) (machine machine' : MachineView)
-    → old ≡ [] → SaysAll fixed clock clock' (RunsLine machine.world offset s line) s' (state_of sink old machine) (state_of mid waits machine') → AppendsSome mid.held sink'.held (IsFront waits)
-    → (moments : List ℤ) × (front : Run) × IsFrontOfLine machine.world offset s line moments front × Did machine.world fixed (devices sink machine clock) (devices sink' machine' clock') moments front
-line_unwritten offset s line fixed clock clock' s' sink mid sink' old waits machine machine' none all front =
+line_unwritten : (reads : Readings) (offset : ℤ) (s : Session) (line : List ℕ) (fixed : Option ℤ) (clock clock' : ClockView) (s' : Session) (sink mid sink' : SinkView) (old waits : List ℕ) (machine machine' : MachineView)
+    → old ≡ [] → SaysAll fixed clock clock' (RunsLine reads machine.world offset s line) s' (state_of sink old machine) (state_of mid waits machine') → AppendsSome mid.held sink'.held (IsFront waits)
+    → (moments : List ℤ) × (front : Run) × IsFrontOfLine reads machine.world offset s line moments front × Did machine.world fixed (devices sink machine clock) (devices sink' machine' clock') moments front
+line_unwritten reads offset s line fixed clock clock' s' sink mid sink' old waits machine machine' none all front =
     let whole : all.run.bytes ≡ all.says.written ++ waits = ap (λ l. l ++ all.run.bytes) (sym none) ∙ all.says.whole in
     let said : all.run.bytes ≡ (all.says.written ++ front.0) ++ front.1.0 = whole ∙ ap (λ l. all.says.written ++ l) front.1.1 ∙ sym (append_assoc all.says.written front.0 front.1.0) in (
       all.moments,
@@ -219,11 +220,11 @@ kept None b p = tt
 kept (Some x) None p = absurd p
 kept (Some x) (Some y) p = p ∙ sym (append-nil x)
 
-began : (offset : ℤ) (s : Session) (line : List ℕ) (fixed : Option ℤ) (clock clock' : ClockView) (sink sink' : SinkView) (old waits : List ℕ) (machine machine' : MachineView) (moments : List ℤ)
+began : (reads : Readings) (offset : ℤ) (s : Session) (line : List ℕ) (fixed : Option ℤ) (clock clock' : ClockView) (sink sink' : SinkView) (old waits : List ℕ) (machine machine' : MachineView) (moments : List ℤ)
     → old ≡ [] → length moments ≤ 1 → Dates fixed clock.given clock'.given moments
-    → StopsEarly (RunsLine machine.world offset s line moments) (state_of sink old machine) (state_of sink' waits machine')
-    → (moments : List ℤ) × (front : Run) × IsFrontOfLine machine.world offset s line moments front × Did machine.world fixed (devices sink machine clock) (devices sink' machine' clock') moments front
-began offset s line fixed clock clock' sink sink' old waits machine machine' moments none few dated (inl unwritten) = (
+    → StopsEarly (RunsLine reads machine.world offset s line moments) (state_of sink old machine) (state_of sink' waits machine')
+    → (moments : List ℤ) × (front : Run) × IsFrontOfLine reads machine.world offset s line moments front × Did machine.world fixed (devices sink machine clock) (devices sink' machine' clock') moments front
+began reads offset s line fixed clock clock' sink sink' old waits machine machine' moments none few dated (inl unwritten) = (
   moments,
   nothing,
   inl (few, refl),
@@ -234,7 +235,7 @@ began offset s line fixed clock clock' sink sink' old waits machine machine' mom
     dated = dated;
   },
 )
-began offset s line fixed clock clock' sink sink' old waits machine machine' moments none few dated (inr (run, s', runs, stops)) =
+began reads offset s line fixed clock clock' sink sink' old waits machine machine' moments none few dated (inr (run, s', runs, stops)) =
     let whole : run.bytes ≡ stops.written ++ stops.unsaid = ap (λ l. l ++ run.bytes) (sym none) ∙ stops.whole in (
       moments,
       record { bytes = stops.written; looks = stops.looks.keys; faults = run.faults },
@@ -247,11 +248,11 @@ began offset s line fixed clock clock' sink sink' old waits machine machine' mom
       },
     )
 
-pub line_began : (offset : ℤ) (s : Session) (line : List ℕ) (fixed : Option ℤ) (clock clock' : ClockView) (sink sink' : SinkView) (old waits : List ℕ) (machine machine' : MachineView)
-    → old ≡ [] → SaysFront fixed clock clock' (RunsLine machine.world offset s line) (state_of sink old machine) (state_of sink' waits machine')
-    → (moments : List ℤ) × (front : Run) × IsFrontOfLine machine.world offset s line moments front × Did machine.world fixed (devices sink machine clock) (devices sink' machine' clock') moments front
-line_began offset s line fixed clock clock' sink sink' old waits machine machine' none some =
-    began offset s line fixed clock clock' sink sink' old waits machine machine' some.moments none some.few some.dated some.front
+pub line_began : (reads : Readings) (offset : ℤ) (s : Session) (line : List ℕ) (fixed : Option ℤ) (clock clock' : ClockView) (sink sink' : SinkView) (old waits : List ℕ) (machine machine' : MachineView)
+    → old ≡ [] → SaysFront fixed clock clock' (RunsLine reads machine.world offset s line) (state_of sink old machine) (state_of sink' waits machine')
+    → (moments : List ℤ) × (front : Run) × IsFrontOfLine reads machine.world offset s line moments front × Did machine.world fixed (devices sink machine clock) (devices sink' machine' clock') moments front
+line_began reads offset s line fixed clock clock' sink sink' old waits machine machine' none some =
+    began reads offset s line fixed clock clock' sink sink' old waits machine machine' some.moments none some.few some.dated some.front
 
 -- ---- the code's sessions
 
@@ -335,14 +336,14 @@ said_dated (Ok x) Was Runs fixed clock clock' moments now old new few dated turn
 said_dated (Err e) Was Runs fixed clock clock' moments now old new few dated turn said = record { moments = moments; few = few; dated = dated; front = stops_as old new Was (Runs moments) turn said }
 
 -- what a line asks for is done
-pub obeyed : {T E : Type 0} (r : Result T E) (world : Option WorldState) (offset : ℤ) (s : Session) (line : List ℕ) (what : Line) (fixed : Option ℤ) (clock clock' : ClockView) (now : Session) (old new : State) → Asks line what
-    → SaysDated fixed clock clock' (Answers world offset s line what) now old new r → SaysDated fixed clock clock' (Obeys world offset s line) now old new r
-obeyed (Ok x) world offset s line what fixed clock clock' now old new asks all = record { moments = all.moments; run = all.run; runs = (what, asks, all.runs); says = all.says; dated = all.dated }
-obeyed (Err e) world offset s line what fixed clock clock' now old new asks some = record {
+pub obeyed : {T E : Type 0} (r : Result T E) (reads : Readings) (world : Option WorldState) (offset : ℤ) (s : Session) (line : List ℕ) (what : Line) (fixed : Option ℤ) (clock clock' : ClockView) (now : Session) (old new : State) → Asks line what
+    → SaysDated fixed clock clock' (Answers reads world offset s line what) now old new r → SaysDated fixed clock clock' (Obeys reads world offset s line) now old new r
+obeyed (Ok x) reads world offset s line what fixed clock clock' now old new asks all = record { moments = all.moments; run = all.run; runs = (what, asks, all.runs); says = all.says; dated = all.dated }
+obeyed (Err e) reads world offset s line what fixed clock clock' now old new asks some = record {
   moments = some.moments;
   few = some.few;
   dated = some.dated;
-  front = stops_as old new (Answers world offset s line what some.moments) (Obeys world offset s line some.moments) (λ run s' is. (what, asks, is)) some.front;
+  front = stops_as old new (Answers reads world offset s line what some.moments) (Obeys reads world offset s line some.moments) (λ run s' is. (what, asks, is)) some.front;
 }
 
 -- bytes are said, and no moment is used
@@ -351,15 +352,15 @@ pub says_bytes : (fixed : Option ℤ) (clock : ClockView) (Runs : List ℤ → R
 says_bytes fixed clock Runs now sink old new machine bytes is runs = record { moments = []; run = saying bytes; runs = runs; says = Says-bytes sink old new machine bytes is; dated = Dates-nil fixed clock.given }
 
 -- a line is said behind its echo
-pub line_said : {T E : Type 0} (r : Result T E) (world : Option WorldState) (offset : ℤ) (s : Session) (line : List ℕ) (fixed : Option ℤ) (clock clock' : ClockView) (now : Session) (sink : SinkView) (old mid : List ℕ) (machine : MachineView) (new : State) → mid ≡ old ++ said_question line
-    → SaysDated fixed clock clock' (Obeys world offset s line) now (state_of sink mid machine) new r → SaysDated fixed clock clock' (RunsLine world offset s line) now (state_of sink old machine) new r
-line_said (Ok x) world offset s line fixed clock clock' now sink old mid machine new is all = line_says_all world offset s line fixed clock clock' now sink old mid machine new is all
-line_said (Err e) world offset s line fixed clock clock' now sink old mid machine new is some = line_says_front world offset s line fixed clock clock' sink old mid machine new is some
+pub line_said : {T E : Type 0} (r : Result T E) (reads : Readings) (world : Option WorldState) (offset : ℤ) (s : Session) (line : List ℕ) (fixed : Option ℤ) (clock clock' : ClockView) (now : Session) (sink : SinkView) (old mid : List ℕ) (machine : MachineView) (new : State) → mid ≡ old ++ said_question line
+    → SaysDated fixed clock clock' (Obeys reads world offset s line) now (state_of sink mid machine) new r → SaysDated fixed clock clock' (RunsLine reads world offset s line) now (state_of sink old machine) new r
+line_said (Ok x) reads world offset s line fixed clock clock' now sink old mid machine new is all = line_says_all reads world offset s line fixed clock clock' now sink old mid machine new is all
+line_said (Err e) reads world offset s line fixed clock clock' now sink old mid machine new is some = line_says_front reads world offset s line fixed clock clock' sink old mid machine new is some
 
 -- a line is written, or a front of it
-pub line_written : {T E : Type 0} (r : Result T E) (offset : ℤ) (s : Session) (line : List ℕ) (fixed : Option ℤ) (clock clock' : ClockView) (s' : Session) (sink mid sink' : SinkView) (old waits : List ℕ) (machine machine' : MachineView)
-    → old ≡ [] → SaysAll fixed clock clock' (RunsLine machine.world offset s line) s' (state_of sink old machine) (state_of mid waits machine')
+pub line_written : {T E : Type 0} (r : Result T E) (reads : Readings) (offset : ℤ) (s : Session) (line : List ℕ) (fixed : Option ℤ) (clock clock' : ClockView) (s' : Session) (sink mid sink' : SinkView) (old waits : List ℕ) (machine machine' : MachineView)
+    → old ≡ [] → SaysAll fixed clock clock' (RunsLine reads machine.world offset s line) s' (state_of sink old machine) (state_of mid waits machine')
     → MatchResult r (λ _. Appends mid.held sink'.held waits) (λ _. AppendsSome mid.held sink'.held (IsFront waits))
-    → DoesLine offset fixed s line s' (devices sink machine clock) (devices sink' machine' clock') r
-line_written (Ok x) offset s line fixed clock clock' s' sink mid sink' old waits machine machine' none all flushed = line_ran offset s line fixed clock clock' s' sink mid sink' old waits machine machine' none all flushed
-line_written (Err e) offset s line fixed clock clock' s' sink mid sink' old waits machine machine' none all front = line_unwritten offset s line fixed clock clock' s' sink mid sink' old waits machine machine' none all front
+    → DoesLine reads offset fixed s line s' (devices sink machine clock) (devices sink' machine' clock') r
+line_written (Ok x) reads offset s line fixed clock clock' s' sink mid sink' old waits machine machine' none all flushed = line_ran reads offset s line fixed clock clock' s' sink mid sink' old waits machine machine' none all flushed
+line_written (Err e) reads offset s line fixed clock clock' s' sink mid sink' old waits machine machine' none all front = line_unwritten reads offset s line fixed clock clock' s' sink mid sink' old waits machine machine' none all front

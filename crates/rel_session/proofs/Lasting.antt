@@ -25,13 +25,12 @@ use Rattle.rel_session.specs.declared.paused.Left.{Left}
 use Rattle.rel_session.specs.declared.paused.Left.TheVariants as left
 use Rattle.rel_session.specs.declared.paused.Step.{Step}
 use Rattle.rel_session.specs.declared.paused.Step.TheVariants.{On, Out}
-use Rattle.bf_machine.proofs.Telling.{LooksUp-nil, LooksUp-trans}
+use Rattle.bf_machine.proofs.Telling.{CountsFailed-none, CountsFailed-one, LooksUp-nil, LooksUp-trans}
 use Rattle.bf_machine.specs.Looks.{LooksUp}
-use Rattle.rel_session.specs.Devices.{CountsFailed}
+use Rattle.bf_machine.specs.Rises.{CountsFailed}
 use Rattle.rel_session.specs.Sessions.{IsGiven, told_run}
 use Rattle.rel_session.specs.Tellings.{Telling, Tells, TellsSome, faulted, onto}
 use Rattle.rel_session.specs.Waiting.{some_given, State, state_of, Comes, Says, Stops, LooksFront, Flushes, IsLeft, TellsStep, TellsValue, Stays}
-use Rattle.rel_session.proofs.Failing.{CountsFailed-none, CountsFailed-one}
 use Rattle.rel_session.proofs.Tellings.{can_be_told, told_fault, told_past}
 
 -- a front of the keys that are looked up later

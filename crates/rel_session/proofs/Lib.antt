@@ -1,4 +1,3 @@
-pub mod Failing
 pub mod LineLemmas
 pub mod Tellings
 pub mod Lasting

@@ -11,16 +11,13 @@ use Rattle.rel_value.specs.Texts.{text_of}
 use Rattle.rel_trace.specs.Trace.{Stop, Error, Look, Turn, Give, Trace, Ends, After}
 use Rattle.rel_nodes.specs.Spans.{span_of_node}
 use Rattle.rel_eval.specs.Cuts.{meaning}
-use Rattle.rel_eval.specs.Questions.{Reading, Reads, question, refused, undefined}
+use Rattle.rel_eval.specs.Questions.{Reading, question, refused, undefined}
 use Rattle.rel_session.specs.declared.line.Line.{Line}
 use Rattle.rel_session.specs.declared.line.Line.TheVariants.{Question, Page, More, NoCommand}
 use Rattle.rel_session.specs.Printed.{said_question, said_value}
+use Rattle.rel_session.specs.Readings.{OneReading, Readings}
 use Rattle.rel_session.specs.Sessions.{Paused, Session, Run, saying, after, pausing, scene_at, more_line, begins_with_colon, IsPageLine, Asks, IsGiven, TellsOf, AnswersReading, AnswersText, GoesOnWith, Answers, RunsLine, Runs}
 use Rattle.rel_session.specs.Tellings.{Telling, onto, GoesOn, Tells, room_of}
-
--- what rel_eval says of every text, in its law on them
-abbrev pub OnePlan : Type 0
-OnePlan = (text : List ℕ) (x y : Reading) → Reads text x → Reads text y → x ≡ y
 
 -- ---- a telling
 
@@ -69,11 +66,11 @@ reading_answers_once w moment offset s (question plan) x y a b p q none none' = 
 reading_answers_once w moment offset s (refused kind place) x y a b p q none none' = (p.0 ∙ sym q.0, p.1 ∙ sym q.1)
 reading_answers_once w moment offset s (undefined place words) x y a b p q none none' = (p.0 ∙ sym q.0, p.1 ∙ sym q.1)
 
-text_answers_once : OnePlan → (w : WorldState) (moment offset : ℤ) (s : Session) (text : List ℕ) (x y : Run) (a b : Session) → AnswersText (Some w) moment offset s text x a → AnswersText (Some w) moment offset s text y b → x.faults ≡ 0 → y.faults ≡ 0 → SameEnd x y a b
+text_answers_once : (reads : Readings) → OneReading reads → (w : WorldState) (moment offset : ℤ) (s : Session) (text : List ℕ) (x y : Run) (a b : Session) → AnswersText reads (Some w) moment offset s text x a → AnswersText reads (Some w) moment offset s text y b → x.faults ≡ 0 → y.faults ≡ 0 → SameEnd x y a b
 unfolding AnswersText
-text_answers_once one_plan w moment offset s text x y a b p q none none' =
+text_answers_once reads only w moment offset s text x y a b p q none none' =
     let Answered : Reading → Type 0 = λ r. AnswersReading (Some w) moment offset s r y b in
-    reading_answers_once w moment offset s p.0 x y a b p.2 (subst Answered (sym (one_plan text p.0 q.0 p.1 q.1)) q.2) none none'
+    reading_answers_once w moment offset s p.0 x y a b p.2 (subst Answered (sym (only text p.0 q.0 p.1 q.1)) q.2) none none'
 
 goes_on_with_once : (w : WorldState) (offset : ℤ) (s : Session) (paused : List Paused) (x y : Run) (a b : Session) → GoesOnWith (Some w) offset s paused x a → GoesOnWith (Some w) offset s paused y b → x.faults ≡ 0 → y.faults ≡ 0 → SameEnd x y a b
 goes_on_with_once w offset s [] x y a b p q none none' = (p.0 ∙ sym q.0, p.1 ∙ sym q.1)
@@ -126,37 +123,37 @@ head_same x y xs ys e = (ap (λ l. get_or l 0 x) e, ap (λ l. drop 1 l) e)
 none_used : (now now' later later' : List ℤ) → now ≡ [] → now' ≡ [] → now ++ later ≡ now' ++ later' → later ≡ later'
 none_used now now' later later' p q is = sym (ap (λ l. l ++ later) p) ∙ is ∙ ap (λ l. l ++ later') q
 
-answers_once : OnePlan → (w : WorldState) (offset : ℤ) (s : Session) (line : List ℕ) (what : Line) (now now' later later' : List ℤ) (x y : Run) (a b : Session)
-    → Answers (Some w) offset s line what now x a → Answers (Some w) offset s line what now' y b → now ++ later ≡ now' ++ later' → x.faults ≡ 0 → y.faults ≡ 0 → SameLine later later' x y a b
-answers_once one_plan w offset s line Question now now' later later' x y a b (moment, is, p) (moment', is', q) all none none' =
+answers_once : (reads : Readings) → OneReading reads → (w : WorldState) (offset : ℤ) (s : Session) (line : List ℕ) (what : Line) (now now' later later' : List ℤ) (x y : Run) (a b : Session)
+    → Answers reads (Some w) offset s line what now x a → Answers reads (Some w) offset s line what now' y b → now ++ later ≡ now' ++ later' → x.faults ≡ 0 → y.faults ≡ 0 → SameLine later later' x y a b
+answers_once reads only w offset s line Question now now' later later' x y a b (moment, is, p) (moment', is', q) all none none' =
     let same = head_same moment moment' later later' (sym (ap (λ l. l ++ later) is) ∙ all ∙ ap (λ l. l ++ later') is') in
-    let At : ℤ → Type 0 = λ m. AnswersText (Some w) m offset s line y b in
-    let one = text_answers_once one_plan w moment offset s line x y a b p (subst At (sym same.0) q) none none' in
+    let At : ℤ → Type 0 = λ m. AnswersText reads (Some w) m offset s line y b in
+    let one = text_answers_once reads only w moment offset s line x y a b p (subst At (sym same.0) q) none none' in
     (same.1, one.0, one.1)
-answers_once one_plan w offset s line (Page size) now now' later later' x y a b (is, ran, next) (is', ran', next') all none none' = (none_used now now' later later' is is' all, ran ∙ sym ran', next ∙ sym next')
-answers_once one_plan w offset s line More now now' later later' x y a b (is, p) (is', q) all none none' =
+answers_once reads only w offset s line (Page size) now now' later later' x y a b (is, ran, next) (is', ran', next') all none none' = (none_used now now' later later' is is' all, ran ∙ sym ran', next ∙ sym next')
+answers_once reads only w offset s line More now now' later later' x y a b (is, p) (is', q) all none none' =
     let one = goes_on_with_once w offset s s.paused x y a b p q none none' in
     (none_used now now' later later' is is' all, one.0, one.1)
-answers_once one_plan w offset s line NoCommand now now' later later' x y a b (is, ran, next) (is', ran', next') all none none' = (none_used now now' later later' is is' all, ran ∙ sym ran', next ∙ sym next')
+answers_once reads only w offset s line NoCommand now now' later later' x y a b (is, ran, next) (is', ran', next') all none none' = (none_used now now' later later' is is' all, ran ∙ sym ran', next ∙ sym next')
 
-line_runs_once : OnePlan → (w : WorldState) (offset : ℤ) (s : Session) (line : List ℕ) (now now' later later' : List ℤ) (x y : Run) (a b : Session)
-    → RunsLine (Some w) offset s line now x a → RunsLine (Some w) offset s line now' y b → now ++ later ≡ now' ++ later' → x.faults ≡ 0 → y.faults ≡ 0 → SameLine later later' x y a b
-line_runs_once one_plan w offset s line now now' later later' x y a b (what, asks, (answer, p, is)) (what', asks', (answer', q, is')) all none none' =
-    let Asked : Line → Type 0 = λ l. Answers (Some w) offset s line l now' answer' b in
+line_runs_once : (reads : Readings) → OneReading reads → (w : WorldState) (offset : ℤ) (s : Session) (line : List ℕ) (now now' later later' : List ℤ) (x y : Run) (a b : Session)
+    → RunsLine reads (Some w) offset s line now x a → RunsLine reads (Some w) offset s line now' y b → now ++ later ≡ now' ++ later' → x.faults ≡ 0 → y.faults ≡ 0 → SameLine later later' x y a b
+line_runs_once reads only w offset s line now now' later later' x y a b (what, asks, (answer, p, is)) (what', asks', (answer', q, is')) all none none' =
+    let Asked : Line → Type 0 = λ l. Answers reads (Some w) offset s line l now' answer' b in
     let zero : 0 + answer.faults ≡ 0 = sym (ap (λ r. r.faults) is) ∙ none in
     let zero' : 0 + answer'.faults ≡ 0 = sym (ap (λ r. r.faults) is') ∙ none' in
-    let one = answers_once one_plan w offset s line what now now' later later' answer answer' a b p (subst Asked (sym (asks_once line what what' asks asks')) q) all (omega arith) (omega arith) in
+    let one = answers_once reads only w offset s line what now now' later later' answer answer' a b p (subst Asked (sym (asks_once line what what' asks asks')) q) all (omega arith) (omega arith) in
     (one.0, is ∙ ap (after (saying (said_question line))) one.1 ∙ sym is', one.2)
 
 -- ---- lines
 
-pub runs_once : OnePlan → (w : WorldState) (offset : ℤ) (s : Session) (lines : List (List ℕ)) (moments : List ℤ) (a b : Run) → Runs (Some w) offset s lines moments a → Runs (Some w) offset s lines moments b → a.faults ≡ 0 → b.faults ≡ 0 → a ≡ b
-runs_once one_plan w offset s [] moments a b p q none none' = p.1 ∙ sym q.1
-runs_once one_plan w offset s (line ∷ lines) moments a b (now, later, all, (first, next, ran, (rest, runs, is))) (now', later', all', (first', next', ran', (rest', runs', is'))) none none' =
+pub runs_once : (reads : Readings) → OneReading reads → (w : WorldState) (offset : ℤ) (s : Session) (lines : List (List ℕ)) (moments : List ℤ) (a b : Run) → Runs reads (Some w) offset s lines moments a → Runs reads (Some w) offset s lines moments b → a.faults ≡ 0 → b.faults ≡ 0 → a ≡ b
+runs_once reads only w offset s [] moments a b p q none none' = p.1 ∙ sym q.1
+runs_once reads only w offset s (line ∷ lines) moments a b (now, later, all, (first, next, ran, (rest, runs, is))) (now', later', all', (first', next', ran', (rest', runs', is'))) none none' =
     let sum : first.faults + rest.faults ≡ 0 = sym (ap (λ r. r.faults) is) ∙ none in
     let sum' : first'.faults + rest'.faults ≡ 0 = sym (ap (λ r. r.faults) is') ∙ none' in
-    let one = line_runs_once one_plan w offset s line now now' later later' first first' next next' ran ran' (sym all ∙ all') (omega arith) (omega arith) in
-    let Later : List ℤ → Type 0 = λ l. Runs (Some w) offset next lines l rest' in
-    let Next : Session → Type 0 = λ z. Runs (Some w) offset z lines later' rest' in
-    let others : rest ≡ rest' = runs_once one_plan w offset next lines later rest rest' runs (subst Later (sym one.0) (subst Next (sym one.2) runs')) (omega arith) (omega arith) in
+    let one = line_runs_once reads only w offset s line now now' later later' first first' next next' ran ran' (sym all ∙ all') (omega arith) (omega arith) in
+    let Later : List ℤ → Type 0 = λ l. Runs reads (Some w) offset next lines l rest' in
+    let Next : Session → Type 0 = λ z. Runs reads (Some w) offset z lines later' rest' in
+    let others : rest ≡ rest' = runs_once reads only w offset next lines later rest rest' runs (subst Later (sym one.0) (subst Next (sym one.2) runs')) (omega arith) (omega arith) in
     is ∙ ap (λ r. after r rest) one.1 ∙ ap (after first') others ∙ sym is'

@@ -6,9 +6,9 @@ use Rattle.std.proofs.KnownBytes.{Appends-nil, Appends-trans}
 use Rattle.desk_base.specs.Moments.{AppendsMoments}
 use Rattle.bf_world.specs.Worlds.{WorldState}
 use Rattle.rel_session.specs.Devices.{Devices, Dates, Did, DidAll, DidFront}
+use Rattle.rel_session.specs.Readings.{Readings}
 use Rattle.rel_session.specs.Sessions.{Session, Run, nothing, after, RunsLine, Runs, IsFrontOfLine, IsFrontOfRun}
-use Rattle.bf_machine.proofs.Telling.{LooksUp-nil, LooksUp-trans}
-use Rattle.rel_session.proofs.Failing.{CountsFailed-more, CountsFailed-none}
+use Rattle.bf_machine.proofs.Telling.{CountsFailed-more, CountsFailed-none, LooksUp-nil, LooksUp-trans}
 
 AppendsMoments-nil : (a : Option (List ℤ)) → AppendsMoments a a []
 AppendsMoments-nil None = tt
@@ -60,31 +60,31 @@ after_after a b c =
     ∙ ap (λ n. With (a.bytes ++ (b.bytes ++ c.bytes)) (a.looks ++ (b.looks ++ c.looks)) n) (omega arith)
 
 -- Some first lines are run; what is run of the rest, or a front of it, goes on from there.
-pub record RanSoFar (offset : ℤ) (fixed : Option ℤ) (first : Session) (lines : List (List ℕ)) (old : Devices) (s : Session) (rest : List (List ℕ)) (now : Devices) : Type 0 where
+pub record RanSoFar (reads : Readings) (offset : ℤ) (fixed : Option ℤ) (first : Session) (lines : List (List ℕ)) (old : Devices) (s : Session) (rest : List (List ℕ)) (now : Devices) : Type 0 where
   pub moments : List ℤ
   pub run : Run
   pub did : Did old.machine.world fixed old now moments run
-  pub whole : (later : List ℤ) (r : Run) → Runs old.machine.world offset s rest later r → Runs old.machine.world offset first lines (moments ++ later) (after run r)
-  pub front : (later : List ℤ) (r : Run) → IsFrontOfRun old.machine.world offset s rest later r → IsFrontOfRun old.machine.world offset first lines (moments ++ later) (after run r)
+  pub whole : (later : List ℤ) (r : Run) → Runs reads old.machine.world offset s rest later r → Runs reads old.machine.world offset first lines (moments ++ later) (after run r)
+  pub front : (later : List ℤ) (r : Run) → IsFrontOfRun reads old.machine.world offset s rest later r → IsFrontOfRun reads old.machine.world offset first lines (moments ++ later) (after run r)
 
-pub RanSoFar-start : (offset : ℤ) (fixed : Option ℤ) (s : Session) (lines : List (List ℕ)) (a : Devices) → RanSoFar offset fixed s lines a s lines a
-RanSoFar-start offset fixed s lines a = record {
+pub RanSoFar-start : (reads : Readings) (offset : ℤ) (fixed : Option ℤ) (s : Session) (lines : List (List ℕ)) (a : Devices) → RanSoFar reads offset fixed s lines a s lines a
+RanSoFar-start reads offset fixed s lines a = record {
   moments = [];
   run = nothing;
   did = Did-nil a.machine.world fixed a;
-  whole = λ later r runs. let Ran : Run → Type 0 = λ z. Runs a.machine.world offset s lines later z in subst Ran (nothing_after r) runs;
-  front = λ later r is. let Ran : Run → Type 0 = λ z. IsFrontOfRun a.machine.world offset s lines later z in subst Ran (nothing_after r) is;
+  whole = λ later r runs. let Ran : Run → Type 0 = λ z. Runs reads a.machine.world offset s lines later z in subst Ran (nothing_after r) runs;
+  front = λ later r is. let Ran : Run → Type 0 = λ z. IsFrontOfRun reads a.machine.world offset s lines later z in subst Ran (nothing_after r) is;
 }
 
 -- the next line is run
-pub RanSoFar-step : (offset : ℤ) (fixed : Option ℤ) (first : Session) (lines : List (List ℕ)) (old : Devices) (s s' : Session) (rest more : List (List ℕ)) (line : List ℕ) (now new : Devices) (moments : List ℤ) (run : Run)
-    → RanSoFar offset fixed first lines old s rest now → rest ≡ line ∷ more → RunsLine old.machine.world offset s line moments run s' → Did old.machine.world fixed now new moments run
-    → RanSoFar offset fixed first lines old s' more new
-RanSoFar-step offset fixed first lines old s s' rest more line now new moments run before is runs did =
-    let Before : List (List ℕ) → Type 0 = λ l. RanSoFar offset fixed first lines old s l now in
-    let b : RanSoFar offset fixed first lines old s (line ∷ more) now = subst Before is before in
-    let Ran : Run → List ℤ → Type 0 = λ r l. Runs old.machine.world offset first lines l r in
-    let Front : Run → List ℤ → Type 0 = λ r l. IsFrontOfRun old.machine.world offset first lines l r in
+pub RanSoFar-step : (reads : Readings) (offset : ℤ) (fixed : Option ℤ) (first : Session) (lines : List (List ℕ)) (old : Devices) (s s' : Session) (rest more : List (List ℕ)) (line : List ℕ) (now new : Devices) (moments : List ℤ) (run : Run)
+    → RanSoFar reads offset fixed first lines old s rest now → rest ≡ line ∷ more → RunsLine reads old.machine.world offset s line moments run s' → Did old.machine.world fixed now new moments run
+    → RanSoFar reads offset fixed first lines old s' more new
+RanSoFar-step reads offset fixed first lines old s s' rest more line now new moments run before is runs did =
+    let Before : List (List ℕ) → Type 0 = λ l. RanSoFar reads offset fixed first lines old s l now in
+    let b : RanSoFar reads offset fixed first lines old s (line ∷ more) now = subst Before is before in
+    let Ran : Run → List ℤ → Type 0 = λ r l. Runs reads old.machine.world offset first lines l r in
+    let Front : Run → List ℤ → Type 0 = λ r l. IsFrontOfRun reads old.machine.world offset first lines l r in
     record {
       moments = b.moments ++ moments;
       run = after b.run run;
@@ -98,20 +98,20 @@ RanSoFar-step offset fixed first lines old s s' rest more line now new moments r
     }
 
 -- a front of the next line is run
-pub RanSoFar-stop : (offset : ℤ) (fixed : Option ℤ) (first : Session) (lines : List (List ℕ)) (old : Devices) (s : Session) (rest more : List (List ℕ)) (line : List ℕ) (now new : Devices) (moments : List ℤ) (front : Run)
-    → RanSoFar offset fixed first lines old s rest now → rest ≡ line ∷ more → IsFrontOfLine old.machine.world offset s line moments front → Did old.machine.world fixed now new moments front
-    → DidFront offset first lines fixed old new
-RanSoFar-stop offset fixed first lines old s rest more line now new moments front before is some did =
-    let Before : List (List ℕ) → Type 0 = λ l. RanSoFar offset fixed first lines old s l now in
-    let b : RanSoFar offset fixed first lines old s (line ∷ more) now = subst Before is before in
+pub RanSoFar-stop : (reads : Readings) (offset : ℤ) (fixed : Option ℤ) (first : Session) (lines : List (List ℕ)) (old : Devices) (s : Session) (rest more : List (List ℕ)) (line : List ℕ) (now new : Devices) (moments : List ℤ) (front : Run)
+    → RanSoFar reads offset fixed first lines old s rest now → rest ≡ line ∷ more → IsFrontOfLine reads old.machine.world offset s line moments front → Did old.machine.world fixed now new moments front
+    → DidFront reads offset first lines fixed old new
+RanSoFar-stop reads offset fixed first lines old s rest more line now new moments front before is some did =
+    let Before : List (List ℕ) → Type 0 = λ l. RanSoFar reads offset fixed first lines old s l now in
+    let b : RanSoFar reads offset fixed first lines old s (line ∷ more) now = subst Before is before in
     (b.moments ++ moments, after b.run front, b.front moments front (inl some), Did-trans old.machine.world fixed old now new b.moments moments b.run front b.did did)
 
 -- all lines are run
-pub RanSoFar-end : (offset : ℤ) (fixed : Option ℤ) (first : Session) (lines : List (List ℕ)) (old : Devices) (s : Session) (rest : List (List ℕ)) (now : Devices) → RanSoFar offset fixed first lines old s rest now → rest ≡ []
-    → DidAll offset first lines fixed old now
-RanSoFar-end offset fixed first lines old s rest now before is =
-    let Before : List (List ℕ) → Type 0 = λ l. RanSoFar offset fixed first lines old s l now in
-    let b : RanSoFar offset fixed first lines old s [] now = subst Before is before in
+pub RanSoFar-end : (reads : Readings) (offset : ℤ) (fixed : Option ℤ) (first : Session) (lines : List (List ℕ)) (old : Devices) (s : Session) (rest : List (List ℕ)) (now : Devices) → RanSoFar reads offset fixed first lines old s rest now → rest ≡ []
+    → DidAll reads offset first lines fixed old now
+RanSoFar-end reads offset fixed first lines old s rest now before is =
+    let Before : List (List ℕ) → Type 0 = λ l. RanSoFar reads offset fixed first lines old s l now in
+    let b : RanSoFar reads offset fixed first lines old s [] now = subst Before is before in
     let Moments : List ℤ → Type 0 = λ l. Did old.machine.world fixed old now l (after b.run nothing) in
     let Done : Run → Type 0 = λ r. Did old.machine.world fixed old now b.moments r in
     (b.moments ++ [], after b.run nothing, b.whole [] nothing (refl, refl), subst Moments (sym (append-nil b.moments)) (subst Done (sym (after_nothing b.run)) b.did))

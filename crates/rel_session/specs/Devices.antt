@@ -9,9 +9,10 @@ use Rattle.desk_base.specs.Views.{SinkView, ClockView}
 use Rattle.line_forms.specs.Numbers.{IsOffset}
 use Rattle.rel_session.specs.declared.asking.Asking.{Asking}
 use Rattle.bf_machine.specs.Looks.{LooksUp}
-use Rattle.bf_machine.specs.Rises.{RoseBy}
+use Rattle.bf_machine.specs.Rises.{CountsFailed}
 use Rattle.bf_machine.specs.Views.{MachineView, OnlyLooks}
 use Rattle.bf_world.specs.Worlds.{WorldState}
+use Rattle.rel_session.specs.Readings.{Readings}
 use Rattle.rel_session.specs.Sessions.{Session, Run, Runs, IsFrontOfRun}
 
 -- what the devices tell
@@ -41,11 +42,6 @@ abbrev pub Dates : Option ℤ → Option (List ℤ) → Option (List ℤ) → Li
 Dates None old new moments = AppendsMoments old new moments
 Dates (Some fixed) old new moments = All (λ moment. moment ≡ fixed) moments × (new ≡ old)
 
--- So many looks failed: the count of faults rose by at least as many, or stands still at its last value, and it stayed where none did.
-pub record CountsFailed (failed old new : ℕ) : Type 0 where
-  pub rose : RoseBy failed old new
-  pub steady : failed ≡ 0 → new ≡ old
-
 -- The devices did this run, or this front of one, with these moments.
 pub record Did (world : Option WorldState) (fixed : Option ℤ) (old new : Devices) (moments : List ℤ) (run : Run) : Type 0 where
   pub written : Appends old.sink.held new.sink.held run.bytes
@@ -54,13 +50,13 @@ pub record Did (world : Option WorldState) (fixed : Option ℤ) (old new : Devic
   pub dated : Dates fixed old.clock.given new.clock.given moments
 
 -- All lines were run.
-abbrev pub DidAll : ℤ → Session → List (List ℕ) → Option ℤ → Devices → Devices → Type 0
-DidAll offset s lines fixed old new = (moments : List ℤ) × (run : Run) × Runs old.machine.world offset s lines moments run
+abbrev pub DidAll : Readings → ℤ → Session → List (List ℕ) → Option ℤ → Devices → Devices → Type 0
+DidAll reads offset s lines fixed old new = (moments : List ℤ) × (run : Run) × Runs reads old.machine.world offset s lines moments run
     × Did old.machine.world fixed old new moments run
 
 -- A front of that was done.
-abbrev pub DidFront : ℤ → Session → List (List ℕ) → Option ℤ → Devices → Devices → Type 0
-DidFront offset s lines fixed old new = (moments : List ℤ) × (front : Run) × IsFrontOfRun old.machine.world offset s lines moments front
+abbrev pub DidFront : Readings → ℤ → Session → List (List ℕ) → Option ℤ → Devices → Devices → Type 0
+DidFront reads offset s lines fixed old new = (moments : List ℤ) × (front : Run) × IsFrontOfRun reads old.machine.world offset s lines moments front
     × Did old.machine.world fixed old new moments front
 
 -- Where and when questions are asked: the offset is one, and a fixed moment is one.

@@ -1,3 +1,4 @@
+pub mod Readings
 pub mod Errors
 pub mod Lines
 pub mod Printed

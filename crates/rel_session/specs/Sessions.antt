@@ -1,4 +1,4 @@
--- A run of question lines, on a machine whose world is told or isn't.
+-- A run of question lines that are read in some way, on a machine whose world is told or isn't.
 use Rattle.std.specs.Prelude.{◌≡◌, ◌⊎◌, ⊤, ◌==◌, ◌+◌, ◌-◌, ◌≤◌, ℕ, ℤ, Bool, true, false, List, [], ◌∷◌, ◌++◌, length, drop, codes, decimal, Option, None, Some}
 use Rattle.desk_base.specs.Flow.{IsFront}
 use Rattle.rel_lexer.specs.declared.place.Place.{Place}
@@ -7,7 +7,8 @@ use Rattle.bf_world.specs.Worlds.{WorldState}
 use Rattle.rel_sources.specs.declared.scene.Scene.{Scene}
 use Rattle.rel_trace.specs.Trace.{Trace}
 use Rattle.rel_nodes.specs.Spans.{span_of_node}
-use Rattle.rel_eval.specs.Questions.{Reading, question, refused, undefined, Reads}
+use Rattle.rel_eval.specs.Questions.{Reading, question, refused, undefined}
+use Rattle.rel_session.specs.Readings.{Readings}
 use Rattle.rel_eval.specs.Cuts.{meaning}
 use Rattle.rel_session.specs.declared.line.Line.{Line}
 use Rattle.rel_session.specs.declared.line.Line.TheVariants.{Question, Page, More, NoCommand}
@@ -99,10 +100,10 @@ AnswersReading world moment offset s (question plan) run s' =
 AnswersReading world moment offset s (refused kind place) run s' = (run ≡ saying (said_error kind place)) × (s' ≡ s)
 AnswersReading world moment offset s (undefined place words) run s' = (run ≡ saying (said_undefined place words)) × (s' ≡ s)
 
--- A text is answered at a moment.
-unfoldable pub AnswersText : Option WorldState → ℤ → ℤ → Session → List ℕ → Run → Session → Type 0
-AnswersText world moment offset s text run s' =
-    (reading : Reading) × Reads text reading × AnswersReading world moment offset s reading run s'
+-- A text is answered at a moment, as what it is read as.
+unfoldable pub AnswersText : Readings → Option WorldState → ℤ → ℤ → Session → List ℕ → Run → Session → Type 0
+AnswersText reads world moment offset s text run s' =
+    (reading : Reading) × reads text reading × AnswersReading world moment offset s reading run s'
 
 -- The question that was paused last goes on; the first list is of those that were paused before it.
 abbrev pub GoesOnWith : Option WorldState → ℤ → Session → List Paused → Run → Session → Type 0
@@ -111,24 +112,24 @@ GoesOnWith world offset s (first ∷ rest) run s' = (before : List Paused) × (l
     × TellsOf offset (record s { paused = before }) (IsGiven world (λ w. latest.rest)) latest.span run s'
 
 -- A line that asks for this is answered, with the moments that it uses.
-abbrev pub Answers : Option WorldState → ℤ → Session → List ℕ → Line → List ℤ → Run → Session → Type 0
-Answers world offset s line Question moments run s' = (moment : ℤ) × (moments ≡ moment ∷ []) × AnswersText world moment offset s line run s'
-Answers world offset s line (Page size) moments run s' = (moments ≡ []) × (run ≡ nothing) × (s' ≡ record s { page = size })
-Answers world offset s line More moments run s' = (moments ≡ []) × GoesOnWith world offset s s.paused run s'
-Answers world offset s line NoCommand moments run s' = (moments ≡ []) × (run ≡ saying said_no_command) × (s' ≡ s)
+abbrev pub Answers : Readings → Option WorldState → ℤ → Session → List ℕ → Line → List ℤ → Run → Session → Type 0
+Answers reads world offset s line Question moments run s' = (moment : ℤ) × (moments ≡ moment ∷ []) × AnswersText reads world moment offset s line run s'
+Answers reads world offset s line (Page size) moments run s' = (moments ≡ []) × (run ≡ nothing) × (s' ≡ record s { page = size })
+Answers reads world offset s line More moments run s' = (moments ≡ []) × GoesOnWith world offset s s.paused run s'
+Answers reads world offset s line NoCommand moments run s' = (moments ≡ []) × (run ≡ saying said_no_command) × (s' ≡ s)
 
 -- A line is echoed and answered.
-abbrev pub RunsLine : Option WorldState → ℤ → Session → List ℕ → List ℤ → Run → Session → Type 0
-RunsLine world offset s line moments run s' = (what : Line) × Asks line what
-    × ((answer : Run) × Answers world offset s line what moments answer s' × (run ≡ after (saying (said_question line)) answer))
+abbrev pub RunsLine : Readings → Option WorldState → ℤ → Session → List ℕ → List ℤ → Run → Session → Type 0
+RunsLine reads world offset s line moments run s' = (what : Line) × Asks line what
+    × ((answer : Run) × Answers reads world offset s line what moments answer s' × (run ≡ after (saying (said_question line)) answer))
 
 -- Lines are answered in order, with the moments that they use.
-abbrev pub Runs : Option WorldState → ℤ → Session → List (List ℕ) → List ℤ → Run → Type 0
-Runs world offset s [] moments run = (moments ≡ []) × (run ≡ nothing)
-Runs world offset s (line ∷ lines) moments run =
+abbrev pub Runs : Readings → Option WorldState → ℤ → Session → List (List ℕ) → List ℤ → Run → Type 0
+Runs reads world offset s [] moments run = (moments ≡ []) × (run ≡ nothing)
+Runs reads world offset s (line ∷ lines) moments run =
     (now : List ℤ) × (later : List ℤ) × (moments ≡ now ++ later)
-    × ((first : Run) × (s' : Session) × RunsLine world offset s line now first s'
-    × ((rest : Run) × Runs world offset s' lines later rest × (run ≡ after first rest)))
+    × ((first : Run) × (s' : Session) × RunsLine reads world offset s line now first s'
+    × ((rest : Run) × Runs reads world offset s' lines later rest × (run ≡ after first rest)))
 
 -- These are a front of the bytes that a run wrote and a front of the keys that it looked up, and as many looks failed.
 pub record IsFrontOf (run front : Run) : Type 0 where
@@ -138,16 +139,16 @@ pub record IsFrontOf (run front : Run) : Type 0 where
   pub faults : front.faults ≡ run.faults
 
 -- This is a front of what a line does with these moments; or nothing of it was done so far, and it has used no moment or one.
-abbrev pub IsFrontOfLine : Option WorldState → ℤ → Session → List ℕ → List ℤ → Run → Type 0
-IsFrontOfLine world offset s line moments front =
+abbrev pub IsFrontOfLine : Readings → Option WorldState → ℤ → Session → List ℕ → List ℤ → Run → Type 0
+IsFrontOfLine reads world offset s line moments front =
     ((length moments ≤ 1) × (front ≡ nothing))
-    ⊎ ((run : Run) × (s' : Session) × RunsLine world offset s line moments run s' × IsFrontOf run front)
+    ⊎ ((run : Run) × (s' : Session) × RunsLine reads world offset s line moments run s' × IsFrontOf run front)
 
 -- This is a front of what lines do with the moments had so far: all that some first lines do, and a front of what the next does.
-abbrev pub IsFrontOfRun : Option WorldState → ℤ → Session → List (List ℕ) → List ℤ → Run → Type 0
-IsFrontOfRun world offset s [] moments front = (moments ≡ []) × (front ≡ nothing)
-IsFrontOfRun world offset s (line ∷ lines) moments front =
-    IsFrontOfLine world offset s line moments front
+abbrev pub IsFrontOfRun : Readings → Option WorldState → ℤ → Session → List (List ℕ) → List ℤ → Run → Type 0
+IsFrontOfRun reads world offset s [] moments front = (moments ≡ []) × (front ≡ nothing)
+IsFrontOfRun reads world offset s (line ∷ lines) moments front =
+    IsFrontOfLine reads world offset s line moments front
     ⊎ ((now : List ℤ) × (later : List ℤ) × (moments ≡ now ++ later)
-    × ((first : Run) × (s' : Session) × RunsLine world offset s line now first s'
-    × ((rest : Run) × IsFrontOfRun world offset s' lines later rest × (front ≡ after first rest))))
+    × ((first : Run) × (s' : Session) × RunsLine reads world offset s line now first s'
+    × ((rest : Run) × IsFrontOfRun reads world offset s' lines later rest × (front ≡ after first rest))))

@@ -8,7 +8,7 @@ use Rattle.bf_machine.specs.Views.{MachineView, OnlyLooks}
 use Rattle.bf_world.specs.declared.key.Key.{Key}
 use Rattle.bf_world.specs.Worlds.{WorldState}
 use Rattle.rel_nodes.specs.Spans.{span_of_node}
-use Rattle.rel_eval.specs.Answers.{Prepares}
+use Rattle.rel_eval.specs.Answers.{PreparesAs}
 use Rattle.rel_eval.specs.Cursors.{cursor_rest}
 use Rattle.rel_eval.specs.Cuts.{meaning}
 use Rattle.rel_eval.specs.Questions.{plan_of}
@@ -23,8 +23,10 @@ use Rattle.rel_session.specs.declared.paused.Step.{Step}
 use Rattle.rel_session.specs.declared.paused.Step.TheVariants.{On, Out}
 use Rattle.rel_session.specs.declared.session.Session as code_session
 use Rattle.rel_session.specs.declared.line.Line.{Line}
-use Rattle.rel_session.specs.Devices.{CountsFailed, Dates, Devices, Did}
+use Rattle.bf_machine.specs.Rises.{CountsFailed}
+use Rattle.rel_session.specs.Devices.{Dates, Devices, Did}
 use Rattle.rel_session.specs.Printed.{said_error, said_undefined}
+use Rattle.rel_session.specs.Readings.{Readings}
 use Rattle.rel_session.specs.Sessions.{Answers, Asks, IsFrontOfLine, IsGiven, Paused, Session, Run, RunsLine, scene_at}
 use Rattle.rel_lexer.specs.declared.place.Place.{Place}
 use Rattle.rel_session.specs.Tellings.{Telling, Tells, TellsSome, onto}
@@ -169,9 +171,9 @@ pub record Unwritten (old new : State) : Type 0 where
   pub looked : LooksUp old.machine.world old.machine.looked new.machine.looked []
   pub steady : new.machine.faults ≡ old.machine.faults
 
--- A question comes exactly where the text is one, and a refusal exactly as the text is refused.
-unfoldable pub IsRead : List ℕ → Result Question Refusal → Type 0
-IsRead text result = Prepares text result
+-- A question comes exactly where the text is read as one, and a refusal exactly as it is refused.
+unfoldable pub IsRead : Readings → List ℕ → Result Question Refusal → Type 0
+IsRead reads text result = PreparesAs (reads text) result
 
 -- A question is at its start in a scene of this moment and offset.
 pub record IsStarted (moment offset : ℤ) (question : Question) (started : code_paused.Paused) : Type 0 where
@@ -179,8 +181,8 @@ pub record IsStarted (moment offset : ℤ) (question : Question) (started : code
   pub span : started.span ≡ span_of question
 
 -- The text is a question, which is at its start.
-abbrev pub IsOpened : ℤ → ℤ → List ℕ → code_paused.Paused → Type 0
-IsOpened moment offset text started = (question : Question) × IsRead text (Ok question) × IsStarted moment offset question started
+abbrev pub IsOpened : Readings → ℤ → ℤ → List ℕ → code_paused.Paused → Type 0
+IsOpened reads moment offset text started = (question : Question) × IsRead reads text (Ok question) × IsStarted moment offset question started
 
 -- What a refusal says was appended. Want of memory is not said but ends the call.
 abbrev pub SaysRefusal : Refusal → List ℕ → List ℕ → Type 0
@@ -189,8 +191,8 @@ SaysRefusal (NotDefined place words) old new = new ≡ old ++ said_undefined pla
 SaysRefusal Memory old new = ⊥
 
 -- What a line asks for was done.
-abbrev pub Obeys : Option WorldState → ℤ → Session → List ℕ → List ℤ → Run → Session → Type 0
-Obeys world offset s line moments run s' = (what : Line) × Asks line what × Answers world offset s line what moments run s'
+abbrev pub Obeys : Readings → Option WorldState → ℤ → Session → List ℕ → List ℤ → Run → Session → Type 0
+Obeys reads world offset s line moments run s' = (what : Line) × Asks line what × Answers reads world offset s line what moments run s'
 
 -- A run of this kind was said, and leaves this session.
 abbrev pub SaysOf : (Run → Session → Type 0) → Session → State → State → Type 0
@@ -235,9 +237,9 @@ SaysDated fixed clock clock' Runs s old new result =
     MatchResult result (λ _. SaysAll fixed clock clock' Runs s old new) (λ _. SaysFront fixed clock clock' Runs old new)
 
 -- A line was run, and leaves this session, or a front of it, at an error.
-abbrev pub DoesLine : {T E : Type 0} → ℤ → Option ℤ → Session → List ℕ → Session → Devices → Devices → Result T E → Type 0
-DoesLine offset fixed s line s' old new result = MatchResult result
-    (λ _. (moments : List ℤ) × (run : Run) × RunsLine old.machine.world offset s line moments run s'
+abbrev pub DoesLine : {T E : Type 0} → Readings → ℤ → Option ℤ → Session → List ℕ → Session → Devices → Devices → Result T E → Type 0
+DoesLine reads offset fixed s line s' old new result = MatchResult result
+    (λ _. (moments : List ℤ) × (run : Run) × RunsLine reads old.machine.world offset s line moments run s'
     × Did old.machine.world fixed old new moments run)
-    (λ _. (moments : List ℤ) × (front : Run) × IsFrontOfLine old.machine.world offset s line moments front
+    (λ _. (moments : List ℤ) × (front : Run) × IsFrontOfLine reads old.machine.world offset s line moments front
     × Did old.machine.world fixed old new moments front)

@@ -11,6 +11,7 @@ mod lines;
 mod obeying;
 mod opening;
 mod paused;
+mod reader;
 mod session;
 mod split;
 
@@ -20,3 +21,4 @@ pub use halt::{Halt, put};
 pub use laws::one_run;
 pub use line::Line;
 pub use lines::answer_lines;
+pub use reader::{PlainReader, Reader};

@@ -9,14 +9,14 @@ use crate::answers::{say_no_command, say_question};
 use crate::halt::{Halt, flush};
 use crate::opening::{Asked, open_question, say_refusal};
 use crate::session::Session;
-use crate::{Asking, Line};
+use crate::{Asking, Line, Reader};
 use bf_machine::Machine;
 use desk_base::{Bytes, Clock, Sink};
 use std::alloc::Global;
 
 impl Session {
     /// Echoes a line and answers it.
-    pub(crate) fn run_line<W: Sink, M: Machine, C: Clock>(
+    pub(crate) fn run_line<R: Reader, W: Sink, M: Machine, C: Clock>(
         &mut self,
         alloc: Global,
         line: &[u8],
@@ -28,7 +28,7 @@ impl Session {
         requires asking { IsAsking asking }
         requires few { IsFew self.old }
         ensures ran { let world = (M.told machine.old).world in
-            DoesLine asking.offset asking.moment (session_of world self.old) line.now (session_of world self.new)
+            DoesLine R.reads asking.offset asking.moment (session_of world self.old) line.now (session_of world self.new)
             (devices (W.told sink.old) (M.told machine.old) (C.told clock.old))
             (devices (W.told sink.new) (M.told machine.new) (C.told clock.new)) result }
         ensures few { IsFew self.new }
@@ -37,12 +37,12 @@ impl Session {
             (devices (W.told sink.new) (M.told machine.new) (C.told clock.new)) }
     {
         let mut out = Bytes::new(alloc);
-        self.say_line(alloc, line, asking, sink, machine, clock, &mut out)?;
+        self.say_line::<R, W, M, C>(alloc, line, asking, sink, machine, clock, &mut out)?;
         flush(alloc, sink, &mut out)
     }
 
     /// Echoes a line and answers it. What is said of it waits in `out`, as below.
-    fn say_line<W: Sink, M: Machine, C: Clock>(
+    fn say_line<R: Reader, W: Sink, M: Machine, C: Clock>(
         &mut self,
         alloc: Global,
         line: &[u8],
@@ -57,7 +57,7 @@ impl Session {
         ensures said { let world = (M.told machine.old).world in
             let s = session_of world self.old in
             SaysDated asking.moment (C.told clock.old) (C.told clock.new)
-            (RunsLine world asking.offset s line.now) (session_of world self.new)
+            (RunsLine R.reads world asking.offset s line.now) (session_of world self.new)
             (state_of (W.told sink.old) out.old (M.told machine.old))
             (state_of (W.told sink.new) out.new (M.told machine.new)) result }
         ensures few { IsFew self.new }
@@ -66,11 +66,11 @@ impl Session {
             (devices (W.told sink.new) (M.told machine.new) (C.told clock.new)) }
     {
         say_question(line, out)?;
-        self.obey(alloc, line, asking, sink, machine, clock, out)
+        self.obey::<R, W, M, C>(alloc, line, asking, sink, machine, clock, out)
     }
 
     /// Does what a line asks for.
-    fn obey<W: Sink, M: Machine, C: Clock>(
+    fn obey<R: Reader, W: Sink, M: Machine, C: Clock>(
         &mut self,
         alloc: Global,
         line: &[u8],
@@ -85,7 +85,7 @@ impl Session {
         ensures said { let world = (M.told machine.old).world in
             let s = session_of world self.old in
             SaysDated asking.moment (C.told clock.old) (C.told clock.new)
-            (Obeys world asking.offset s line.now) (session_of world self.new)
+            (Obeys R.reads world asking.offset s line.now) (session_of world self.new)
             (state_of (W.told sink.old) out.old (M.told machine.old))
             (state_of (W.told sink.new) out.new (M.told machine.new)) result }
         ensures few { IsFew self.new }
@@ -94,7 +94,9 @@ impl Session {
             (devices (W.told sink.new) (M.told machine.new) (C.told clock.new)) }
     {
         match Line::of(line) {
-            Line::Question => self.ask(alloc, line, asking, sink, machine, clock, out),
+            Line::Question => self.ask::<R, W, M, C>(
+                alloc, line, asking, sink, machine, clock, out,
+            ),
             Line::Page(size) => {
                 self.page = size;
                 Ok(())
@@ -105,7 +107,7 @@ impl Session {
     }
 
     /// Answers a question at the next moment.
-    fn ask<W: Sink, M: Machine, C: Clock>(
+    fn ask<R: Reader, W: Sink, M: Machine, C: Clock>(
         &mut self,
         alloc: Global,
         text: &[u8],
@@ -120,7 +122,7 @@ impl Session {
         ensures said { let world = (M.told machine.old).world in
             let s = session_of world self.old in
             SaysDated asking.moment (C.told clock.old) (C.told clock.new)
-            (Answers world asking.offset s text.now Line.Question) (session_of world self.new)
+            (Answers R.reads world asking.offset s text.now Line.Question) (session_of world self.new)
             (state_of (W.told sink.old) out.old (M.told machine.old))
             (state_of (W.told sink.new) out.new (M.told machine.new)) result }
         ensures few { IsFew self.new }
@@ -129,11 +131,11 @@ impl Session {
             (devices (W.told sink.new) (M.told machine.new) (C.told clock.new)) }
     {
         let moment = asking.next_moment(clock)?;
-        self.answer(alloc, text, Asked { moment, asking }, sink, machine, out)
+        self.answer::<R, W, M>(alloc, text, Asked { moment, asking }, sink, machine, out)
     }
 
     /// Answers a question.
-    fn answer<W: Sink, M: Machine>(
+    fn answer<R: Reader, W: Sink, M: Machine>(
         &mut self,
         alloc: Global,
         text: &[u8],
@@ -146,7 +148,7 @@ impl Session {
         requires moment { IsMoment asked.moment }
         requires few { IsFew self.old }
         ensures said { let world = (M.told machine.old).world in
-            SaysOrStopsEarly (AnswersText world asked.moment asked.asking.offset (session_of world self.old) text.now)
+            SaysOrStopsEarly (AnswersText R.reads world asked.moment asked.asking.offset (session_of world self.old) text.now)
             (session_of world self.new)
             (state_of (W.told sink.old) out.old (M.told machine.old))
             (state_of (W.told sink.new) out.new (M.told machine.new)) result }
@@ -155,7 +157,7 @@ impl Session {
             (state_of (W.told sink.old) out.old (M.told machine.old))
             (state_of (W.told sink.new) out.new (M.told machine.new)) }
     {
-        let opened = match open_question(alloc, text, asked) {
+        let opened = match open_question::<R>(alloc, text, asked) {
             Ok(opened) => opened,
             Err(refusal) => return Ok(say_refusal(alloc, refusal, out)?),
         };

@@ -3,11 +3,11 @@ ghost use Rattle.desk_base.specs.Moments.{IsMoment};
 ghost use Rattle.line_forms.specs.Numbers.{IsOffset};
 ghost use Rattle.rel_session.specs.Waiting.{IsOpened, IsRead, IsStarted, SaysRefusal};
 
-use crate::Asking;
 use crate::answers::{say_error, say_undefined};
 use crate::paused::Paused;
+use crate::{Asking, Reader};
 use desk_base::Bytes;
-use rel_eval::{Question, Refusal, prepare};
+use rel_eval::{Question, Refusal};
 use rel_inspect::{Pairs, Scene};
 use std::alloc::{AllocError, Global};
 use std::mem::drop;
@@ -20,12 +20,16 @@ pub(crate) struct Asked {
 }
 
 /// The question that a text is, at its start, at a moment.
-pub(crate) fn open_question(alloc: Global, text: &[u8], asked: Asked) -> Result<Paused, Refusal>
+pub(crate) fn open_question<R: Reader>(
+    alloc: Global,
+    text: &[u8],
+    asked: Asked,
+) -> Result<Paused, Refusal>
     requires moment { IsMoment asked.moment }
     requires offset { IsOffset asked.asking.offset }
-    ensures { MatchResult result (IsOpened asked.moment asked.asking.offset text.now) (λ refusal. IsRead text.now (Err refusal)) }
+    ensures { MatchResult result (IsOpened R.reads asked.moment asked.asking.offset text.now) (λ refusal. IsRead R.reads text.now (Err refusal)) }
 {
-    let question = match read_question(alloc, text) {
+    let question = match read_question::<R>(alloc, text) {
         Ok(question) => question,
         Err(refusal) => return Err(refusal),
     };
@@ -37,10 +41,10 @@ pub(crate) fn open_question(alloc: Global, text: &[u8], asked: Asked) -> Result<
     }
 }
 
-fn read_question(alloc: Global, text: &[u8]) -> Result<Question, Refusal>
-    ensures { IsRead text.now result }
+fn read_question<R: Reader>(alloc: Global, text: &[u8]) -> Result<Question, Refusal>
+    ensures { IsRead R.reads text.now result }
 {
-    prepare(alloc, text)
+    R::read(alloc, text)
 }
 
 fn start(alloc: Global, question: &Question, asked: Asked) -> Result<Paused, AllocError>

@@ -8,7 +8,7 @@ use Rattle.rel_session.proofs.lines.answer_lines.Goals as goal
 
 pub loop-rest-init : goal.loop-rest-init
 loop-rest-init g c = record {
-  so_far = rw (c.new-session.ensures.fresh _) (RanSoFar-start _ _ _ _ _);
+  so_far = rw (c.new-session.ensures.fresh _) (RanSoFar-start _ _ _ _ _ _);
   few = c.new-session.ensures.few;
   looks = OnlyLooks-refl _;
   steady = refl;
@@ -22,7 +22,7 @@ loop-rest-preserved g c =
     record {
       so_far =
           let ran = rw before.looks.world at now.ran in
-          RanSoFar-step _ _ _ _ _ _ _ _ _ c.first_line.result.0.now _ _ ran.0 ran.1 before.so_far c.first_line.ensures.lines ran.2 ran.3;
+          RanSoFar-step _ _ _ _ _ _ _ _ _ _ c.first_line.result.0.now _ _ ran.0 ran.1 before.so_far c.first_line.ensures.lines ran.2 ran.3;
       few = now.few;
       looks = OnlyLooks-trans before.looks now.only.looks;
       steady = now.only.sink.steady (λ e. cc) ∙ before.steady;
@@ -34,7 +34,7 @@ returns-in_err-run_line-clause-ran g c =
     let before = c.loop-rest.invariant in
     let ran = rw before.looks.world at c.in_err-run_line.ensures.ran in
     let p = err_from_is_err_and c.from_residual.result c.from_residual.ensures.1 in
-    rw p.1 (RanSoFar-stop _ _ _ _ _ _ _ _ c.first_line.result.0.now _ _ ran.0 ran.1 before.so_far c.first_line.ensures.lines ran.2 ran.3)
+    rw p.1 (RanSoFar-stop _ _ _ _ _ _ _ _ _ c.first_line.result.0.now _ _ ran.0 ran.1 before.so_far c.first_line.ensures.lines ran.2 ran.3)
 
 none_left : (rest : List ℕ) (empty : Bool) → empty ≡ eqb (length rest) 0 → empty ≡ true → rest ≡ []
 none_left [] empty is left = refl
@@ -44,4 +44,4 @@ none_left (byte ∷ bytes) empty is left =
 
 pub returns-clause-ran : goal.returns-clause-ran
 returns-clause-ran g c =
-    RanSoFar-end _ _ _ _ _ _ _ _ c.loop-rest.invariant.so_far (ap lines_of (none_left _ _ c.is_empty.ensures c.loop-rest-test.false))
+    RanSoFar-end _ _ _ _ _ _ _ _ _ c.loop-rest.invariant.so_far (ap lines_of (none_left _ _ c.is_empty.ensures c.loop-rest-test.false))

@@ -13,7 +13,7 @@ invariant-loop-rest g l =
     let old = devices (g.W.Sink.told l.fn.sink) (g.M.Machine.told l.fn.machine) (g.C.Clock.told l.fn.clock) in
     let now = devices (g.W.Sink.told l.sink) (g.M.Machine.told l.machine) (g.C.Clock.told l.clock) in
     record {
-      so_far : RanSoFar l.asking.offset l.asking.moment fresh (lines_of l.fn.input) old (session_of old.machine.world l.session) (lines_of l.rest) now;
+      so_far : RanSoFar g.R.Reader.reads l.asking.offset l.asking.moment fresh (lines_of l.fn.input) old (session_of old.machine.world l.session) (lines_of l.rest) now;
       few : IsFew l.session;
       looks : OnlyLooks old.machine now.machine;
       steady : now.sink.faults ≡ old.sink.faults;

@@ -3,4 +3,4 @@ use Rattle.rel_session.proofs.opening.read_question.Goals as goal
 
 pub returns : goal.returns
 unfolding IsRead
-returns c = c.prepare.ensures
+returns g c = c.read.ensures

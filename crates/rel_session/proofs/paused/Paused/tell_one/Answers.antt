@@ -12,7 +12,7 @@ use Rattle.rel_trace.specs.Trace.{Stop, Error, Look, Trace, Ends, After}
 use Rattle.rel_session.specs.Printed.{said_error}
 use Rattle.rel_session.specs.Tellings.{Tells, ended, faulted}
 use Rattle.rel_session.specs.Waiting.{left_of}
-use Rattle.rel_session.proofs.Failing.{CountsFailed-none, CountsFailed-one}
+use Rattle.bf_machine.proofs.Telling.{CountsFailed-none, CountsFailed-one}
 use Rattle.rel_session.proofs.Lasting.{drawn, drawn_somehow, drawn_value, stays_drawn, stays_faulted, step_at_value, step_at_end}
 use Rattle.rel_session.proofs.Tellings.{told_error, told_fault, told_stop}
 use Rattle.rel_session.proofs.paused.Paused.tell_one.Goals as goal

@@ -7,7 +7,7 @@ use Rattle.rel_session.proofs.session.Session.answer.Goals as goal
 
 pub returns-in-Err-clause-said : goal.returns-in-Err-clause-said
 returns-in-Err-clause-said g c =
-    answers_refusal _ _ _ _ _ c.in-Err.refusal _ _ _ _ c.in-Err.ensures c.in_ok-say_refusal-in-Err.ensures
+    answers_refusal g.R.Reader.reads _ _ _ _ _ c.in-Err.refusal _ _ _ _ c.in-Err.ensures c.in_ok-say_refusal-in-Err.ensures
 
 pub returns-in_err-say_refusal-in-Err-clause-said : goal.returns-in_err-say_refusal-in-Err-clause-said
 returns-in_err-say_refusal-in-Err-clause-said g c =
@@ -17,5 +17,5 @@ returns-in_err-say_refusal-in-Err-clause-said g c =
 pub returns-clause-said : goal.returns-clause-said
 returns-clause-said g c =
     let world = (g.M.Machine.told c.args.machine.now).world in
-    said_early c.tell.result (TellsOf c.args.asked.asking.offset (session_of world c.args.self.now) (IsGiven world (left_of c.in-Ok.opened.cursor)) c.in-Ok.opened.span) (AnswersText world c.args.asked.moment c.args.asked.asking.offset (session_of world c.args.self.now) c.args.text.now) _ _ _
-    (λ run s tells. answers_question world _ _ _ _ c.in-Ok.opened run s c.in-Ok.ensures tells) c.tell.ensures.said
+    said_early c.tell.result (TellsOf c.args.asked.asking.offset (session_of world c.args.self.now) (IsGiven world (left_of c.in-Ok.opened.cursor)) c.in-Ok.opened.span) (AnswersText g.R.Reader.reads world c.args.asked.moment c.args.asked.asking.offset (session_of world c.args.self.now) c.args.text.now) _ _ _
+    (λ run s tells. answers_question g.R.Reader.reads world _ _ _ _ c.in-Ok.opened run s c.in-Ok.ensures tells) c.tell.ensures.said

@@ -9,7 +9,7 @@ use Rattle.rel_session.proofs.Running.{Dates-nil}
 use Rattle.rel_session.proofs.session.Session.obey.Goals as goal
 
 pub returns-in-Question-clause-said : goal.returns-in-Question-clause-said
-returns-in-Question-clause-said g c = obeyed c.ask.result _ _ _ _ Question _ _ _ _ _ _ c.in-Question.ensures c.ask.ensures.said
+returns-in-Question-clause-said g c = obeyed c.ask.result g.R.Reader.reads _ _ _ _ Question _ _ _ _ _ _ c.in-Question.ensures c.ask.ensures.said
 
 pub returns-in-Page-clause-said : goal.returns-in-Page-clause-said
 returns-in-Page-clause-said g c = says_bytes _ _ _ _ _ _ _ _ [] (sym (append-nil c.args.out.now)) (Page c.in-Page.size, c.in-Page.ensures, (refl, refl, refl))

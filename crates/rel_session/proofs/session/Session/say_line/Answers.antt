@@ -8,4 +8,4 @@ returns-in_err-say_question-clause-said g c =
     rw p.1 (says_nothing _ _ _ _ _ _ _)
 
 pub returns-clause-said : goal.returns-clause-said
-returns-clause-said g c = line_said c.obey.result _ _ _ _ _ _ _ _ _ _ _ _ _ c.in_ok-say_question.ensures c.obey.ensures.said
+returns-clause-said g c = line_said c.obey.result g.R.Reader.reads _ _ _ _ _ _ _ _ _ _ _ _ _ c.in_ok-say_question.ensures c.obey.ensures.said
