@@ -12,3 +12,4 @@ pub mod Staying
 pub mod ActionLists
 pub mod Measures
 pub mod AnsweredSites
+pub mod Holding

@@ -1,3 +1,4 @@
+pub mod DeskLimits
 pub mod AcceptedTables
 pub mod Replies
 pub mod CallAnswers

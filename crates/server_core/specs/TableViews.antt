@@ -65,6 +65,11 @@ ShowsReport accepted computer seq row =
     × ((other : Report) → IsReportOf accepted computer other → other.seq ≡ seq → other ≡ report)
     × (row ≡ change.Report computer seq (sha256 (report_text report))))
 
+-- The report of this computer and number that was accepted has this digest.
+abbrev pub IsHeld : List Entry → List ℕ → ℕ → List ℕ → Type 0
+IsHeld accepted computer seq digest =
+    (report : Report) × IsReportOf accepted computer report × (report.seq ≡ seq) × (sha256 (report_text report) ≡ digest)
+
 -- a report of this computer was accepted that has this row of this action
 abbrev pub IsRowOf : List Entry → List ℕ → ℕ → Report → ReportRow → Type 0
 IsRowOf accepted computer action report row =

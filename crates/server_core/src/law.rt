@@ -1,5 +1,6 @@
 // What holds of every list of accepted requests. The body of a law calls the laws that its proof stands on.
-ghost use Rattle.std.specs.Prelude.{◌≡◌, ◌≢◌, ◌<◌, ◌↔◌, ℕ, List, Ok, Some, Contains, codes, count_by};
+ghost use Rattle.std.specs.Prelude.{◌≡◌, ◌≢◌, ◌<◌, ◌↔◌, ◌⊎◌, ℕ, List, Ok, Some, Contains, codes, count_by};
+ghost use Rattle.sha2.specs.Sha256.{sha256};
 ghost use Rattle.fix_site.specs.declared.action.Action.{Action};
 ghost use Rattle.fix_site.specs.declared.block.Block.TheVariants.{Action as action_block};
 ghost use Rattle.fix_site.specs.declared.site.Site.{Site};
@@ -9,11 +10,15 @@ ghost use Rattle.desk_keep.specs.declared.change.Change.TheVariants as change;
 ghost use Rattle.desk_keep.specs.Tables.{AreRows};
 ghost use Rattle.server_core.specs.declared.limits.Limits.{Limits};
 ghost use Rattle.server_text.specs.declared.reply.Reply.TheVariants as told;
-ghost use Rattle.server_text.specs.Entries.{Enters, Entry, SiteText};
-ghost use Rattle.server_core.specs.CallAnswers.{AreAccepted, after};
+ghost use Rattle.report_text.specs.declared.report.Report.{Report};
+ghost use Rattle.report_text.specs.Reports.{report_text};
+ghost use Rattle.server_text.specs.declared.request.Request.{Request};
+ghost use Rattle.server_text.specs.declared.reply.Reply.{Reply};
+ghost use Rattle.server_text.specs.Entries.{Enters, Entry, Reported, SiteText};
+ghost use Rattle.server_core.specs.CallAnswers.{Answers, AnswersAll, AreAccepted, after};
 ghost use Rattle.server_core.specs.Replies.{reply};
 ghost use Rattle.server_core.specs.AcceptedTables.{action_at, actions_version, computer_at, file_at, report_at, result_at, site_at, view};
-ghost use Rattle.server_core.specs.TableViews.{ShowsAction, ShowsComputer, ShowsFile, ShowsReport, ShowsResult, ShowsSite, changes_actions};
+ghost use Rattle.server_core.specs.TableViews.{IsHeld, ShowsAction, ShowsComputer, ShowsFile, ShowsReport, ShowsResult, ShowsSite, changes_actions};
 
 use desk_keep::{a_row_is_found_where_it_was_put, one_key, rows_stay_rows};
 use fix_site::{one_action, one_site};
@@ -30,6 +35,28 @@ pub fn the_tables_are_rows()
 pub fn what_is_accepted_stays()
     ensures { (accepted : List Entry) (limits : Limits) (entry : Entry) → AreAccepted accepted → Contains accepted entry
         → after accepted limits (Enters entry) ≡ accepted }
+{
+    a_row_is_found_where_it_was_put();
+    one_key();
+}
+
+/// After every reply, and after replies to requests in their order, what is accepted is what was asked for and accepted.
+pub fn answers_leave_what_is_accepted()
+    ensures one { (limits : Limits) (accepted later : List Entry) (request : Request) (answered : Reply) → AreAccepted accepted
+        → Answers limits accepted request answered later → AreAccepted later }
+    ensures all { (limits : Limits) (accepted last : List Entry) (requests : List Request) (replies : List Reply) → AreAccepted accepted
+        → AnswersAll limits accepted requests replies last → AreAccepted last }
+{}
+
+/// What a reply says of a report. At Ok and Again it is held then, by its digest. At Conflict another one of its computer and number is held,
+/// with the digest that is told.
+pub fn a_reply_says_what_is_held()
+    ensures held { (accepted : List Entry) (limits : Limits) (report : Report) → AreAccepted accepted
+        → (reply accepted limits (Enters (Reported report)) ≡ told.Ok) ⊎ (reply accepted limits (Enters (Reported report)) ≡ told.Again)
+        → IsHeld (after accepted limits (Enters (Reported report))) report.computer report.seq (sha256 (report_text report)) }
+    ensures another { (accepted : List Entry) (limits : Limits) (report : Report) (digest : List ℕ) → AreAccepted accepted
+        → reply accepted limits (Enters (Reported report)) ≡ told.Conflict digest
+        → IsHeld accepted report.computer report.seq digest × (digest ≢ sha256 (report_text report)) }
 {
     a_row_is_found_where_it_was_put();
     one_key();

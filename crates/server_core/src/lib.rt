@@ -16,8 +16,9 @@ mod stop;
 
 pub use desk_keep::ResultRow;
 pub use law::{
-    a_computer_is_kept_that_reported, a_file_is_kept_by_its_digest, a_report_is_kept_by_its_number,
-    actionsite_counts_actions_and_stops, an_action_is_kept_as_it_came, an_answered_site_is_read,
+    a_computer_is_kept_that_reported, a_file_is_kept_by_its_digest, a_reply_says_what_is_held,
+    a_report_is_kept_by_its_number, actionsite_counts_actions_and_stops,
+    an_action_is_kept_as_it_came, an_answered_site_is_read, answers_leave_what_is_accepted,
     the_greatest_number_is_kept, the_last_site_is_kept, the_tables_are_rows,
     what_is_accepted_stays,
 };

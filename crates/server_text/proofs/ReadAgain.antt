@@ -1,13 +1,14 @@
 -- The text of a report asks that the report is accepted.
-use Rattle.std.proofs.Common.{◌≡◌, ℕ, ◌⊎◌, inl, inr, List, sym, ap, ◌∙◌, subst}
+use Rattle.std.proofs.Common.{◌≡◌, ◌≤◌, ℕ, ◌⊎◌, inl, inr, List, length, refl, sym, ap, ◌∙◌, subst}
 use Rattle.std.specs.Prelude.{Ok, Err}
 use Rattle.std.specs.declared.result.Result.{Result}
 use Rattle.report_text.specs.declared.report.Report.{Report}
 use Rattle.report_text.specs.declared.error.ReportError.{ReportError}
 use Rattle.report_text.specs.declared.error.ReportError.TheVariants.{Memory}
 use Rattle.report_text.specs.Reports.{IsReport, ReadsReport, report_text}
+use Rattle.server_text.specs.declared.request.Request.TheVariants as asking
 use Rattle.server_text.specs.Entries.{Asked, Enters, Entry, Reported}
-use Rattle.server_text.specs.RequestTexts.{ReadsReported, TellsReportError, asked_of}
+use Rattle.server_text.specs.RequestTexts.{Asks, ReadsReported, TellsReportError, asked_of}
 
 abbrev pub Again : Type 0
 Again = (report : Report) (answer : Result Report ReportError) → IsReport report → ReadsReport (report_text report) answer → (answer ≡ Ok report) ⊎ (answer ≡ Err Memory)
@@ -40,3 +41,7 @@ read_again again one report asked is (Err line) reads same = absurd (never_bad a
 
 pub written_read : Again → OneReport → (report : Report) (asked : Asked) → IsReport report → (read : Result Report ℕ) × ReadsReported (report_text report) read × (asked ≡ asked_of Reported read) → asked ≡ Enters (Reported report)
 written_read again one report asked is asks = read_again again one report asked is asks.0 asks.1 asks.2
+
+pub written_asks : ((report : Report) → IsReport report → length (report_text report) ≤ 65536) → (report : Report) → IsReport report
+    → Asks (asking.Report (report_text report)) (Enters (Reported report))
+written_asks short report is = let read : Result Report ℕ = Ok report in (read, (short report is, is, refl), refl)

@@ -31,9 +31,11 @@ pub fn one_meaning()
     a_report_is_read_again();
 }
 
-/// The text of a report that can be spelled is never refused as a text.
+/// The text of a report that can be spelled asks that the report is accepted, and nothing else: it is never refused as a text.
 pub fn a_written_report_is_read()
-    ensures { (report : TheReport) (asked : Asked) → IsReport report
+    ensures asked { (report : TheReport) → IsReport report
+        → Asks (asking.Report (report_text report)) (Enters (Reported report)) }
+    ensures only { (report : TheReport) (asked : Asked) → IsReport report
         → Asks (asking.Report (report_text report)) asked → asked ≡ Enters (Reported report) }
 {
     a_report_is_read_again();

@@ -1,6 +1,9 @@
+ghost use Rattle.std.specs.Prelude.{◌≡◌, IfOk};
+
 use crate::result_rows::ResultRows;
 use crate::site_versions::SiteVersions;
 use desk_base::Bytes;
+use std::alloc::AllocError;
 
 /// What a server answers.
 #[derive(Drop)]
@@ -35,4 +38,29 @@ pub enum Reply {
     KeeperFault,
     /// Memory ran out.
     Memory,
+}
+
+impl Reply {
+    /// The same reply once more. The error is want of memory.
+    pub fn copy(&self) -> Result<Reply, AllocError>
+        ensures { IfOk result (λ reply. reply ≡ self.now) }
+    {
+        Ok(match self {
+            Reply::Ok => Reply::Ok,
+            Reply::Again => Reply::Again,
+            Reply::Digest(digest) => Reply::Digest(*digest),
+            Reply::Sites(sites) => Reply::Sites(sites.copy()?),
+            Reply::Site(text) => Reply::Site(text.copy()?),
+            Reply::Same => Reply::Same,
+            Reply::Content(bytes) => Reply::Content(bytes.copy()?),
+            Reply::Rows(results) => Reply::Rows(results.copy()?),
+            Reply::BadText(line) => Reply::BadText(*line),
+            Reply::Conflict(digest) => Reply::Conflict(*digest),
+            Reply::NoSuch => Reply::NoSuch,
+            Reply::Older(version) => Reply::Older(*version),
+            Reply::Full(limit) => Reply::Full(*limit),
+            Reply::KeeperFault => Reply::KeeperFault,
+            Reply::Memory => Reply::Memory,
+        })
+    }
 }

@@ -1,5 +1,8 @@
+ghost use Rattle.std.specs.Prelude.{◌≡◌, IfOk};
+
 use desk_base::Bytes;
 use rel_lexer::Text;
+use std::alloc::AllocError;
 
 /// What a server is asked.
 #[derive(Drop)]
@@ -22,4 +25,23 @@ pub enum Request {
     Report(Bytes),
     /// For the results of the computer of this name.
     Results(Text),
+}
+
+impl Request {
+    /// The same request once more. The error is want of memory.
+    pub fn copy(&self) -> Result<Request, AllocError>
+        ensures { IfOk result (λ request. request ≡ self.now) }
+    {
+        Ok(match self {
+            Request::Publish(text) => Request::Publish(text.copy()?),
+            Request::Act(text) => Request::Act(text.copy()?),
+            Request::Stop(id) => Request::Stop(*id),
+            Request::File(bytes) => Request::File(bytes.copy()?),
+            Request::AskSites => Request::AskSites,
+            Request::AskSite(name, version) => Request::AskSite(name.copy()?, *version),
+            Request::AskFile(digest) => Request::AskFile(*digest),
+            Request::Report(text) => Request::Report(text.copy()?),
+            Request::Results(name) => Request::Results(name.copy()?),
+        })
+    }
 }

@@ -45,6 +45,17 @@ impl ResultRows {
         self.list.push(row)?;
         Ok(())
     }
+
+    /// The same results once more. The error is want of memory.
+    pub fn copy(&self) -> Result<ResultRows, AllocError>
+        ensures { IfOk result (λ results. results ≡ self.now) }
+    {
+        let mut copies = Vec::new(*self.list.allocator());
+        for row in self.list.as_slice() {
+            copies.push(row.copy()?)?;
+        }
+        Ok(ResultRows { list: copies })
+    }
 }
 
 /// The results of which these are rows, in their order. The error is want of memory.

@@ -14,6 +14,18 @@ pub struct SiteVersion {
     pub version: u64,
 }
 
+impl SiteVersion {
+    /// The same once more. The error is want of memory.
+    pub fn copy(&self) -> Result<SiteVersion, AllocError>
+        ensures { IfOk result (λ site. site ≡ self.now) }
+    {
+        Ok(SiteVersion {
+            name: self.name.copy()?,
+            version: self.version,
+        })
+    }
+}
+
 /// Sites and their versions in their order. Contracts see the list of them.
 #[derive(Drop)]
 pub struct SiteVersions {
@@ -53,6 +65,17 @@ impl SiteVersions {
     {
         self.list.push(site)?;
         Ok(())
+    }
+
+    /// The same sites once more. The error is want of memory.
+    pub fn copy(&self) -> Result<SiteVersions, AllocError>
+        ensures { IfOk result (λ sites. sites ≡ self.now) }
+    {
+        let mut copies = Vec::new(*self.list.allocator());
+        for site in self.list.as_slice() {
+            copies.push(site.copy()?)?;
+        }
+        Ok(SiteVersions { list: copies })
     }
 }
 
