@@ -8,12 +8,13 @@ use Rattle.rel_eval.specs.declared.told.Truth.{Truth}
 use Rattle.rel_eval.specs.declared.told.Truth.TheVariants as truth
 use Rattle.rel_types.specs.Plans.{PlainNode, is_plural}
 use Rattle.rel_eval.specs.Questions.{IsPlanOf, question, refused, undefined}
-use Rattle.rel_eval.specs.Singles.{TruthHasCause}
+use Rattle.rel_eval.specs.Singles.{truth_has_failed}
 use Rattle.rel_trace.specs.declared.kind.RelKind.TheVariants.{NotDefined}
 use Rattle.fix_site.specs.declared.block.Block.{Block}
 use Rattle.fix_site.specs.declared.fixlet.Fixlet.{Fixlet}
 use Rattle.script_text.specs.declared.error.ScriptError.{ScriptError}
 use Rattle.script_text.specs.Scripts.{PlainScript, IsVerdict}
+use Rattle.desk_base.specs.Counts.{CountsIf}
 use Rattle.bf_machine.specs.Views.{MachineView, OnlyLooks}
 use Rattle.bf_machine.proofs.Looking.{OnlyLooks-refl}
 use Rattle.script_run.specs.Asking.{When, JudgesOn, JudgesQuestion, scene_of}
@@ -40,7 +41,7 @@ asks_none at text v (inr (place, words, h)) = (
 
 -- a question that was read is asked
 pub asks_question : (at : When) (text : List ℕ) (plan : PlainNode) (scene : Scene) (old new : MachineView) (answer : Truth) (found : Found) → IsPlanOf text plan → scene ≡ scene_of at (given_known []) →
-    JudgesQuestion (is_plural plan) old.world scene plan old.looked answer new.looked → OnlyLooks old new → TruthHasCause old.faults new.faults answer → found ≡ found_of answer → Asks at text old found new
+    JudgesQuestion (is_plural plan) old.world scene plan old.looked answer new.looked → OnlyLooks old new → CountsIf (truth_has_failed answer) old.faults new.faults → found ≡ found_of answer → Asks at text old found new
 asks_question at text plan scene old new answer found reads same judges only cause e =
     let h : JudgesOn scene text old answer new =
     record { judges = inl (question plan, reads, judges); only = only; cause = cause } in

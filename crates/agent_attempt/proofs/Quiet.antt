@@ -1,6 +1,6 @@
 -- What is asked only looks, and the machine's count rises where a look fails, and else it stays. Other crates may cite these lemmas.
 use Rattle.std.proofs.Common.{ℕ, ◌≡◌, ◌≢◌, ◌≤◌, List, [], ◌∷◌, inl, inr, Option, Some, None, refl, sym, ap, subst, arith}
-use Rattle.desk_base.specs.Counts.{CountsFaults}
+use Rattle.desk_base.specs.Counts.{CountsFaults, CountsIf}
 use Rattle.act_rules.specs.declared.row.Row.{Row}
 use Rattle.fix_site.specs.declared.action.Action.{Action}
 use Rattle.fix_site.specs.declared.action.Target.{Target}
@@ -10,7 +10,7 @@ use Rattle.fix_site.specs.declared.fixlet.Success.{Success}
 use Rattle.fix_site.specs.declared.fixlet.Success.TheVariants as success
 use Rattle.rel_eval.specs.declared.told.Truth.{Truth}
 use Rattle.rel_eval.specs.declared.told.Truth.TheVariants as truth
-use Rattle.rel_eval.specs.Singles.{TruthHasCause}
+use Rattle.rel_eval.specs.Singles.{truth_has_failed}
 use Rattle.script_run.specs.Asking.{When}
 use Rattle.bf_machine.proofs.Looking.{OnlyLooks-refl, OnlyLooks-trans}
 use Rattle.bf_machine.specs.Views.{MachineView, OnlyLooks}
@@ -26,7 +26,7 @@ still_quiet f v isnt = record { only = OnlyLooks-refl v; counts = record { rose 
 finds_quiet : (f : Found) (old : MachineView) (answer : Found) (new : MachineView) → f ≢ Failed → finds f old answer new → HasAsked old answer new
 finds_quiet f old answer new isnt h = subst (λ x. HasAsked old x new) (sym h.0) (subst (λ v. HasAsked old f v) (sym h.1) (still_quiet f old isnt))
 
-truth_counts : (t : Truth) (old new : ℕ) → old ≤ new → TruthHasCause old new t → CountsFaults (found_of t ≡ Failed) old new
+truth_counts : (t : Truth) (old new : ℕ) → old ≤ new → CountsIf (truth_has_failed t) old new → CountsFaults (found_of t ≡ Failed) old new
 truth_counts truth.True old new le cause = record { rose = λ e. absurd (cc); steady = λ n. cause; later = le }
 truth_counts truth.False old new le cause = record { rose = λ e. absurd (cc); steady = λ n. cause; later = le }
 truth_counts (truth.Error kind place) old new le cause = record { rose = λ e. absurd (cc); steady = λ n. cause; later = le }

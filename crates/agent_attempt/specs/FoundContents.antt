@@ -25,7 +25,8 @@ IsFixletOf block answer = MatchOption answer (as_fixlet block ≡ None) (λ foun
 -- what a content of the code shows
 abbrev pub shown_content : ReadContent → Content
 shown_content (read.Fixlet fixlet) = single fixlet.now
-shown_content (read.Baseline site baseline) = group baseline.now.relevance (fixlets_at baseline.now.components site.now.blocks)
+shown_content (read.Baseline of_site) =
+    group of_site.baseline.now.relevance (fixlets_at of_site.baseline.now.components of_site.site.now.blocks)
 
 abbrev pub shown_if : Option ReadContent → Option Content
 shown_if None = None

@@ -110,8 +110,8 @@ impl Attempt {
                 let left = alone(alloc, fixlet)?;
                 Ok(Attempt::of(own, row, offset, left, Stage::Starting))
             }
-            Content::Baseline(site, baseline) => {
-                let left = group(alloc, site, baseline)?;
+            Content::Baseline(of_site) => {
+                let left = group(alloc, of_site.site, of_site.baseline)?;
                 Ok(Attempt::of(own, row, offset, left, Stage::Coming))
             }
         }

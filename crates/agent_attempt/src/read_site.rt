@@ -34,12 +34,18 @@ impl Model for ReadSite {
     ghost invariant = { λ s. IsSite (record { name = s.name; version = s.version; blocks = map shown_block s.blocks.items }) };
 }
 
+/// A baseline, and the site that it is of. Only a site makes one, of a baseline of its own.
+#[derive(Clone, Copy)]
+pub struct SiteBaseline<'a> {
+    pub(crate) site: &'a ReadSite,
+    pub(crate) baseline: &'a ReadBaseline,
+}
+
 /// What an action runs.
 #[derive(Clone, Copy)]
 pub enum Content<'a> {
     Fixlet(&'a ReadFixlet),
-    /// A baseline of this site.
-    Baseline(&'a ReadSite, &'a ReadBaseline),
+    Baseline(SiteBaseline<'a>),
 }
 
 impl ReadSite {
@@ -113,7 +119,10 @@ impl ReadSite {
     {
         match block {
             ReadBlock::Fixlet(fixlet) => Some(Content::Fixlet(fixlet)),
-            ReadBlock::Baseline(baseline) => Some(Content::Baseline(self, baseline)),
+            ReadBlock::Baseline(baseline) => Some(Content::Baseline(SiteBaseline {
+                site: self,
+                baseline,
+            })),
             ReadBlock::Action(_) => None,
         }
     }

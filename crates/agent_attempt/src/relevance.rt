@@ -44,8 +44,8 @@ fn content_relevant<M: Machine>(
 {
     match content {
         Content::Fixlet(fixlet) => fixlet.is_relevant(alloc, machine, time),
-        Content::Baseline(site, baseline) => {
-            baseline_relevant(alloc, site, baseline, machine, time)
+        Content::Baseline(of_site) => {
+            baseline_relevant(alloc, of_site.site, of_site.baseline, machine, time)
         }
     }
 }

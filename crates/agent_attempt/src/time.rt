@@ -61,9 +61,7 @@ impl Time {
 
     /// What is known to what is asked then.
     pub(crate) fn scene(&self) -> &Scene
-        ensures value { result.now ≡ scene_of self.now (given_known []) }
-        ensures moment { IsMoment result.now.moment }
-        ensures offset { IsOffset result.now.offset }
+        ensures { result.now ≡ scene_of self.now (given_known []) }
     {
         &self.scene
     }

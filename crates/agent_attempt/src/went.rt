@@ -27,6 +27,16 @@ impl Fail {
     }
 }
 
+/// What failed once more, if anything did. The error is want of memory.
+pub fn copy_fail(fail: &Option<Fail>) -> Result<Option<Fail>, AllocError>
+    ensures { IfOk result (λ copy. copy ≡ fail.now) }
+{
+    match fail {
+        Some(fail) => Ok(Some(fail.copy()?)),
+        None => Ok(None),
+    }
+}
+
 /// What an attempt comes to that goes on.
 #[derive(Drop)]
 pub enum Went {
@@ -38,4 +48,24 @@ pub enum Went {
     Ended { fail: Option<Fail>, note: Note },
     /// Want of memory. The attempt stands before the line or the judgement that it couldn't finish.
     Memory,
+}
+
+impl Went {
+    /// The same answer once more. The error is want of memory.
+    pub fn copy(&self) -> Result<Went, AllocError>
+        ensures { IfOk result (λ went. went ≡ self.now) }
+    {
+        Ok(match self {
+            Went::Held { component, line } => Went::Held {
+                component: *component,
+                line: *line,
+            },
+            Went::Wants { digest } => Went::Wants { digest: *digest },
+            Went::Ended { fail, note } => Went::Ended {
+                fail: copy_fail(fail)?,
+                note: *note,
+            },
+            Went::Memory => Went::Memory,
+        })
+    }
 }

@@ -10,7 +10,7 @@ use Rattle.act_rules.specs.declared.row.Outcome.TheVariants.{Interrupted}
 use Rattle.act_rules.specs.declared.row.Row.{Row}
 use Rattle.act_rules.specs.Rows.{HasEnded, HasMoments, last_row}
 use Rattle.fix_site.specs.declared.action.Action.{Action}
-use Rattle.report_text.specs.ReportRows.{no_note}
+use Rattle.act_rules.specs.Notes.{no_note}
 use Rattle.script_run.specs.Asking.{When}
 use Rattle.agent_text.specs.Histories.{AreHistories, PlainHistory, rows_at, with_begun, with_cleared, with_ended}
 use Rattle.agent_text.specs.SavedRows.{IsSavedNote, IsSavedRow}

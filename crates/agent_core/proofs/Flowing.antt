@@ -1,4 +1,4 @@
--- Parts of a turn put together: saves, and the first step that applies.
+-- KeptState of a turn put together: saves, and the first step that applies.
 use Rattle.std.proofs.Common.{◌≡◌, ◌≤◌, ◌+◌, ℕ, List, Bool, true, false, inr, Option, Some, None, refl, sym, ap, subst, ◌∙◌, arith}
 use Rattle.std.specs.Prelude.{◌≢◌}
 use Rattle.act_rules.specs.declared.row.Note.{Note}

@@ -13,7 +13,7 @@ use Rattle.report_text.specs.declared.report.Report.{Report}
 use Rattle.agent_text.specs.Histories.{AreHistories, PlainHistory, rows_at, with_ended, with_history}
 use Rattle.agent_text.specs.SavedTexts.{history_bytes, most_bytes, report_bytes}
 use Rattle.agent_state.specs.Counting.{pending_count}
-use Rattle.agent_state.proofs.Rising.{Rises, rises_from_increasing, rises_head, rises_tail}
+use Rattle.line_forms.proofs.Rising.{Rises, rises_from_increasing, rises_head, rises_tail}
 
 abbrev pub action_of : PlainHistory → ℕ
 action_of h = h.action

@@ -1,4 +1,4 @@
--- Parts that stay sound with other histories, for which the same tallies stand.
+-- KeptState that stay sound with other histories, for which the same tallies stand.
 use Rattle.std.proofs.Common.{ℕ, ◌≡◌, List, [], ◌∷◌, ◌++◌, Bool, true, false, cond, refl, sym, ap, subst, ◌∙◌, eqb, append-nil}
 use Rattle.std.specs.declared.option.Option.{Option}
 use Rattle.std.specs.Prelude.{is_some, None}
@@ -11,9 +11,9 @@ use Rattle.act_rules.specs.Tallies.{Counts, StandsFor, ended_rows}
 use Rattle.fix_site.specs.declared.action.Action.{Action}
 use Rattle.agent_text.specs.Histories.{AreHistories, PlainHistory, rows_at, with_begun}
 use Rattle.agent_attempt.specs.Stages.{AttemptState, shown_attempt}
-use Rattle.agent_core.specs.declared.parts.Parts.{Parts}
+use Rattle.agent_core.specs.declared.kept_state.KeptState.{KeptState}
 use Rattle.agent_state.specs.declared.tallies.ActionTally.{ActionTally}
-use Rattle.agent_core.specs.Inside.{IsSoundParts}
+use Rattle.agent_core.specs.Inside.{IsSoundKept}
 use Rattle.agent_state.specs.Lookups.{TalliesStand}
 use Rattle.agent_state.specs.States.{HeldRuns}
 use Rattle.agent_core.specs.Steps.{AreMarked}
@@ -70,7 +70,7 @@ tallies_stand (tally ∷ tallies) [] hs others go stand = absurd stand
 tallies_stand (tally ∷ tallies) (action ∷ actions) hs others go stand =
     (stand.0, stand.1, go action.id tally.tally action.rules.retries stand.2, tallies_stand tallies actions hs others go stand.3)
 
-pub sound_with : (a : Parts) (hs : List PlainHistory) → AreHistories hs → a.held ≡ None → GoStanding a.histories hs → IsSoundParts a → IsSoundParts (record a { histories = hs })
+pub sound_with : (a : KeptState) (hs : List PlainHistory) → AreHistories hs → a.held ≡ None → GoStanding a.histories hs → IsSoundKept a → IsSoundKept (record a { histories = hs })
 sound_with a hs good none go is = record {
   sound = record {
     saved = record { computer = is.sound.saved.computer; next = is.sound.saved.next; histories = good; reports = is.sound.saved.reports };

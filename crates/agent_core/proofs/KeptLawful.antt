@@ -6,7 +6,7 @@ use Rattle.act_rules.specs.declared.rule.Rules.{Rules}
 use Rattle.act_rules.specs.declared.row.Outcome.TheVariants.{Interrupted}
 use Rattle.act_rules.specs.Owed.{IsOwed}
 use Rattle.fix_site.specs.declared.action.Action.{Action}
-use Rattle.report_text.specs.ReportRows.{no_note}
+use Rattle.act_rules.specs.Notes.{no_note}
 use Rattle.script_run.specs.Asking.{When}
 use Rattle.bf_machine.specs.Views.{MachineView}
 use Rattle.agent_text.specs.declared.saved.Saved.{Saved}

@@ -12,7 +12,7 @@ use Rattle.report_text.specs.declared.report.Report.{Report}
 use Rattle.agent_text.specs.Histories.{PlainHistory, cleared, with_cleared}
 use Rattle.agent_text.specs.SavedTexts.{history_bytes, most_bytes, report_bytes}
 use Rattle.agent_state.specs.Counting.{pending_count}
-use Rattle.agent_core.specs.declared.parts.Parts.{Parts}
+use Rattle.agent_core.specs.declared.kept_state.KeptState.{KeptState}
 use Rattle.agent_state.specs.declared.spare.Spare.{Spare}
 use Rattle.agent_state.specs.States.{State}
 use Rattle.agent_core.specs.Steps.{AreMarked, Suffices, TestsMark, unmarked, unmarked_row}
@@ -57,7 +57,7 @@ bytes_marked hs marked reports same =
     ap (λ n. 108 + (n + sum_by report_bytes reports)) (sym (bytes_unmarked 0 marked) ∙ ap (sum_by history_bytes) same ∙ bytes_unmarked 0 hs)
 
 -- what was taken for the histories without the marks suffices with them
-pub suffices_marked : (spare : Spare) (a : Parts) (marked : List PlainHistory) → AreMarked a.histories marked → Suffices 1 spare a → Suffices 0 spare (record a { histories = marked })
+pub suffices_marked : (spare : Spare) (a : KeptState) (marked : List PlainHistory) → AreMarked a.histories marked → Suffices 1 spare a → Suffices 0 spare (record a { histories = marked })
 suffices_marked spare a marked same is =
     fits 0 1 spare a (record a { histories = marked }) refl refl refl (bytes_marked a.histories marked a.outbox.reports same) (omega (arith, pending_marked a.histories marked same)) is
 

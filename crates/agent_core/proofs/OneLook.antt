@@ -1,7 +1,7 @@
 -- Where no look, command or poll fails and memory lasts, what is asked and done on a machine that tells its world has one answer and
 -- leaves one view.
 use Rattle.std.proofs.Common.{◌≡◌, ◌≢◌, ℕ, ◌-◌, ◌^◌, ◌<◌, ℤ, Bool, true, false, List, [], ◌∷◌, ◌++◌, IsSome, Option, Some, None, refl, sym, ap, subst, ◌∙◌, inl, inr, arith}
-use Rattle.desk_base.specs.Counts.{Rose}
+use Rattle.desk_base.specs.Counts.{CountsIf, Rose}
 use Rattle.bf_world.specs.declared.command.Command.{Command}
 use Rattle.bf_world.specs.declared.command.Acted.{Acted}
 use Rattle.bf_world.specs.declared.command.Acted.TheVariants as of_act
@@ -28,7 +28,7 @@ use Rattle.rel_eval.specs.declared.told.Truth.TheVariants as truth
 use Rattle.rel_eval.specs.Cuts.{meaning}
 use Rattle.rel_eval.specs.Pulls.{Skips}
 use Rattle.rel_eval.specs.Questions.{Reading, Reads, question, refused, undefined}
-use Rattle.rel_eval.specs.Singles.{one_text_of, truth_of, TellsText, TellsTruth, TextHasCause, TruthHasCause}
+use Rattle.rel_eval.specs.Singles.{one_text_of, truth_of, TellsText, TellsTruth, text_has_failed, truth_has_failed}
 use Rattle.script_run.specs.Walks.{said, judged, fault_in}
 use Rattle.bf_machine.specs.Views.{MachineView, OnlyLooks}
 use Rattle.script_run.specs.Asking.{SaysQuestion, SaysReading, SaysText, SaysOn, JudgesKind, JudgesQuestion, JudgesReading, JudgesText, JudgesOn}
@@ -205,13 +205,13 @@ module _ (plan : OnePlan) (faults : ℕ) (low : faults < 2 ^ 64 - 1) where
     record { world = subst IsSome (sym p.world) calm.world; looked = looks.1; acted = subst IsSome (sym p.acted) calm.acted; polled = subst IsSome (sym p.polled) calm.polled; count = e },
   )
 
-  said_sound : (a : OneText) (x y : ℕ) → x ≡ faults → y ≡ faults → TextHasCause x y a → fault_in (said a) ≡ 0
+  said_sound : (a : OneText) (x y : ℕ) → x ≡ faults → y ≡ faults → CountsIf (text_has_failed a) x y → fault_in (said a) ≡ 0
   said_sound (one_text.Failed place) x y is is' cause = absurd (no_rise faults x y low is is' cause)
   said_sound (one_text.Text text) x y is is' cause = refl
   said_sound (one_text.Error kind place) x y is is' cause = refl
   said_sound one_text.Memory x y is is' cause = refl
 
-  judged_sound : (a : Truth) (x y : ℕ) → x ≡ faults → y ≡ faults → TruthHasCause x y a → fault_in (judged a) ≡ 0
+  judged_sound : (a : Truth) (x y : ℕ) → x ≡ faults → y ≡ faults → CountsIf (truth_has_failed a) x y → fault_in (judged a) ≡ 0
   judged_sound (truth.Failed place) x y is is' cause = absurd (no_rise faults x y low is is' cause)
   judged_sound truth.True x y is is' cause = refl
   judged_sound truth.False x y is is' cause = refl

@@ -27,7 +27,7 @@ use Rattle.agent_state.specs.States.{State, can_report, next_report, with_report
 use Rattle.agent_state.proofs.Dropping.{seq_of}
 use Rattle.agent_core.proofs.HistoryAt.{action_of, counted, is_pending}
 use Rattle.agent_core.proofs.LastRows.{last_holds, last_is, last_number}
-use Rattle.agent_state.proofs.Rising.{increasing_from_rises, Rises, rises_from_increasing, rises_head, rises_tail}
+use Rattle.line_forms.proofs.Rising.{increasing_from_rises, Rises, rises_from_increasing, rises_head, rises_tail}
 
 -- what is reported of a history where it is pending
 abbrev told_of : PlainHistory → List ReportRow

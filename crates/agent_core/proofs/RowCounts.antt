@@ -7,7 +7,8 @@ use Rattle.act_rules.specs.declared.row.Note.{Note}
 use Rattle.act_rules.specs.declared.row.Outcome.{Outcome}
 use Rattle.act_rules.specs.declared.row.Row.{Row}
 use Rattle.act_rules.specs.Rows.{AreNumbered, last_row, with_last}
-use Rattle.act_rules.proofs.RowLemmas.{last_step, length_with_last}
+use Rattle.line_forms.proofs.Lasts.{last_step}
+use Rattle.act_rules.proofs.RowLemmas.{length_with_last}
 use Rattle.agent_text.specs.Histories.{AreHistories, IsHistory, PlainHistory, cleared, rows_at, with_begun, with_cleared, with_ended}
 use Rattle.agent_attempt.specs.Attempts.{PlainAttempt}
 use Rattle.agent_state.specs.States.{HeldRuns, new_row, next_row}

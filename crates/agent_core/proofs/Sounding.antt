@@ -18,7 +18,7 @@ use Rattle.agent_text.specs.Histories.{AreHistories, PlainHistory, rows_at, with
 use Rattle.agent_attempt.specs.Attempts.{PlainAttempt}
 use Rattle.agent_state.specs.Changes.{with_site, with_sites}
 use Rattle.agent_state.specs.States.{HeldRuns, IsSound, State, as_saved, broken_action, is_broken, is_of_another, last_runs, with_held, with_histories, with_unsaved}
-use Rattle.agent_state.proofs.Rising.{Rises, rises_from_increasing, rises_head, rises_tail}
+use Rattle.line_forms.proofs.Rising.{Rises, rises_from_increasing, rises_head, rises_tail}
 use Rattle.agent_state.proofs.RowsAt.{rows_other}
 use Rattle.agent_state.proofs.SiteActions.{gathered_with}
 

@@ -14,15 +14,15 @@ use Rattle.agent_text.specs.Histories.{rows_at, with_ended}
 use Rattle.agent_text.specs.SavedTexts.{most_bytes}
 use Rattle.agent_attempt.specs.Stages.{AttemptState}
 use Rattle.agent_state.specs.Counting.{pending_count}
-use Rattle.agent_core.specs.declared.parts.Parts.{Parts}
+use Rattle.agent_core.specs.declared.kept_state.KeptState.{KeptState}
 use Rattle.agent_state.specs.declared.spare.Spare.{Spare}
-use Rattle.agent_core.specs.Inside.{IsSoundParts, state_of}
+use Rattle.agent_core.specs.Inside.{IsSoundKept, state_of}
 use Rattle.agent_state.specs.States.{State, with_histories}
 use Rattle.agent_core.specs.Steps.{Suffices, after_save}
 use Rattle.agent_core.proofs.HistoryAt.{ended_size}
 
--- as much suffices for other parts that need no more
-pub fits : (less more : ℕ) (spare : Spare) (old new : Parts) → new.name ≡ old.name → new.outbox.reports ≡ old.outbox.reports → new.outbox.capacity ≡ old.outbox.capacity
+-- as much suffices for another state that needs no more
+pub fits : (less more : ℕ) (spare : Spare) (old new : KeptState) → new.name ≡ old.name → new.outbox.reports ≡ old.outbox.reports → new.outbox.capacity ≡ old.outbox.capacity
     → most_bytes new.histories old.outbox.reports ≡ most_bytes old.histories old.outbox.reports → pending_count new.histories + less ≤ pending_count old.histories + more
     → Suffices more spare old → Suffices less spare new
 fits less more spare old new name reports capacity bytes count is =
@@ -37,11 +37,11 @@ fits less more spare old new name reports capacity bytes count is =
     }
 
 -- where an attempt is held
-pub suffices_held : (spare : Spare) (parts : Parts) (held : Option AttemptState) → Suffices 1 spare parts → Suffices 0 spare (record parts { held = held })
-suffices_held spare parts held is = fits 0 1 spare parts (record parts { held = held }) refl refl refl refl (omega arith) is
+pub suffices_held : (spare : Spare) (kept : KeptState) (held : Option AttemptState) → Suffices 1 spare kept → Suffices 0 spare (record kept { held = held })
+suffices_held spare kept held is = fits 0 1 spare kept (record kept { held = held }) refl refl refl refl (omega arith) is
 
 -- after an attempt has ended
-pub suffices_ended : (spare : Spare) (old new : Parts) (action : ℕ) (moment : ℤ) (outcome : Outcome) (note : Note) (P : Row → Type 0) → IsSoundParts old → IsSomeAnd (last_row (rows_at action old.histories)) P
+pub suffices_ended : (spare : Spare) (old new : KeptState) (action : ℕ) (moment : ℤ) (outcome : Outcome) (note : Note) (P : Row → Type 0) → IsSoundKept old → IsSomeAnd (last_row (rows_at action old.histories)) P
     → state_of new ≡ with_histories (with_ended action moment outcome note old.histories) (state_of old) → new.outbox ≡ old.outbox → Suffices 1 spare old → Suffices 0 spare new
 suffices_ended spare old new action moment outcome note P sound last state outbox is =
     let hs : new.histories ≡ with_ended action moment outcome note old.histories = ap (λ (s : State). s.histories) state in
@@ -67,7 +67,7 @@ kept_reports save.Failed s = refl
 kept_reports save.Memory s = refl
 
 -- after a save, with the room for a text that is left
-pub suffices_saved : (more : ℕ) (spare : Spare) (text : RoomState) (old new : Parts) (result : SaveResult) → state_of new ≡ after_save result (state_of old) → new.outbox.capacity ≡ old.outbox.capacity → spare.text.capacity ≤ text.capacity
+pub suffices_saved : (more : ℕ) (spare : Spare) (text : RoomState) (old new : KeptState) (result : SaveResult) → state_of new ≡ after_save result (state_of old) → new.outbox.capacity ≡ old.outbox.capacity → spare.text.capacity ≤ text.capacity
     → Suffices more spare old → Suffices more (record spare { text = text }) new
 suffices_saved more spare text old new result state capacity room is =
     let hs : new.histories ≡ old.histories = ap (λ (s : State). s.histories) state ∙ kept_histories result (state_of old) in

@@ -1,5 +1,6 @@
 -- What of an agent matters for the delivery of its reports, and what its steps do to that.
-use Rattle.std.specs.Prelude.{◌≡◌, ◌⊎◌, ℕ, ◌+◌, ◌^◌, nat_lt, if◌then◌else◌, List, [], ◌∷◌, ◌++◌, Option, Some, None}
+use Rattle.std.specs.Prelude.{◌≡◌, ◌⊎◌, ℕ, ◌+◌, nat_lt, if◌then◌else◌, List, [], ◌∷◌, ◌++◌, Option, Some, None}
+use Rattle.line_forms.specs.Numbers.{last_id}
 use Rattle.report_text.specs.declared.form.Form.TheVariants.{Two}
 use Rattle.report_text.specs.declared.report.Report.{Report}
 use Rattle.report_text.specs.declared.report_row.ReportRow.{ReportRow}
@@ -29,7 +30,7 @@ report_of rows m = record { form = Two; computer = m.computer; seq = m.next; row
 -- A report is made with the next number, and saved. At the last number nothing changes.
 abbrev pub made : List ReportRow → Mail → Mail
 made rows m =
-    if nat_lt m.next (2 ^ 53)
+    if nat_lt m.next last_id
     then saved (record m { outbox = m.outbox ++ report_of rows m ∷ []; next = m.next + 1 })
     else m
 

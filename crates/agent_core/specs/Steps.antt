@@ -1,11 +1,12 @@
 -- What the private functions of a turn do. Only the code's contracts cite these definitions.
-use Rattle.std.specs.Prelude.{◌≡◌, ◌⊎◌, ℕ, ◌+◌, ◌*◌, ◌^◌, ◌<◌, ◌≤◌, min, List, [], ◌∷◌, length, map, vec_capacity, IfSome, Bool, true, false, Option, Some, None, Result, Ok, Err}
+use Rattle.std.specs.Prelude.{◌≡◌, ◌⊎◌, ℕ, ◌+◌, ◌^◌, ◌<◌, ◌≤◌, min, List, [], ◌∷◌, length, map, vec_capacity, IfSome, Bool, true, false, Option, Some, None, Result, Ok, Err}
 use Rattle.act_rules.specs.declared.row.Row.{Row}
 use Rattle.line_forms.specs.Numbers.{IsId}
 use Rattle.act_rules.specs.Rows.{HasEnded, last_row}
 use Rattle.fix_site.specs.declared.action.Action.{Action}
 use Rattle.script_run.specs.Asking.{When}
 use Rattle.bf_machine.specs.Views.{MachineView}
+use Rattle.report_text.specs.Reports.{most_report_bytes, most_rows}
 use Rattle.agent_text.specs.declared.pocket.SaveResult.{SaveResult}
 use Rattle.agent_text.specs.declared.pocket.SaveResult.TheVariants as save
 use Rattle.agent_text.specs.Histories.{AreHistories, PlainHistory, rows_at}
@@ -16,14 +17,14 @@ use Rattle.agent_attempt.specs.Attempts.{PlainAttempt, StageWaitsBelow}
 use Rattle.agent_attempt.specs.ActionContents.{Content, content_of}
 use Rattle.agent_attempt.specs.Stages.{AttemptState, shown_attempt}
 use Rattle.agent_attempt.specs.Relevance.{ContentIs, IsDue}
-use Rattle.agent_core.specs.declared.parts.Parts.{Parts}
+use Rattle.agent_core.specs.declared.kept_state.KeptState.{KeptState}
 use Rattle.agent_state.specs.declared.spare.Spare.{Spare}
 use Rattle.agent_core.specs.declared.turned.Turned.{Turned}
 use Rattle.agent_core.specs.declared.turned.Turned.TheVariants.{MachineFault, Memory, PocketFault}
 use Rattle.agent_state.specs.Counting.{pending_count}
 use Rattle.agent_core.specs.Saving.{Ending, SavesThen}
 use Rattle.agent_text.specs.Pockets.{PocketView, SavesTo}
-use Rattle.agent_core.specs.Inside.{IsSoundParts, state_of}
+use Rattle.agent_core.specs.Inside.{IsSoundKept, state_of}
 use Rattle.agent_state.specs.States.{State, as_saved, text_of, with_beginning, with_histories, with_unsaved}
 use Rattle.agent_core.specs.Devices.{Devices}
 use Rattle.agent_core.specs.Turns.{AfterBeginning, Marks, beginning, may_clear, with_mark}
@@ -34,22 +35,22 @@ after_save save.Done s = as_saved s
 after_save save.Failed s = s
 after_save save.Memory s = s
 
--- A save of these parts was answered so.
-pub record SavesParts (old : Parts) (before : PocketView) (answer : SaveResult) (new : Parts) (now : PocketView) : Type 0 where
+-- A save of this state was answered so.
+pub record SavesKept (old : KeptState) (before : PocketView) (answer : SaveResult) (new : KeptState) (now : PocketView) : Type 0 where
   pub saves : SavesTo (text_of (state_of old)) before answer now
   pub state : state_of new ≡ after_save answer (state_of old)
-  pub sound : IsSoundParts new
+  pub sound : IsSoundKept new
   pub room : new.outbox.capacity ≡ old.outbox.capacity
 
 -- ---- what is taken before anything that can't be undone
 -- It is enough for the end of a turn in which so many more actions become pending.
-pub record Suffices (more : ℕ) (spare : Spare) (parts : Parts) : Type 0 where
-  pub computer : spare.computer ≡ parts.name
+pub record Suffices (more : ℕ) (spare : Spare) (kept : KeptState) : Type 0 where
+  pub computer : spare.computer ≡ kept.name
   pub empty : spare.rows.items ≡ []
-  pub rows : min 500 (pending_count parts.histories + more) ≤ vec_capacity spare.rows
-  pub text : most_bytes parts.histories parts.outbox.reports + (108 + 113 * min 500 (pending_count parts.histories + more))
+  pub rows : min most_rows (pending_count kept.histories + more) ≤ vec_capacity spare.rows
+  pub text : most_bytes kept.histories kept.outbox.reports + most_report_bytes (min most_rows (pending_count kept.histories + more))
       ≤ spare.text.capacity
-  pub outbox : length parts.outbox.reports < parts.outbox.capacity
+  pub outbox : length kept.outbox.reports < kept.outbox.capacity
 
 -- ---- what stops a turn before a beginning
 abbrev pub stop_of : Found → Turned
@@ -110,8 +111,8 @@ pub record MakesMarks (at : When) (s : State) (actions : List Action) (hs : List
   pub good : AreHistories now
 
 -- no attempt is held, and these are the histories but for marks
-pub record AreMarksOf (a : Parts) (hs : List PlainHistory) : Type 0 where
-  pub sound : IsSoundParts a
+pub record AreMarksOf (a : KeptState) (hs : List PlainHistory) : Type 0 where
+  pub sound : IsSoundKept a
   pub free : a.held ≡ None
   pub marked : AreMarked a.histories hs
   pub good : AreHistories hs

@@ -5,7 +5,7 @@ ghost use Rattle.agent_core.specs.Agents.{shown_state};
 ghost use Rattle.agent_core.specs.Stops.{HeldWaitsBelow};
 ghost use Rattle.agent_state.specs.Changes.{AnswersTally, SettlesState, SuppliesState, kept_version};
 
-use crate::parts::Parts;
+use crate::kept_state::KeptState;
 use act_rules::{Rows, Tally};
 use desk_base::Bytes;
 use rel_lexer::Text;
@@ -15,12 +15,12 @@ use std::marker::Model;
 /// An agent. Contracts see its state.
 #[derive(Drop)]
 pub struct Agent {
-    pub(crate) parts: Parts,
+    pub(crate) kept: KeptState,
 }
 
 impl Model for Agent {
     ghost use Rattle.agent_core.specs.Agents.{AgentState};
-    ghost use Rattle.agent_core.specs.Inside.{IsSoundParts, agent_of};
+    ghost use Rattle.agent_core.specs.Inside.{IsSoundKept, agent_of};
     ghost use Rattle.std.specs.Coded.{codes};
     ghost use Rattle.agent_attempt.specs.contracts.attempt.Attempt as attempt;
 
@@ -28,9 +28,9 @@ impl Model for Agent {
 
     ghost coded = { Prim.hlevel (codes, attempt.the_row.coded) };
 
-    ghost view = { λ a. agent_of a.parts };
+    ghost view = { λ a. agent_of a.kept };
 
-    ghost invariant = { λ a. IsSoundParts a.parts };
+    ghost invariant = { λ a. IsSoundKept a.kept };
 }
 
 impl Agent {
@@ -39,7 +39,7 @@ impl Agent {
     pub fn outbox(&self) -> &[Report]
         ensures { result.now ≡ take self.now.shown self.now.reports }
     {
-        self.parts.outbox.shown()
+        self.kept.outbox.shown()
     }
 
     /// Tells what became of the report with this number. One that is stored is dropped; the answer is whether one was.
@@ -47,7 +47,7 @@ impl Agent {
         ensures { SettlesState seq verdict.now (shown_state self.old) result (shown_state self.new) }
     {
         match verdict {
-            Verdict::Stored => self.parts.drop_report(seq),
+            Verdict::Stored => self.kept.drop_report(seq),
             Verdict::Carried | Verdict::Conflict(_) | Verdict::Full(_) => false,
         }
     }
@@ -60,7 +60,7 @@ impl Agent {
         ensures waits { (started : ℕ) → HeldWaitsBelow started (shown_state self.old).held
             → HeldWaitsBelow started (shown_state self.new).held }
     {
-        match &mut self.parts.held {
+        match &mut self.kept.held {
             Some(attempt) => attempt.supply(digest, bytes),
             None => false,
         }
@@ -71,20 +71,20 @@ impl Agent {
         ensures { MatchOption result (rows_at action self.now.histories ≡ [])
             (λ rows. (rows.now.rows ≡ rows_at action self.now.histories) × (0 < length rows.now.rows)) }
     {
-        self.parts.histories.rows(action)
+        self.kept.histories.rows(action)
     }
 
     /// The version of the gathered site of this name, 0 where none is.
     pub fn version(&self, site: &Text) -> u64
         ensures { result ≡ kept_version (site_at site.now self.now.sites) }
     {
-        self.parts.sites.version(site.as_str())
+        self.kept.sites.version(site.as_str())
     }
 
     /// The tally that stands for the rows of an action under its retries, None where no gathered `actionsite` has the action.
     pub fn tally(&self, action: u64) -> Option<&Tally>
         ensures { AnswersTally (shown_state self.now) action (option_copied result) }
     {
-        Some(&self.parts.tallies.get(action)?.tally)
+        Some(&self.kept.tallies.get(action)?.tally)
     }
 }

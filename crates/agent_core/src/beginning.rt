@@ -2,15 +2,15 @@
 ghost use Rattle.std.specs.Prelude.{◌≡◌, IfOk, None, Some};
 ghost use Rattle.agent_text.specs.Histories.{AreHistories, with_begun};
 ghost use Rattle.agent_attempt.specs.Stages.{shown_attempt};
-ghost use Rattle.agent_core.specs.Inside.{AreSoundOn, IsSoundParts, state_of};
+ghost use Rattle.agent_core.specs.Inside.{AreSoundOn, IsSoundKept, state_of};
 ghost use Rattle.agent_core.specs.Saving.{OrMemory};
 ghost use Rattle.agent_state.specs.States.{HeldRuns, new_row, with_beginning, with_histories};
 ghost use Rattle.agent_core.specs.Devices.{devices};
 ghost use Rattle.agent_core.specs.Steps.{AreMarksOf, BeginsAs, CanBegin, SavesBeginning, Suffices};
 
-use crate::parts::Parts;
+use crate::kept_state::KeptState;
 use crate::turned::Turned;
-use act_rules::{Note, Row};
+use act_rules::{NO_NOTE, Row};
 use agent_attempt::{Attempt, Time};
 use agent_state::Spare;
 use agent_text::{
@@ -20,13 +20,7 @@ use bf_machine::Machine;
 use std::alloc::{AllocError, Global};
 use std::mem::{self, drop};
 
-/// The note of an attempt that has none.
-pub(crate) const NO_NOTE: Note = Note {
-    exit: None,
-    place: None,
-};
-
-impl Parts {
+impl KeptState {
     /// An attempt begins: its row is saved before its first command. Until then the state is as it was.
     pub(crate) fn begin<M: Machine, P: Pocket>(
         &mut self,
@@ -46,7 +40,7 @@ impl Parts {
         ensures sound { AreSoundOn (M.told machine.new).started self.new }
     {
         match self.save_beginning(alloc, pocket, marked, &attempt, time) {
-            Ok(spare) => self.go(alloc, machine, pocket, attempt, true, spare, time),
+            Ok(spare) => self.go_on_and_finish(alloc, machine, pocket, attempt, true, spare, time),
             Err(stop) => {
                 drop(attempt);
                 stop
@@ -71,7 +65,7 @@ impl Parts {
         ensures spare { IfOk result (λ spare. Suffices 1 spare self.new) }
         ensures runs { IfOk result (λ spare. HeldRuns (Some (shown_attempt attempt.now)) self.new.histories) }
         ensures free { self.new.held ≡ None }
-        ensures sound { IsSoundParts self.new }
+        ensures sound { IsSoundKept self.new }
     {
         let Ok(begun) = with_row(alloc, &marked, attempt, time) else {
             return Err(Turned::Memory);

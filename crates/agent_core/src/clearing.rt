@@ -5,12 +5,12 @@ ghost use Rattle.act_rules.specs.Rows.{last_row};
 ghost use Rattle.agent_text.specs.Histories.{AreHistories, rows_at};
 ghost use Rattle.agent_attempt.specs.ReadBlocks.{shown_block};
 ghost use Rattle.agent_attempt.specs.ActionContents.{actions_of, as_action};
-ghost use Rattle.agent_core.specs.Inside.{IsSoundParts, state_of};
+ghost use Rattle.agent_core.specs.Inside.{IsSoundKept, state_of};
 ghost use Rattle.agent_state.specs.Lookups.{rows_if};
 ghost use Rattle.agent_core.specs.Steps.{MakesMarks, TestsMark};
 ghost use Rattle.agent_core.specs.Turns.{may_clear};
 
-use crate::parts::Parts;
+use crate::kept_state::KeptState;
 use crate::turned::Turned;
 use act_rules::Rows;
 use agent_attempt::{Found, ReadAction, ReadBlock, Time, relevant};
@@ -19,7 +19,7 @@ use agent_text::{Histories, changed_histories_can_be_saved};
 use bf_machine::Machine;
 use std::alloc::Global;
 
-impl Parts {
+impl KeptState {
     /// Marks the last row of each action that has ended, isn't cleared and isn't relevant. Answers whether there is any.
     pub(crate) fn clear<M: Machine>(
         &self,
@@ -28,7 +28,7 @@ impl Parts {
         time: &Time,
         marked: &mut Histories,
     ) -> Result<bool, Turned>
-        requires sound { IsSoundParts self.now }
+        requires sound { IsSoundKept self.now }
         requires same { marked.old ≡ self.now.histories }
         ensures { MakesMarks time.now (state_of self.now) (actions_of self.now.sites) marked.old
             (M.told machine.old) result marked.new (M.told machine.new) }
@@ -51,7 +51,7 @@ impl Parts {
         block: &ReadBlock,
         marked: &mut Histories,
     ) -> Result<bool, Turned>
-        requires sound { IsSoundParts self.now }
+        requires sound { IsSoundKept self.now }
         requires good { AreHistories marked.old }
         ensures { MakesMarks time.now (state_of self.now) (filter_map as_action (shown_block block.now ∷ [])) marked.old
             (M.told machine.old) result marked.new (M.told machine.new) }
@@ -76,7 +76,7 @@ impl Parts {
         action: &ReadAction,
         marked: &Histories,
     ) -> Result<bool, Turned>
-        requires { IsSoundParts self.now }
+        requires { IsSoundKept self.now }
         ensures { TestsMark (may_clear (last_row (rows_at action.now.id marked.now))) time.now (state_of self.now) action.now
             (M.told machine.old) result (M.told machine.new) }
     {

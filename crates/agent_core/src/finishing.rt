@@ -1,31 +1,28 @@
 // The end of a turn: its report, and its last save.
 ghost use Rattle.std.specs.Prelude.{◌≡◌, ◌<◌, ◌≤◌, min, [], length, take, true, vec_capacity};
 ghost use Rattle.bf_machine.specs.Views.{MachineView};
+ghost use Rattle.report_text.specs.Reports.{most_rows};
 ghost use Rattle.agent_text.specs.Histories.{report_rows};
-ghost use Rattle.agent_core.specs.Inside.{IsSoundParts, state_of};
+ghost use Rattle.agent_core.specs.Inside.{IsSoundKept, state_of};
 ghost use Rattle.agent_state.specs.States.{can_report, text_of, with_report};
 ghost use Rattle.agent_core.specs.Devices.{devices};
 ghost use Rattle.agent_state.specs.Counting.{pending_count};
 ghost use Rattle.agent_core.specs.Steps.{Suffices};
 ghost use Rattle.agent_core.specs.Turns.{Finishes, LastSave};
 
-use crate::parts::Parts;
+use crate::kept_state::KeptState;
 use crate::turned::Turned;
-use agent_state::{MOST_ROWS, Spare, add_row};
+use agent_state::{Spare, add_row};
 use agent_text::{
-    Histories, Pocket, SaveResult, changed_histories_can_be_saved, saved_texts_are_short,
+    Histories, MOST_REPORTS, Pocket, SaveResult, changed_histories_can_be_saved,
+    saved_texts_are_short,
 };
 use desk_base::Room;
+use line_forms::LAST_ID;
 use rel_lexer::Text;
-use report_text::{Form, Report, ReportRow, ReportRows};
+use report_text::{Form, MOST_ROWS, Report, ReportRow, ReportRows};
 
-/// The most reports of an outbox.
-const MOST_REPORTS: usize = 1000;
-
-/// The last number of a report that isn't used: 2^53.
-const LAST_NUMBER: u64 = 9_007_199_254_740_992;
-
-impl Parts {
+impl KeptState {
     /// Makes a report where one can be made, saves what has changed, and answers `would` where that succeeds.
     pub(crate) fn finish<P: Pocket>(
         &mut self,
@@ -34,11 +31,11 @@ impl Parts {
         changed: bool,
         would: Turned,
     ) -> Turned
-        requires sound { IsSoundParts self.old }
+        requires sound { IsSoundKept self.old }
         requires spare { Suffices 0 spare self.old }
         ensures finishes { (machine : MachineView) → Finishes changed would (state_of self.old)
             (devices machine (P.told pocket.old)) result (state_of self.new) (devices machine (P.told pocket.new)) }
-        ensures sound { IsSoundParts self.new }
+        ensures sound { IsSoundKept self.new }
         ensures held { (state_of self.new).held ≡ (state_of self.old).held }
     {
         saved_texts_are_short();
@@ -54,10 +51,10 @@ impl Parts {
 
     /// Whether a report can be made: an action is pending, there is room in the outbox, and a number is left.
     pub(crate) fn can_report(&self) -> bool
-        requires { IsSoundParts self.now }
+        requires { IsSoundKept self.now }
         ensures { result ≡ can_report (state_of self.now) }
     {
-        if self.outbox.all().len() >= MOST_REPORTS || self.next >= LAST_NUMBER {
+        if self.outbox.all().len() >= MOST_REPORTS || self.next >= LAST_ID {
             return false;
         }
         self.histories
@@ -68,14 +65,14 @@ impl Parts {
 
     /// Adds a report of the first pending actions.
     fn report(&mut self, computer: Text, mut rows: Vec<ReportRow>)
-        requires sound { IsSoundParts self.old }
+        requires sound { IsSoundKept self.old }
         requires can { can_report (state_of self.old) ≡ true }
         requires computer { computer ≡ self.old.name }
         requires empty { rows.items ≡ [] }
-        requires rows { min 500 (pending_count self.old.histories) ≤ vec_capacity rows }
+        requires rows { min most_rows (pending_count self.old.histories) ≤ vec_capacity rows }
         requires outbox { length self.old.outbox.reports < self.old.outbox.capacity }
         ensures state { state_of self.new ≡ with_report (state_of self.old) }
-        ensures sound { IsSoundParts self.new }
+        ensures sound { IsSoundKept self.new }
     {
         changed_histories_can_be_saved();
         add_rows(&self.histories, &mut rows);
@@ -91,11 +88,11 @@ impl Parts {
 
     /// The turn's last save. Where it isn't done the new state stands unsaved.
     fn save_last<P: Pocket>(&mut self, pocket: &mut P, room: &mut Room, would: Turned) -> Turned
-        requires sound { IsSoundParts self.old }
+        requires sound { IsSoundKept self.old }
         requires within { length (text_of (state_of self.old)) ≤ room.old.capacity }
         ensures saves { (machine : MachineView) → LastSave true would (state_of self.old)
             (devices machine (P.told pocket.old)) result (state_of self.new) (devices machine (P.told pocket.new)) }
-        ensures sound { IsSoundParts self.new }
+        ensures sound { IsSoundKept self.new }
         ensures held { (state_of self.new).held ≡ (state_of self.old).held }
     {
         match self.save_in(pocket, room) {
@@ -115,8 +112,8 @@ impl Parts {
 /// Adds what is reported of the first pending actions, for which there is room.
 fn add_rows(histories: &Histories, rows: &mut Vec<ReportRow>)
     requires empty { rows.old.items ≡ [] }
-    requires room { min 500 (pending_count histories.now) ≤ vec_capacity rows.old }
-    ensures { rows.new.items ≡ take 500 (report_rows histories.now) }
+    requires room { min most_rows (pending_count histories.now) ≤ vec_capacity rows.old }
+    ensures { rows.new.items ≡ take most_rows (report_rows histories.now) }
 {
     for history in histories.as_slice() {
         if rows.len() >= MOST_ROWS {

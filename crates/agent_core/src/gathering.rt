@@ -3,10 +3,10 @@ ghost use Rattle.std.specs.Prelude.{◌≡◌, OnOk, OnErr};
 ghost use Rattle.fix_site.specs.Sites.{IsSite};
 ghost use Rattle.agent_core.specs.Agents.{shown_state};
 ghost use Rattle.agent_state.specs.Changes.{GathersSite, with_site, with_sites};
-ghost use Rattle.agent_core.specs.Inside.{IsSoundParts, state_of};
+ghost use Rattle.agent_core.specs.Inside.{IsSoundKept, state_of};
 
 use crate::agent::Agent;
-use crate::parts::Parts;
+use crate::kept_state::KeptState;
 use agent_attempt::ReadSite;
 use agent_state::{ACTION_SITE, Tallies};
 use fix_site::Site;
@@ -19,25 +19,25 @@ impl Agent {
         requires { IsSite site.now }
         ensures { GathersSite (shown_state self.old) site.now result (shown_state self.new) }
     {
-        let kept = self.parts.sites.version(site.name.as_str());
+        let kept = self.kept.sites.version(site.name.as_str());
         if site.version <= kept {
             return Gathered::Older(kept);
         }
-        match self.parts.keep(alloc, site) {
+        match self.kept.keep(alloc, site) {
             Ok(()) => Gathered::New,
             Err(_) => Gathered::Memory,
         }
     }
 }
 
-impl Parts {
+impl KeptState {
     /// Keeps a site in the place of one of its name. At an error, want of memory, nothing has changed.
     fn keep(&mut self, alloc: Global, site: &Site) -> Result<(), AllocError>
         requires site { IsSite site.now }
-        requires sound { IsSoundParts self.old }
+        requires sound { IsSoundKept self.old }
         ensures ok { OnOk result (state_of self.new ≡ with_sites (with_site site.now self.old.sites) (state_of self.old)) }
         ensures err { OnErr result (state_of self.new ≡ state_of self.old) }
-        ensures sound { IsSoundParts self.new }
+        ensures sound { IsSoundKept self.new }
     {
         let read = ReadSite::read(alloc, site)?;
         if site.name.as_str() != ACTION_SITE {

@@ -144,5 +144,5 @@ pub fn agents_are_sound(agent: &Agent)
     ensures { IsSound (shown_state agent.now) }
 {
     // seen, so that the invariant of an agent is known
-    let _parts = &agent.parts;
+    let _kept = &agent.kept;
 }

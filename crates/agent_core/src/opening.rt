@@ -6,7 +6,7 @@ ghost use Rattle.agent_core.specs.Agents.{shown_state};
 ghost use Rattle.agent_core.specs.Opens.{OpensAgent, OpensFrom, new_state, opened_state};
 
 use crate::agent::Agent;
-use crate::parts::Parts;
+use crate::kept_state::KeptState;
 use agent_state::{Outbox, SiteList, Tallies};
 use agent_text::{Histories, Loaded, Pocket, Reports, Saved, SavedError, read_saved};
 use desk_base::Bytes;
@@ -83,7 +83,7 @@ impl Agent {
             histories,
             reports,
         } = saved;
-        let parts = Parts {
+        let kept = KeptState {
             name: computer,
             sites: SiteList::new(alloc),
             tallies: Tallies::new(alloc),
@@ -93,6 +93,6 @@ impl Agent {
             held: None,
             unsaved: false,
         };
-        Agent { parts }
+        Agent { kept }
     }
 }

@@ -8,17 +8,16 @@ ghost use Rattle.report_text.specs.ReportRows.{IsExit};
 ghost use Rattle.agent_attempt.specs.declared.went.Went.TheVariants.{Ended};
 ghost use Rattle.agent_attempt.specs.Going.{HasNote};
 ghost use Rattle.agent_attempt.specs.Stages.{shown_attempt};
-ghost use Rattle.agent_core.specs.Inside.{AreSoundOn, CanGoOn, IsSoundParts, state_of};
+ghost use Rattle.agent_core.specs.Inside.{AreSoundOn, CanGoOn, IsSoundKept, state_of};
 ghost use Rattle.agent_core.specs.Saving.{OrMemory};
 ghost use Rattle.agent_state.specs.States.{State, broken_action, is_of_another, with_held, with_histories};
 ghost use Rattle.agent_core.specs.Devices.{devices};
 ghost use Rattle.agent_core.specs.Steps.{Suffices};
 ghost use Rattle.agent_core.specs.Turns.{TurnGoesOn, Interrupts, outcome_of};
 
-use crate::beginning::NO_NOTE;
-use crate::parts::Parts;
+use crate::kept_state::KeptState;
 use crate::turned::Turned;
-use act_rules::{Note, Outcome};
+use act_rules::{NO_NOTE, Note, Outcome};
 use agent_attempt::{Attempt, Fail, Time, Went};
 use agent_state::{Spare, is_of_another, is_running};
 use agent_text::{Pocket, SaveResult, changed_histories_can_be_saved, saved_texts_are_short};
@@ -26,22 +25,22 @@ use bf_machine::Machine;
 use std::alloc::{AllocError, Global};
 use std::mem::drop;
 
-impl Parts {
+impl KeptState {
     /// What the end of a turn takes, with the histories as they are and one report more. The error is want of memory; the state is
     /// then as it was.
     pub(crate) fn take_spare(&mut self, alloc: Global) -> Result<Spare, AllocError>
-        requires sound { IsSoundParts self.old }
+        requires sound { IsSoundKept self.old }
         ensures spare { IfOk result (λ spare. Suffices 1 spare self.new) }
         ensures state { state_of self.new ≡ state_of self.old }
-        ensures sound { IsSoundParts self.new }
+        ensures sound { IsSoundKept self.new }
     {
         self.outbox.reserve()?;
         Spare::take(alloc, &self.name, &self.histories, self.outbox.all())
     }
 
     /// The least action whose last attempt was broken off: it runs, and isn't held.
-    pub(crate) fn broken(&self) -> Option<u64>
-        requires { IsSoundParts self.now }
+    pub(crate) fn broken_action(&self) -> Option<u64>
+        requires { IsSoundKept self.now }
         ensures { result ≡ broken_action (state_of self.now) }
     {
         let held = &self.held;
@@ -51,24 +50,24 @@ impl Parts {
     }
 
     /// A broken attempt ends as interrupted.
-    pub(crate) fn interrupt<P: Pocket>(
+    pub(crate) fn interrupt_broken<P: Pocket>(
         &mut self,
         alloc: Global,
         pocket: &mut P,
         id: u64,
         time: &Time,
     ) -> Turned
-        requires sound { IsSoundParts self.old }
+        requires sound { IsSoundKept self.old }
         requires broken { broken_action (state_of self.old) ≡ Some id }
         ensures interrupts { (machine : MachineView) → Interrupts time.now id (state_of self.old)
             (devices machine (P.told pocket.old)) result (state_of self.new) (devices machine (P.told pocket.new)) }
-        ensures sound { IsSoundParts self.new }
+        ensures sound { IsSoundKept self.new }
         ensures held { (state_of self.new).held ≡ (state_of self.old).held }
     {
         let Ok(mut spare) = self.take_spare(alloc) else {
             return Turned::Memory;
         };
-        self.end(id, time, Outcome::Interrupted, NO_NOTE);
+        self.end_attempt(id, time, Outcome::Interrupted, NO_NOTE);
         saved_texts_are_short();
         match self.save_in(pocket, &mut spare.text) {
             SaveResult::Done => self.finish(pocket, spare, false, Turned::Interrupted { id }),
@@ -84,15 +83,15 @@ impl Parts {
     }
 
     /// The attempt of an action that runs ends.
-    fn end(&mut self, id: u64, time: &Time, outcome: Outcome, note: Note)
-        requires sound { IsSoundParts self.old }
+    fn end_attempt(&mut self, id: u64, time: &Time, outcome: Outcome, note: Note)
+        requires sound { IsSoundKept self.old }
         requires running { IsSomeAnd (last_row (rows_at id self.old.histories)) (λ row. row.end ≡ None) }
         requires free { IsTrue (is_of_another id (state_of self.old).held) }
         requires note { IsSavedNote outcome note }
         ensures state { state_of self.new
             ≡ with_histories (with_ended id time.now.moment outcome note self.old.histories) (state_of self.old) }
         ensures room { self.new.outbox ≡ self.old.outbox }
-        ensures sound { IsSoundParts self.new }
+        ensures sound { IsSoundKept self.new }
     {
         changed_histories_can_be_saved();
         self.histories.end(id, time.moment(), outcome, note);
@@ -100,7 +99,7 @@ impl Parts {
     }
 
     /// The attempt that was held goes on.
-    pub(crate) fn resume<M: Machine, P: Pocket>(
+    pub(crate) fn resume_held<M: Machine, P: Pocket>(
         &mut self,
         alloc: Global,
         machine: &mut M,
@@ -118,7 +117,7 @@ impl Parts {
         ensures sound { AreSoundOn (M.told machine.new).started self.new }
     {
         match self.take_spare(alloc) {
-            Ok(spare) => self.go(alloc, machine, pocket, attempt, false, spare, time),
+            Ok(spare) => self.go_on_and_finish(alloc, machine, pocket, attempt, false, spare, time),
             Err(_) => {
                 self.held = Some(attempt);
                 Turned::Memory
@@ -127,7 +126,7 @@ impl Parts {
     }
 
     /// An attempt goes on, and the turn ends with it.
-    pub(crate) fn go<M: Machine, P: Pocket>(
+    pub(crate) fn go_on_and_finish<M: Machine, P: Pocket>(
         &mut self,
         alloc: Global,
         machine: &mut M,
@@ -164,7 +163,7 @@ impl Parts {
                 drop(attempt);
                 let outcome = outcome_of(&fail);
                 note_fits(&fail, note);
-                self.end(id, time, outcome, note);
+                self.end_attempt(id, time, outcome, note);
                 let would = Turned::Ended {
                     id,
                     began,

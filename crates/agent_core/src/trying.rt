@@ -6,14 +6,14 @@ ghost use Rattle.bf_machine.specs.Views.{MachineView};
 ghost use Rattle.agent_text.specs.Histories.{rows_at};
 ghost use Rattle.agent_attempt.specs.ReadBlocks.{shown_block};
 ghost use Rattle.agent_attempt.specs.ActionContents.{actions_of, as_action};
-ghost use Rattle.agent_core.specs.Inside.{AreSoundOn, IsSoundParts, state_of};
+ghost use Rattle.agent_core.specs.Inside.{AreSoundOn, IsSoundKept, state_of};
 ghost use Rattle.agent_core.specs.Saving.{OrMemory};
 ghost use Rattle.agent_state.specs.States.{broken_action, with_histories};
 ghost use Rattle.agent_core.specs.Devices.{devices};
 ghost use Rattle.agent_core.specs.Steps.{AreMarked, AreMarksOf, FindsDue, TriesOne};
 ghost use Rattle.agent_core.specs.Turns.{Finishes, Tries};
 
-use crate::parts::Parts;
+use crate::kept_state::KeptState;
 use crate::turned::Turned;
 use act_rules::Tally;
 use agent_attempt::{Attempt, Found, ReadAction, ReadBlock, Time, due};
@@ -22,7 +22,7 @@ use agent_text::{Histories, Pocket};
 use bf_machine::Machine;
 use std::alloc::Global;
 
-impl Parts {
+impl KeptState {
     /// Marks what isn't relevant any more as cleared, and tries the actions. Before a beginning nothing of the state is changed.
     pub(crate) fn try_actions<M: Machine, P: Pocket>(
         &mut self,
@@ -31,7 +31,7 @@ impl Parts {
         pocket: &mut P,
         time: &Time,
     ) -> Turned
-        requires sound { IsSoundParts self.old }
+        requires sound { IsSoundKept self.old }
         requires free { self.old.held ≡ None }
         requires ended { broken_action (state_of self.old) ≡ None }
         ensures tries { Tries time.now (state_of self.old) (actions_of self.old.sites)
@@ -61,7 +61,7 @@ impl Parts {
         time: &Time,
         marked: &Histories,
     ) -> Result<Option<Attempt>, Turned>
-        requires sound { IsSoundParts self.now }
+        requires sound { IsSoundKept self.now }
         requires marked { AreMarked self.now.histories marked.now }
         ensures { FindsDue time.now (state_of self.now) marked.now (actions_of self.now.sites)
             (M.told machine.old) result (M.told machine.new) }
@@ -83,7 +83,7 @@ impl Parts {
         block: &ReadBlock,
         marked: &Histories,
     ) -> Result<Option<Attempt>, Turned>
-        requires sound { IsSoundParts self.now }
+        requires sound { IsSoundKept self.now }
         requires marked { AreMarked self.now.histories marked.now }
         ensures { FindsDue time.now (state_of self.now) marked.now (filter_map as_action (shown_block block.now ∷ []))
             (M.told machine.old) result (M.told machine.new) }
@@ -103,7 +103,7 @@ impl Parts {
         action: &ReadAction,
         marked: &Histories,
     ) -> Result<Option<Attempt>, Turned>
-        requires sound { IsSoundParts self.now }
+        requires sound { IsSoundKept self.now }
         requires marked { AreMarked self.now.histories marked.now }
         ensures { TriesOne time.now (state_of self.now) marked.now action.now
             (M.told machine.old) result (M.told machine.new) }
@@ -132,7 +132,7 @@ impl Parts {
 
     /// The tally that stands for the rows of an action, marked or not.
     fn tally_for(&self, alloc: Global, action: &ReadAction, marked: &Histories) -> Tally
-        requires sound { IsSoundParts self.now }
+        requires sound { IsSoundKept self.now }
         requires marked { AreMarked self.now.histories marked.now }
         ensures { StandsFor result action.now.rules.retries (rows_at action.now.id marked.now) }
     {
@@ -155,7 +155,7 @@ impl Parts {
             (Finishes any Turned.Idle (with_histories marked (state_of self.old)) (devices machine (P.told pocket.old)))
             result (state_of self.new) (devices machine (P.told pocket.new)) }
         ensures held { (state_of self.new).held ≡ (state_of self.old).held }
-        ensures sound { IsSoundParts self.new }
+        ensures sound { IsSoundKept self.new }
     {
         if !any && !self.can_report() {
             return Turned::Idle;

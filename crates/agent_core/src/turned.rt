@@ -1,7 +1,7 @@
 ghost use Rattle.std.specs.Prelude.{◌≡◌, IfOk};
 
 use act_rules::Outcome;
-use agent_attempt::Fail;
+use agent_attempt::{Fail, copy_fail};
 use std::alloc::AllocError;
 
 /// What a turn of an agent comes to. Ids are those of actions; an attempt is said to have begun where it began in this turn.
@@ -80,14 +80,5 @@ impl Turned {
             Turned::PocketFault => Turned::PocketFault,
             Turned::Memory => Turned::Memory,
         })
-    }
-}
-
-fn copy_fail(fail: &Option<Fail>) -> Result<Option<Fail>, AllocError>
-    ensures { IfOk result (λ copy. copy ≡ fail.now) }
-{
-    match fail {
-        Some(fail) => Ok(Some(fail.copy()?)),
-        None => Ok(None),
     }
 }

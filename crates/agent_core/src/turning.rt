@@ -10,7 +10,7 @@ ghost use Rattle.agent_attempt.specs.ActionContents.{actions_of};
 ghost use Rattle.agent_core.specs.Stops.{Agrees, BothLawful, HaveRules, HeldWaitsBelow, Table, TurnHasCause, TurnIsBacked};
 
 use crate::agent::Agent;
-use crate::parts::Parts;
+use crate::kept_state::KeptState;
 use crate::turned::Turned;
 use act_rules::lawful_rows_stay_lawful;
 use agent_attempt::Time;
@@ -59,11 +59,11 @@ impl Agent {
         one_saved();
         lines_are_read_again();
         let time = Time::new(alloc, moment, offset);
-        self.parts.turn(alloc, machine, pocket, &time)
+        self.kept.turn(alloc, machine, pocket, &time)
     }
 }
 
-impl Parts {
+impl KeptState {
     /// One turn: what stands unsaved is saved, and then the steps come.
     fn turn<M: Machine, P: Pocket>(
         &mut self,
@@ -102,11 +102,11 @@ impl Parts {
             (devices (M.told machine.new) (P.told pocket.new)) }
         ensures sound { AreSoundOn (M.told machine.new).started self.new }
     {
-        if let Some(id) = self.broken() {
-            return self.interrupt(alloc, pocket, id, time);
+        if let Some(id) = self.broken_action() {
+            return self.interrupt_broken(alloc, pocket, id, time);
         }
         match self.held.take() {
-            Some(attempt) => self.resume(alloc, machine, pocket, attempt, time),
+            Some(attempt) => self.resume_held(alloc, machine, pocket, attempt, time),
             None => self.try_actions(alloc, machine, pocket, time),
         }
     }

@@ -9,7 +9,7 @@ use Rattle.std.proofs.lemmas.List.Kept.{AllPairs-filter}
 use Rattle.report_text.specs.Reports.{IsReport}
 use Rattle.agent_text.specs.SavedTexts.{AreOutbox}
 use Rattle.report_text.specs.declared.report.Report.{Report}
-use Rattle.agent_state.proofs.Rising.{Rises, increasing_from_rises, rises_from_increasing, rises_head, rises_tail}
+use Rattle.line_forms.proofs.Rising.{Rises, increasing_from_rises, rises_from_increasing, rises_head, rises_tail}
 use Rattle.agent_state.specs.Changes.{has_report, shown_without, without_report}
 
 abbrev pub seq_of : Report → ℕ

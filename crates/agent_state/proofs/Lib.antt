@@ -1,4 +1,3 @@
-pub mod Rising
 pub mod Dropping
 pub mod RowsAt
 pub mod SiteLists

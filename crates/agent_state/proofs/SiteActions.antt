@@ -21,7 +21,7 @@ use Rattle.agent_attempt.specs.ReadBlocks.{shown_block}
 use Rattle.agent_attempt.specs.ActionContents.{actions_of, as_action, site_actions, site_at}
 use Rattle.agent_state.specs.Changes.{with_site}
 use Rattle.agent_state.specs.States.{AreGathered}
-use Rattle.agent_state.proofs.Rising.{Rises, increasing_from_rises}
+use Rattle.line_forms.proofs.Rising.{Rises, increasing_from_rises}
 
 abbrev pub action_id : Action → ℕ
 action_id action = action.id

@@ -20,7 +20,7 @@ use Rattle.agent_state.specs.declared.tallies.ActionTally.{ActionTally}
 use Rattle.agent_state.specs.Changes.{TalliesRows}
 use Rattle.agent_state.specs.States.{State}
 use Rattle.agent_state.specs.Lookups.{AllStand, PlacesTally, TalliesStand}
-use Rattle.agent_state.proofs.Rising.{Rises, rises_head, rises_tail}
+use Rattle.line_forms.proofs.Rising.{Rises, rises_head, rises_tail}
 
 abbrev pub id_of : ActionTally → ℕ
 id_of tally = tally.action

@@ -1,7 +1,8 @@
 -- An agent's state.
-use Rattle.std.specs.Prelude.{◌≡◌, ◌≢◌, ℕ, ◌+◌, ◌^◌, ◌==◌, ◌&&◌, ◌≤◌, not, nat_lt, ℤ, List, [], ◌∷◌, ◌++◌, length, take, All, Bool, true, false, Option, Some, None, is_none, IsSomeAnd, ⊤}
+use Rattle.std.specs.Prelude.{◌≡◌, ◌≢◌, ℕ, ◌+◌, ◌==◌, ◌&&◌, ◌≤◌, not, nat_lt, ℤ, List, [], ◌∷◌, ◌++◌, length, take, All, Bool, true, false, Option, Some, None, is_none, IsSomeAnd, ⊤}
 use Rattle.std.specs.List.{find}
 use Rattle.std.specs.Option.{option_map}
+use Rattle.line_forms.specs.Numbers.{last_id}
 use Rattle.act_rules.specs.declared.row.Note.{Note}
 use Rattle.act_rules.specs.declared.row.Row.{Row}
 use Rattle.act_rules.specs.declared.row.Outcome.{Outcome}
@@ -9,12 +10,13 @@ use Rattle.act_rules.specs.declared.row.Outcome.TheVariants.{Interrupted}
 use Rattle.act_rules.specs.Rows.{last_row}
 use Rattle.report_text.specs.declared.form.Form.TheVariants.{Two}
 use Rattle.report_text.specs.declared.report.Report.{Report}
-use Rattle.report_text.specs.ReportRows.{no_note}
+use Rattle.report_text.specs.Reports.{most_rows}
+use Rattle.act_rules.specs.Notes.{no_note}
 use Rattle.fix_site.specs.declared.site.Site.{Site}
 use Rattle.fix_site.specs.Sites.{IsSite}
 use Rattle.agent_text.specs.declared.saved.Saved.{Saved}
 use Rattle.agent_text.specs.Histories.{PlainHistory, report_rows, rows_at, with_begun, with_ended, with_reported}
-use Rattle.agent_text.specs.SavedTexts.{IsSaved, saved_text}
+use Rattle.agent_text.specs.SavedTexts.{IsSaved, most_reports, saved_text}
 use Rattle.agent_attempt.specs.Attempts.{PlainAttempt}
 
 -- the name of the computer, the gathered sites, the number of the next report, the attempts of each action and whether it is pending,
@@ -94,15 +96,15 @@ with_beginning action moment s =
 -- ---- reports
 -- An action is pending, there is room in the outbox, and a number is left.
 abbrev pub can_report : State → Bool
-can_report s = nat_lt 0 (length (report_rows s.histories)) && nat_lt (length s.reports) 1000 && nat_lt s.next (2 ^ 53)
+can_report s = nat_lt 0 (length (report_rows s.histories)) && nat_lt (length s.reports) most_reports && nat_lt s.next last_id
 
--- the report that a turn makes: the last rows of the pending actions, at most 500
+-- the report that a turn makes: the last rows of the pending actions, as many as one has
 abbrev pub next_report : State → Report
-next_report s = record { form = Two; computer = s.computer; seq = s.next; rows = take 500 (report_rows s.histories) }
+next_report s = record { form = Two; computer = s.computer; seq = s.next; rows = take most_rows (report_rows s.histories) }
 
 abbrev pub with_report : State → State
 with_report s = record s {
-  histories = with_reported 500 s.histories;
+  histories = with_reported most_rows s.histories;
   reports = s.reports ++ next_report s ∷ [];
   next = s.next + 1;
 }

@@ -10,5 +10,5 @@ mod tallies;
 pub use outbox::Outbox;
 pub use rows::{add_row, is_of_another, is_running, rows_of};
 pub use site_list::{ACTION_SITE, SiteList};
-pub use spare::{MOST_ROWS, Spare};
+pub use spare::Spare;
 pub use tallies::{ActionTally, Tallies};

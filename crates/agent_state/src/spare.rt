@@ -1,4 +1,5 @@
-ghost use Rattle.std.specs.Prelude.{◌≡◌, ◌+◌, ◌*◌, ◌≤◌, min, [], map, vec_capacity, IfOk, IfSome};
+ghost use Rattle.std.specs.Prelude.{◌≡◌, ◌+◌, ◌≤◌, min, [], map, vec_capacity, IfOk, IfSome};
+ghost use Rattle.report_text.specs.Reports.{most_report_bytes, most_rows};
 ghost use Rattle.agent_text.specs.Histories.{shown_history};
 ghost use Rattle.agent_text.specs.SavedTexts.{most_bytes};
 ghost use Rattle.agent_state.specs.Counting.{pending_count};
@@ -6,16 +7,8 @@ ghost use Rattle.agent_state.specs.Counting.{pending_count};
 use agent_text::{Histories, History, saved_size};
 use desk_base::Room;
 use rel_lexer::Text;
-use report_text::{Report, ReportRow};
+use report_text::{MOST_ROWS, Report, ReportRow, report_size};
 use std::alloc::{AllocError, Global};
-
-/// The most rows of a report.
-pub const MOST_ROWS: usize = 500;
-
-/// The most bytes of the first three lines of a report and its last, and of the line of a row.
-const LONGEST_HEAD: usize = 108;
-
-const LONGEST_ROW: usize = 113;
 
 /// What the end of a turn takes, taken before anything that can't be undone: a report without rows, with room for them, and room for
 /// a saved text.
@@ -40,9 +33,9 @@ impl Spare {
     ) -> Result<Spare, AllocError>
         ensures computer { IfOk result (λ spare. spare.computer ≡ computer.now) }
         ensures empty { IfOk result (λ spare. spare.rows.items ≡ []) }
-        ensures rows { IfOk result (λ spare. min 500 (pending_count histories.now + 1) ≤ vec_capacity spare.rows) }
+        ensures rows { IfOk result (λ spare. min most_rows (pending_count histories.now + 1) ≤ vec_capacity spare.rows) }
         ensures text { IfOk result (λ spare.
-            most_bytes histories.now reports.now + (108 + 113 * min 500 (pending_count histories.now + 1)) ≤ spare.text.capacity) }
+            most_bytes histories.now reports.now + most_report_bytes (min most_rows (pending_count histories.now + 1)) ≤ spare.text.capacity) }
     {
         let rows = pending_count(histories.as_slice())
             .saturating_add(1)
@@ -67,8 +60,8 @@ fn pending_count(histories: &[History]) -> usize
 
 /// The most bytes of the text with one report more of so many rows.
 fn text_size(histories: &Histories, reports: &[Report], rows: usize) -> Option<usize>
-    ensures { IfSome result (λ size. size ≡ most_bytes histories.now reports.now + (108 + 113 * rows)) }
+    ensures { IfSome result (λ size. size ≡ most_bytes histories.now reports.now + most_report_bytes rows) }
 {
-    let report = LONGEST_HEAD.checked_add(LONGEST_ROW.checked_mul(rows)?)?;
+    let report = report_size(rows)?;
     saved_size(histories, reports)?.checked_add(report)
 }

@@ -15,7 +15,7 @@ returns-in-Some g c =
     let scene = c.scene.result.now in
     let world = (g.M.Machine.told c.args.machine.now).world in
     asks_question c.args.time.now c.args.self.now plan scene _ _ c.truth.result c.of.result
-    (read_some c.self.inside.text c.args.self.now c.self.inside.question c.in-Some.question c.self.view_is c.in-Some.is c.self.invariant) c.scene.ensures.value
+    (read_some c.self.inside.text c.args.self.now c.self.inside.question c.in-Some.question c.self.view_is c.in-Some.is c.self.invariant) c.scene.ensures
     (judges_question (is_plural plan) world scene plan _ _ _ (λ p. let h = e.plural p in (h.0, ap (λ m. (g.M.Machine.told m).looked) h.1))
     (λ p. judges_kind (same_kind (kind_of plan) booleans) world scene plan _ _ _ (λ s. let h = e.other p s in (h.0, ap (λ m. (g.M.Machine.told m).looked) h.1)) (e.judges p)))
     e.looks e.cause c.of.ensures

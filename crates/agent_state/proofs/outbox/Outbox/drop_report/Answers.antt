@@ -4,7 +4,7 @@ use Rattle.std.specs.List.Sorted.{IsStrictlyIncreasing}
 use Rattle.std.proofs.lemmas.Bool.{eqb-true}
 use Rattle.std.proofs.lemmas.List.Quantifiers.{position-Some}
 use Rattle.report_text.specs.declared.report.Report.{Report}
-use Rattle.agent_state.proofs.Rising.{Rises, rises_from_increasing}
+use Rattle.line_forms.proofs.Rising.{Rises, rises_from_increasing}
 use Rattle.agent_state.specs.Changes.{shown_without}
 use Rattle.agent_state.specs.Outboxes.{DropsReport, OutboxState}
 use Rattle.agent_state.proofs.Dropping.{seq_of, has_there, none_there, shown_before, shown_there, without_there}

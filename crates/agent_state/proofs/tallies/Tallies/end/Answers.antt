@@ -5,7 +5,7 @@ use Rattle.act_rules.specs.Tallies.{StandsFor}
 use Rattle.agent_text.specs.Histories.{PlainHistory, rows_at, with_history}
 use Rattle.agent_state.specs.declared.tallies.ActionTally.{ActionTally}
 use Rattle.agent_state.specs.Lookups.{TalliesStand}
-use Rattle.agent_state.proofs.Rising.{rises_from_increasing}
+use Rattle.line_forms.proofs.Rising.{rises_from_increasing}
 use Rattle.agent_state.proofs.RowsAt.{are_rows, rows_here, rows_other}
 use Rattle.agent_state.proofs.TallyLists.{id_of, ids_set, stand_changed, stand_others}
 use Rattle.agent_state.proofs.tallies.Tallies.end.Goals as goal

@@ -1,7 +1,7 @@
 use Rattle.std.proofs.Common.{◌≡◌, List, get_or, map, ap, subst, ◌∙◌}
 use Rattle.std.specs.List.Sorted.{IsStrictlyIncreasing}
 use Rattle.agent_state.specs.declared.tallies.ActionTally.{ActionTally}
-use Rattle.agent_state.proofs.Rising.{rises_from_increasing}
+use Rattle.line_forms.proofs.Rising.{rises_from_increasing}
 use Rattle.agent_state.proofs.TallyLists.{finds_none, finds_there, id_of}
 use Rattle.agent_state.proofs.tallies.Tallies.get.Goals as goal
 

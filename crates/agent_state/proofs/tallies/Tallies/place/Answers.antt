@@ -3,7 +3,7 @@ use Rattle.std.specs.Ordering.{nat_cmp}
 use Rattle.std.proofs.lemmas.Fn.{always_returns_same}
 use Rattle.agent_state.specs.declared.tallies.ActionTally.{ActionTally}
 use Rattle.agent_state.specs.Lookups.{PlacesTally}
-use Rattle.agent_state.proofs.Rising.{rises_from_increasing}
+use Rattle.line_forms.proofs.Rising.{rises_from_increasing}
 use Rattle.agent_state.proofs.TallyLists.{id_of, places_tally}
 use Rattle.agent_state.proofs.tallies.Tallies.place.Goals as goal
 
