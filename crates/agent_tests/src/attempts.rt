@@ -142,7 +142,7 @@ fn place(alloc: Global, fail: &Fail, said: &mut Text) -> Option<()> {
 }
 
 fn say(alloc: Global, went: &Went, said: &mut Text) -> Option<()> {
-    match went {
+    match &went.copy().ok()? {
         Went::Held { .. } => said.push("held, ").ok(),
         Went::Wants { .. } => said.push("wants, ").ok(),
         Went::Ended { fail: None, .. } => said.push("fixed").ok(),
@@ -204,10 +204,9 @@ fn attempted(
     time: &Time,
     said: &mut Text,
 ) -> Option<()> {
-    let Content::Baseline(site, baseline) = content else {
+    let Content::Baseline(_) = content else {
         return None;
     };
-    let content = Content::Baseline(site, baseline);
     let mut attempt = Attempt::begin(alloc, action, content, 1, 60).ok()?;
     let done = steps(alloc, &mut attempt, machine, time, said);
     drop(attempt);

@@ -1,4 +1,4 @@
-use agent_text::{Loaded, MemoryPocket, Pocket, SaveResult};
+use agent_text::{Loaded, MemoryPocket, Pocket, SaveResult, SurePocket};
 use rel_lexer::Text;
 use std::mem::drop;
 use std::test::Fail;
@@ -26,7 +26,7 @@ fn copied(loaded: &Loaded) -> &'static str {
 }
 
 /// What a load answers, in a word, as a copy of it tells.
-fn loaded(pocket: &mut MemoryPocket) -> &'static str {
+fn loaded<P: Pocket>(pocket: &mut P) -> &'static str {
     let loaded = pocket.load();
     let name = copied(&loaded);
     drop(loaded);
@@ -34,7 +34,7 @@ fn loaded(pocket: &mut MemoryPocket) -> &'static str {
 }
 
 /// What a save answers, in a word.
-fn saved(pocket: &mut MemoryPocket, text: &[u8]) -> &'static str {
+fn saved<P: Pocket>(pocket: &mut P, text: &[u8]) -> &'static str {
     match pocket.save(text) {
         SaveResult::Done => "done",
         SaveResult::Failed => "failed",
@@ -55,6 +55,17 @@ fn a_pocket_holds_the_last_text(rt: HostRuntime) -> Result<(), Fail> {
     assert_eq!(rt; saved(&mut pocket, b"one"), "done");
     assert_eq!(rt; saved(&mut pocket, b"two"), "failed");
     assert_eq!(rt; loaded(&mut pocket), "one");
+    assert_eq!(rt; saved(&mut pocket, b"two"), "done");
+    assert_eq!(rt; loaded(&mut pocket), "two");
+    assert_eq!(rt; pocket.text().is_some(), true);
+    Ok(())
+}
+
+#[test]
+fn a_pocket_that_never_fails_holds_the_last_text(rt: HostRuntime) -> Result<(), Fail> {
+    let mut pocket = SurePocket::new(rt.alloc());
+    assert_eq!(rt; loaded(&mut pocket), "nothing");
+    assert_eq!(rt; saved(&mut pocket, b"one"), "done");
     assert_eq!(rt; saved(&mut pocket, b"two"), "done");
     assert_eq!(rt; loaded(&mut pocket), "two");
     assert_eq!(rt; pocket.text().is_some(), true);

@@ -1,11 +1,11 @@
-use act_rules::Outcome;
+use act_rules::{NO_NOTE, Outcome};
 use desk_base::{Bytes, Room};
 use line_forms::{Fields, Lines};
 use report_text::{
-    Form, ReportError, ReportRows, a_report_is_read_again, digest, fill_component, fill_end,
-    fill_exit, fill_line, fill_row_fields, one_report, outcome_field, read_attempt, read_end,
-    read_exit, read_outcome, read_place, read_report, read_row, read_row_fields, reports_are_short,
-    take_report, take_row, write_report, write_row_fields,
+    Form, MOST_ROWS, ReportError, ReportRows, a_report_is_read_again, digest, fill_end, fill_note,
+    fill_row_fields, is_note_at, one_report, outcome_field, read_attempt, read_end, read_form,
+    read_outcome, read_report, read_row, read_row_fields, read_seq, report_size, reports_are_short,
+    take_note, take_report, take_row, take_rows, write_report, write_row_fields,
 };
 use std::alloc::Global;
 use std::test::Fail;
@@ -89,9 +89,33 @@ fn fields_of_a_row_are_read(rt: HostRuntime) {
         true
     );
     assert_eq!(rt; read_end(b"running", b"5").is_none(), true);
-    assert_eq!(rt; read_exit(b"-1"), Some(Some(-1)));
-    assert_eq!(rt; read_place(b"0", b"9"), Some(Some((0, 9))));
-    assert_eq!(rt; read_place(b"-", b"9"), None);
+    assert_eq!(rt; matches!(read_form(b"report 2"), Some(Form::Two)), true);
+    assert_eq!(rt; read_seq(b"seq 07"), None);
+}
+
+#[test]
+fn a_note_is_taken_from_its_fields(rt: HostRuntime) {
+    let mut fields = Fields::new(b"-1 0 9 more");
+    let note = take_note(Form::Two, &mut fields);
+    assert_eq!(rt; note.map(|note| note.exit), Some(Some(-1)));
+    assert_eq!(rt; note.map(|note| note.place), Some(Some((0, 9))));
+    assert_eq!(rt; fields.take_field(), Some(b"more".as_slice()));
+    let failed = Some((1060, Outcome::Failed));
+    assert_eq!(rt; note.map(|note| is_note_at(failed, note)), Some(true));
+    assert_eq!(rt; is_note_at(failed, NO_NOTE), false);
+    let mut half = Fields::new(b"1 - 9");
+    assert_eq!(rt; take_note(Form::Two, &mut half).is_none(), true);
+}
+
+#[test]
+fn rows_are_taken_as_far_as_they_go(rt: HostRuntime) -> Result<(), Fail> {
+    let text = b"row 7 1 running 5 -\nrow 9 1 running 5 -\nrow 9 2 running 6 -\n";
+    let mut lines = Lines::new(text);
+    let rows = take_rows(rt.alloc(), Form::One, &mut lines)?;
+    assert_eq!(rt; rows.as_slice().len(), 2);
+    assert_eq!(rt; lines.number(), 3);
+    assert_eq!(rt; report_size(MOST_ROWS), Some(56_608));
+    Ok(())
 }
 
 #[test]
@@ -110,12 +134,10 @@ fn a_row_is_taken_from_its_fields(rt: HostRuntime) {
 
 #[test]
 fn fields_are_written_into_given_room(rt: HostRuntime) -> Result<(), Fail> {
-    let mut room = Room::with_capacity(rt.alloc(), 4)?;
+    let mut room = Room::with_capacity(rt.alloc(), 7)?;
     fill_end(None, &mut room);
-    fill_exit(None, &mut room);
-    fill_component(None, &mut room);
-    fill_line(None, &mut room);
-    assert_eq!(rt; room.as_slice(), b"----".as_slice());
+    fill_note(NO_NOTE, &mut room);
+    assert_eq!(rt; room.as_slice(), b"- - - -".as_slice());
     Ok(())
 }
 

@@ -3,16 +3,11 @@ ghost use Rattle.desk_base.specs.Moments.{IsMoment};
 ghost use Rattle.act_rules.specs.Rows.{last_row, HasEnded};
 
 use act_rules::{
-    Hours, Note, Outcome, Reapply, Row, Rows, Rules, Status, Tally, a_tally_counts_ended_rows,
+    Hours, NO_NOTE, Outcome, Reapply, Row, Rows, Rules, Status, Tally, a_tally_counts_ended_rows,
     lawful_rows, lawful_rows_stay_lawful, owed, status, window,
 };
 use desk_base::LAST_MOMENT;
 use std::test::Fail;
-
-const NO_NOTE: Note = Note {
-    exit: None,
-    place: None,
-};
 
 /// Rules without conditions.
 fn free_rules() -> Rules {

@@ -46,7 +46,8 @@ fn a_source_is_read_to_its_end(rt: HostRuntime) -> Result<(), Fail> {
     let mut room = [0u8; 2];
     let reads = [source.read(&mut room), source.read(&mut room)].map(count);
     assert_eq!(rt; reads, [2, 200]);
-    let Whole::Read(rest) = read_all(alloc, &mut source, 3) else {
+    let whole = read_all(alloc, &mut source, 3);
+    let Whole::Read(rest) = whole.copy()? else {
         return Err("not read".into());
     };
     assert_eq!(rt; rest.as_slice(), b"345".as_slice());

@@ -1,6 +1,4 @@
 //! A described machine, and a moment at which it is asked.
-ghost use Rattle.desk_base.specs.Moments.{IsMoment};
-ghost use Rattle.line_forms.specs.Numbers.{IsOffset};
 
 use bf_machine::{Key, PlainMachine, read_world};
 use rel_inspect::{Pairs, Scene};
@@ -27,10 +25,7 @@ pub(crate) fn machine(alloc: Global, fails: &[u32]) -> Option<PlainMachine> {
 }
 
 /// Its own moment and offset, with no parameters and no exit code.
-pub(crate) fn scene(alloc: Global) -> Scene
-    ensures moment { IsMoment result.moment }
-    ensures offset { IsOffset result.offset }
-{
+pub(crate) fn scene(alloc: Global) -> Scene {
     Scene {
         moment: 1_173_053_048,
         offset: -480,

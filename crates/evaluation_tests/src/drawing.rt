@@ -44,7 +44,7 @@ fn push_pull(
     machine: &mut PlainMachine,
     drawn: &mut String,
 ) -> Result<(), Fail> {
-    match cursor.pull(machine) {
+    match cursor.pull(machine).copy()? {
         Pulled::Value(value) => {
             let pushed = push_value(alloc, drawn, &value);
             drop(value);
@@ -231,7 +231,7 @@ fn push_asked(
     push_truth(text, truth(alloc, question, machine, &scene))?;
     let mut taker = Wanted { left: 2 };
     push_end(text, question.answer(alloc, machine, &scene, &mut taker))?;
-    push_one_text(text, &one_text(alloc, question, machine, &scene))?;
+    push_one_text(text, &one_text(alloc, question, machine, &scene).copy()?)?;
     write!(text, " {} {}", taker.left, question.span().to)?;
     Ok(())
 }

@@ -1,6 +1,4 @@
 //! The events of a question in their order, worked out by hand. No command tells them.
-ghost use Rattle.desk_base.specs.Moments.{IsMoment};
-ghost use Rattle.line_forms.specs.Numbers.{IsOffset};
 
 use crate::described::{machine, scene};
 use bf_machine::PlainMachine;
@@ -29,10 +27,7 @@ fn events(
     scene: &Scene,
     machine: &mut PlainMachine,
     events: &mut String,
-) -> Result<(), Fail>
-    requires moment { IsMoment scene.now.moment }
-    requires offset { IsOffset scene.now.offset }
-{
+) -> Result<(), Fail> {
     let mut left = 0;
     for _ in 0..100 {
         match node.step(alloc, &ALONE, scene, machine, &mut left) {
@@ -63,10 +58,7 @@ fn both_events(
     scene: &Scene,
     machine: &mut PlainMachine,
     found: &mut String,
-) -> Result<(), Fail>
-    requires moment { IsMoment scene.now.moment }
-    requires offset { IsOffset scene.now.offset }
-{
+) -> Result<(), Fail> {
     events(alloc, node, scene, machine, found)?;
     events(alloc, node, scene, machine, found)
 }

@@ -1,9 +1,10 @@
 //! A run of lines over a described machine and a stepping clock, worked out by hand, and what is said of errors.
 use bf_machine::{Key, PlainMachine, World, read_world};
 use desk_base::{Bytes, MemorySink, StepClock};
-use rel_eval::{RelKind, prepare, write_place};
-use rel_lexer::{Place, Text};
-use rel_session::{Asking, Halt, answer_lines, put, say_error, say_undefined};
+use rel_eval::{Located, RelKind, prepare, prepare_tree, write_place};
+use rel_grammar::parse;
+use rel_lexer::{Place, Text, tokens};
+use rel_session::{Asking, Halt, PlainReader, answer_lines, put, say_error, say_undefined};
 use std::alloc::{AllocError, Global};
 use std::mem::drop;
 
@@ -50,7 +51,9 @@ fn tell_run(
         moment: None,
     };
     let mut sink = MemorySink::new(alloc, Vec::new(alloc));
-    let end = answer_lines(alloc, input, asking, &mut sink, machine, clock);
+    let end = answer_lines::<PlainReader, MemorySink, PlainMachine, StepClock>(
+        alloc, input, asking, &mut sink, machine, clock,
+    );
     told.extend(sink.as_slice())?;
     told.extend(match end {
         Ok(()) => b"done;".as_slice(),
@@ -116,11 +119,33 @@ fn errors_are_said(rt: HostRuntime) -> Result<(), AllocError> {
     Ok(())
 }
 
+/// The refusal of a tree, located.
+fn tree_refusal(alloc: Global, text: &[u8]) -> Option<Located> {
+    let tokens = tokens(alloc, text).ok()?;
+    let tree = parse(alloc, &tokens).ok()?;
+    match prepare_tree(alloc, &tree) {
+        Ok(_) => None,
+        Err(refusal) => refusal.located(),
+    }
+}
+
+#[test]
+fn a_tree_is_refused_as_its_text(rt: HostRuntime) {
+    assert!(rt; tree_refusal(rt.alloc(), b"1 + 2").is_none());
+    let Some(found) = tree_refusal(rt.alloc(), b"1 + printers") else {
+        assert!(rt; false);
+        return;
+    };
+    assert!(rt; found.kind == RelKind::NotDefined);
+    assert_eq!(rt; found.place.from, 4);
+    assert_eq!(rt; found.place.to, 12);
+}
+
 #[test]
 fn a_refusal_is_located_and_its_place_is_written(rt: HostRuntime) -> Result<(), AllocError> {
     let found = match prepare(rt.alloc(), b"1 + printers") {
         Ok(_) => None,
-        Err(refusal) => refusal.located(),
+        Err(refusal) => refusal.copy()?.located(),
     };
     let mut out = Bytes::from_slice(rt.alloc(), b"at ")?;
     if let Some(found) = found {

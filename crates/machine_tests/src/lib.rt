@@ -8,6 +8,8 @@ mod machines;
 #[cfg(test)]
 mod sources;
 #[cfg(test)]
+mod sure_machines;
+#[cfg(test)]
 mod walks;
 #[cfg(test)]
 mod world_texts;

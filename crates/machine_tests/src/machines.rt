@@ -45,7 +45,7 @@ fn look<M: Machine>(machine: &mut M, key: &Key) -> Looked {
 /// The size and moment of a file; a size of -1 stands for a folder, -2 for nothing.
 fn stat(alloc: Global, machine: &mut PlainMachine, path: &str) -> Option<(i64, i64)> {
     let key = Key::Stat(text(alloc, path)?);
-    match look(machine, &key) {
+    match look(machine, &key).copy().ok()? {
         Looked::Answer(Answer::File { size, modified }) => Some((size, modified)),
         Looked::Answer(Answer::Folder) => Some((-1, 0)),
         Looked::Answer(Answer::Nothing) => Some((-2, 0)),

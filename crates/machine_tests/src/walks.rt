@@ -1,7 +1,6 @@
 // What no question shows: failed looks of a described machine, and the parameters and the exit code of an action. The size is that
 // of the bytes written here.
 ghost use Rattle.std.specs.Prelude.{◌≡◌, IfSome};
-ghost use Rattle.desk_base.specs.Moments.{IsMoment};
 ghost use Rattle.rel_inspect.specs.Left.{IsSoundWalk};
 ghost use Rattle.rel_value.specs.Operands.{IsSound};
 ghost use Rattle.rel_value.specs.Views.{shown};
@@ -50,9 +49,7 @@ fn words(alloc: Global, bytes: &str) -> Option<Value>
 }
 
 /// A scene in which the parameter `a` is `1` and the exit code is 3.
-fn scene(alloc: Global) -> Option<Scene>
-    ensures { IfSome result (λ s. IsMoment s.moment) }
-{
+fn scene(alloc: Global) -> Option<Scene> {
     let mut parameters = Pairs::new(alloc);
     parameters.push(text(alloc, "a")?, text(alloc, "1")?).ok()?;
     Some(Scene {
@@ -66,7 +63,6 @@ fn scene(alloc: Global) -> Option<Scene>
 /// The integer that the next step of a walk gives.
 fn integer_of(walk: &mut Walk, machine: &mut PlainMachine, scene: &Scene) -> Option<i64>
     requires walk { IsSoundWalk walk.old }
-    requires moment { IsMoment scene.now.moment }
 {
     match walk.step(machine, scene) {
         WalkStep::Give(Value::Integer(integer)) => Some(integer),
@@ -83,7 +79,6 @@ fn write_event(
     events: &mut String,
 ) -> Option<()>
     requires walk { IsSoundWalk walk.old }
-    requires moment { IsMoment scene.now.moment }
     ensures { IsSoundWalk walk.new }
 {
     let event = match walk.next_event(machine, scene, room) {
@@ -102,7 +97,6 @@ fn size_of(
     events: &mut String,
 ) -> Option<i64>
     requires walk { IsSoundWalk walk.old }
-    requires moment { IsMoment scene.now.moment }
 {
     write_event(walk, machine, scene, false, events)?;
     write_event(walk, machine, scene, true, events)?;
@@ -115,9 +109,7 @@ fn size_in(
     machine: &mut PlainMachine,
     scene: &Scene,
     events: &mut String,
-) -> Option<i64>
-    requires moment { IsMoment scene.now.moment }
-{
+) -> Option<i64> {
     let file = Value::File(text(alloc, "one")?);
     let begun = inspect(alloc, PropertyId::Size, None, Some(&file));
     drop(file);
@@ -158,9 +150,7 @@ fn a_failed_look_is_made_again(rt: HostRuntime) {
 }
 
 /// The exit code of the action.
-fn exit_code(alloc: Global, machine: &mut PlainMachine, scene: &Scene) -> Option<i64>
-    requires moment { IsMoment scene.now.moment }
-{
+fn exit_code(alloc: Global, machine: &mut PlainMachine, scene: &Scene) -> Option<i64> {
     let Ok(mut walk) = inspect(alloc, PropertyId::ExitCode, None, Some(&Value::Action)) else {
         return None;
     };
@@ -183,9 +173,7 @@ fn gives_parameter(
     machine: &mut PlainMachine,
     scene: &Scene,
     wanted: &str,
-) -> Option<bool>
-    requires moment { IsMoment scene.now.moment }
-{
+) -> Option<bool> {
     let name = words(alloc, "a")?;
     let begun = inspect(alloc, PropertyId::Parameter, Some(&name), None);
     drop(name);

@@ -273,7 +273,12 @@ fn a_list_of_requests_is_answered(rt: HostRuntime) -> Result<(), Fail> {
     for said in [Said::Act(ACTION_7), Said::Stop(7), Said::Stop(7)] {
         requests.push(request(alloc, said)?)?;
     }
-    let replies = answer_all(alloc, &Server::new(AMPLE), &mut keeper, requests.as_slice())?;
+    let replies = answer_all(
+        alloc,
+        &Server::new(Limits::of_the_desk()),
+        &mut keeper,
+        requests.as_slice(),
+    )?;
     assert!(rt; matches!(replies.as_slice(), [Reply::Ok, Reply::Ok, Reply::Again]));
     Ok(())
 }

@@ -64,7 +64,9 @@ pub fn answered<K: Keeper>(
     keeper: &mut K,
     request: &Request,
 ) -> Result<String, Fail> {
-    let reply = Server::new(limits).answer(alloc, keeper, request);
+    let reply = Server::new(limits)
+        .answer(alloc, keeper, &request.copy()?)
+        .copy()?;
     let mut out = Bytes::new(alloc);
     say_reply(&reply, &mut out)?;
     Ok(String::from_utf8(Vec::from_slice(alloc, out.as_slice())?)?)
