@@ -1,0 +1,11 @@
+mod Carriers
+mod Lists
+mod Names
+mod Rights
+mod Growing
+mod Mails
+mod Accepting
+mod Carrying
+mod Arriving
+mod Stepping
+mod Reaching

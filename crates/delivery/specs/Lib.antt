@@ -1,0 +1,4 @@
+pub mod Messages
+pub mod Arrivals
+pub mod Schedules
+pub mod Holdings
