@@ -17,3 +17,4 @@ pub mod NextParts
 pub mod OnePart
 pub mod OneVerdict
 pub mod Bounds
+pub mod PrefetchCounts
