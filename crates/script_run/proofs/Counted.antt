@@ -1,5 +1,5 @@
 -- What results count: the commands among them, and that a line fails for a fault of the machine only where there is one.
-use Rattle.std.proofs.Common.{◌≡◌, ◌≢◌, ℕ, ◌+◌, ◌-◌, ◌^◌, ◌≤◌, max, min, List, [], ◌∷◌, ◌++◌, refl, sym, ap, ◌∙◌, append_assoc, append-nil, ◌⊎◌, inl, inr, arith}
+use Rattle.std.proofs.Common.{◌≡◌, ◌≢◌, ℕ, ◌+◌, ◌-◌, ◌^◌, ◌≤◌, max, min, List, [], ◌∷◌, ◌++◌, Option, refl, sym, ap, subst, ◌∙◌, append_assoc, append-nil, ◌⊎◌, inl, inr, arith}
 use Rattle.desk_base.specs.Counts.{Rose}
 use Rattle.bf_machine.specs.Rises.{RoseBy}
 use Rattle.bf_machine.specs.Views.{MachineView}
@@ -7,12 +7,11 @@ use Rattle.rel_sources.specs.declared.pair.Pair.{Pair}
 use Rattle.script_text.specs.Scripts.{PlainScript}
 use Rattle.script_run.specs.declared.cause.Cause.TheVariants.{MachineFault}
 use Rattle.script_run.specs.declared.ran.Ran.TheVariants.{Failed as FailedAt}
-use Rattle.script_run.specs.declared.run.Run.{Run}
-use Rattle.script_run.specs.Walks.{Known, Settled, said, judged, acted, polled, fault_in, faults_in, Next, Says, Tests, Pauses, Does, Polls, Fails, Walk}
+use Rattle.script_run.specs.Walks.{Known, Settled, supplied, said, judged, acted, polled, fault_in, faults_in, Next, Wants, Says, Tests, Pauses, Does, Polls, Fails, Walk}
 use Rattle.script_run.specs.ScriptWalks.{given_known, standing, next, after, command_of, commands_in, commands}
 use Rattle.script_run.specs.Asking.{When}
 use Rattle.script_run.specs.RunSteps.{Settles, Comes, Any}
-use Rattle.script_run.specs.Advances.{GoesOn}
+use Rattle.script_run.specs.Advances.{Advances}
 use Rattle.script_run.proofs.Faults.{CanCome, Counts, script_counts}
 
 -- ---- commands
@@ -55,16 +54,21 @@ some_rose n x y some rose = rises (2 ^ 64 - 1) n x y some rose
     rises : (last n x y : ℕ) → n ≢ 0 → max x (min (x + n) last) ≤ y → max x (min (x + 1) last) ≤ y
     rises last n x y p q = grind arith
 
-pub machine_fault_counted : (at : When) (script : PlainScript) (given : List Pair) (settled : List Settled) (old : MachineView) (n : ℕ) (new : MachineView) (run : Run) →
-    GoesOn at script given settled old (FailedAt n MachineFault) new run → Rose old.faults new.faults ⊎ (next script given settled ≡ Fails n MachineFault)
-machine_fault_counted at script given settled old n new run h =
+pub fault_counted : (at : When) (script : PlainScript) (given : List Pair) (settled : List Settled) (old : MachineView) (n : ℕ) (new : MachineView) (left : Walk) →
+    Advances at old (after script given settled) (FailedAt n MachineFault) new left → Rose old.faults new.faults ⊎ (next script given settled ≡ Fails n MachineFault)
+fault_counted at script given settled old n new left a =
     let f : Walk = standing script given in
     let counts : Counts f = script_counts script (given_known given) in
     let later : Counts (after script given settled) = (λ more result m can is. counts (settled ++ more) result m can (ap (λ l. (f l).next) (append_assoc settled more (result ∷ [])) ∙ is)) in
-    let a = h.advances in
     let is : (after script given settled a.results).next ≡ Fails n MachineFault = ap (λ l. (after script given settled l).next) (sym (append-nil a.results)) ∙ a.stops.0 in
     counted (comes_count at old (after script given settled) a.results a.between n later a.comes is)
   where
-    counted : (faults_in h.advances.results ≢ 0) ⊎ ((after script given settled []).next ≡ Fails n MachineFault) → Rose old.faults new.faults ⊎ (next script given settled ≡ Fails n MachineFault)
-    counted (inl some) = inl (some_rose (faults_in h.advances.results) old.faults new.faults some h.advances.faults.rose)
+    counted : (faults_in a.results ≢ 0) ⊎ ((after script given settled []).next ≡ Fails n MachineFault) → Rose old.faults new.faults ⊎ (next script given settled ≡ Fails n MachineFault)
+    counted (inl some) = inl (some_rose (faults_in a.results) old.faults new.faults some a.faults.rose)
     counted (inr before) = inr (ap (λ l. (standing script given l).next) (sym (append-nil settled)) ∙ before)
+
+-- a file that comes is no fault
+pub supply_counted : (script : PlainScript) (given : List Pair) (settled : List Settled) (wanting : ℕ) (digest : List ℕ) (bytes : Option (List ℕ)) (n : ℕ) →
+    next script given settled ≡ Wants wanting digest → next script given (settled ++ supplied bytes ∷ []) ≢ Fails n MachineFault
+supply_counted script given settled wanting digest bytes n wants is =
+    script_counts script (given_known given) settled (supplied bytes) n (subst (λ (x : Next). CanCome x (supplied bytes)) (sym wants) tt) is refl

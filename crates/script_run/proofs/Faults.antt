@@ -1,5 +1,6 @@
 -- The result before a fault of the machine is one: no other makes a line fail for it.
 use Rattle.std.proofs.Common.{◌≡◌, ◌≢◌, ◌==◌, ℕ, ℤ, pos, Bool, true, false, if◌then◌else◌, is_some, List, [], ◌∷◌, ◌++◌, length, codes, Option, Some, None, refl, ◌⊎◌, inl, inr, arith}
+use Rattle.std.specs.Prelude.{⊤}
 use Rattle.std.specs.Str.{bytes_eq}
 use Rattle.hex.specs.Hex.{encode_lower}
 use Rattle.sha1.specs.Sha1.{sha1}
@@ -26,7 +27,7 @@ use Rattle.script_text.specs.Trees.{PlainStatement, act, choice, Statements, no_
 use Rattle.script_text.specs.Scripts.{PlainScript}
 use Rattle.script_run.specs.declared.cause.Cause.{Cause}
 use Rattle.script_run.specs.declared.cause.Cause.TheVariants.{NotContinued, MachineFault, ParameterTwice, WrongSize, WrongDigest, NotServed, BadDate}
-use Rattle.script_run.specs.Walks.{Known, Settled, supplied, said, judged, acted, polled, fault_in, Next, Says, Tests, Pauses, Does, Polls, Fails, Walk, Rest, ending, failing, after_text, saying, after_truth, testing, pausing, after_act, acting, doing, with_exit, after_poll, polling, awaiting}
+use Rattle.script_run.specs.Walks.{Known, Settled, supplied, said, judged, acted, polled, fault_in, Next, Wants, Says, Tests, Pauses, Does, Polls, Fails, Walk, Rest, ending, failing, after_text, saying, after_truth, testing, pausing, after_act, acting, doing, with_exit, after_poll, polling, awaiting}
 use Rattle.script_run.specs.LineWalks.{filling, filled, lining, ended, with_parameter, setting, timed, dated, line_walk, placing, after_supply, fetching}
 use Rattle.script_run.specs.ScriptWalks.{walk, walk_all, walk_arms, fetch_all, script_walk}
 
@@ -37,6 +38,7 @@ CanCome (Tests n text) (judged answer) = answer ≢ truth.Memory
 CanCome (Pauses n text) (judged answer) = (answer ≢ truth.Memory) × (answer ≢ truth.True)
 CanCome (Does n midway command) (acted answer) = answer ≢ of_act.Memory
 CanCome (Polls n process) (polled answer) = answer ≢ of_poll.Running
+CanCome (Wants n digest) (supplied bytes) = ⊤
 CanCome _ _ = ⊥
 
 -- no fault of the machine comes next
@@ -239,6 +241,10 @@ one_counts_all : (b : Bool) (f g : Rest) → CountsAll f → CountsAll g → Cou
 one_counts_all true f g p q = p
 one_counts_all false f g p q = q
 
+one_begins_all : (b : Bool) (f g : Rest) → BeginsAll f → BeginsAll g → BeginsAll (if b then f else g)
+one_begins_all true f g p q = p
+one_begins_all false f g p q = q
+
 placing_counts : (fetch : Prefetch) (bytes : List ℕ) (rest : Rest) → Honest rest → CountsAll (placing fetch bytes rest)
 placing_counts fetch bytes rest h =
     one_counts_all (length bytes == fetch.size) _ (failing fetch.line (WrongSize fetch.size (length bytes)))
@@ -253,7 +259,22 @@ after_supply_counts : (fetch : Prefetch) (rest : Rest) (bytes : Option (List ℕ
 after_supply_counts fetch rest None h = failing_counts fetch.line (NotServed fetch.sha256)
 after_supply_counts fetch rest (Some bytes) h = placing_counts fetch bytes rest h
 
+placing_begins : (fetch : Prefetch) (bytes : List ℕ) (rest : Rest) → Honest rest → BeginsAll (placing fetch bytes rest)
+placing_begins fetch bytes rest h =
+    one_begins_all (length bytes == fetch.size) _ (failing fetch.line (WrongSize fetch.size (length bytes)))
+    (one_begins_all (bytes_eq (sha1 bytes) fetch.sha1) _ (failing fetch.line (WrongDigest (encode_lower fetch.sha1) (encode_lower (sha1 bytes))))
+    (one_begins_all (bytes_eq (sha256 bytes) fetch.sha256) (doing fetch.line false (command.Place fetch.name bytes) rest)
+    (failing fetch.line (WrongDigest (encode_lower fetch.sha256) (encode_lower (sha256 bytes))))
+    (doing_honest fetch.line false (command.Place fetch.name bytes) rest h).begins (λ known m is. absurd (cc)))
+    (λ known m is. absurd (cc)))
+    (λ known m is. absurd (cc))
+
+after_supply_begins : (fetch : Prefetch) (rest : Rest) (bytes : Option (List ℕ)) → Honest rest → BeginsAll (after_supply fetch rest bytes)
+after_supply_begins fetch rest None h = λ known m is. absurd (cc)
+after_supply_begins fetch rest (Some bytes) h = placing_begins fetch bytes rest h
+
 fetching_counts : (fetch : Prefetch) (rest : Rest) → Honest rest → CountsAll (fetching fetch rest)
+fetching_counts fetch rest h known [] (supplied bytes) m can is = absurd (after_supply_begins fetch rest bytes h known m is)
 fetching_counts fetch rest h known [] result m can is = absurd can
 fetching_counts fetch rest h known (supplied bytes ∷ settled) result m can is = after_supply_counts fetch rest bytes h known settled result m can is
 fetching_counts fetch rest h known (_ ∷ settled) result m can is = absurd can
@@ -280,5 +301,11 @@ fetch_all_honest : (fetches : List Prefetch) (rest : Rest) → Honest rest → H
 fetch_all_honest [] rest h = h
 fetch_all_honest (fetch ∷ fetches) rest h = fetching_honest fetch (fetch_all fetches rest) (fetch_all_honest fetches rest h)
 
+script_honest : (script : PlainScript) → Honest (script_walk script)
+script_honest script = fetch_all_honest script.prefetches (walk_all script.statements ending) (walk_all_honest script.statements ending ending_honest)
+
+pub script_begins : (script : PlainScript) (known : Known) (n : ℕ) → (script_walk script known []).next ≢ Fails n MachineFault
+script_begins script known = (script_honest script).begins known
+
 pub script_counts : (script : PlainScript) (known : Known) → Counts (script_walk script known)
-script_counts script known = (fetch_all_honest script.prefetches (walk_all script.statements ending) (walk_all_honest script.statements ending ending_honest)).counts known
+script_counts script known = (script_honest script).counts known

@@ -1,5 +1,5 @@
 // What holds of every run.
-ghost use Rattle.std.specs.Prelude.{◌≡◌, ◌++◌, ◌∷◌, ◌⊎◌, ◌↔◌, ℕ, Bool, true, false, IsTrue, List, [], Option, Some, None};
+ghost use Rattle.std.specs.Prelude.{◌≡◌, ◌≢◌, ◌++◌, ◌∷◌, ◌⊎◌, ◌↔◌, ℕ, Bool, true, false, IsTrue, List, [], Option, Some, None};
 ghost use Rattle.desk_base.specs.Counts.{Rose};
 ghost use Rattle.bf_world.specs.Worlds.{WorldState};
 ghost use Rattle.bf_machine.specs.Views.{MachineView};
@@ -9,11 +9,11 @@ ghost use Rattle.script_run.specs.declared.cause.Cause.TheVariants.{MachineFault
 ghost use Rattle.script_run.specs.declared.ran.Ran.{Ran};
 ghost use Rattle.script_run.specs.declared.ran.Ran.TheVariants as of_run;
 ghost use Rattle.script_run.specs.declared.run.Run.{Run};
-ghost use Rattle.script_run.specs.Walks.{Settled, supplied, faults_in, Fails};
+ghost use Rattle.script_run.specs.Walks.{Settled, supplied, faults_in, Fails, Walk, Wants};
 ghost use Rattle.script_run.specs.ScriptWalks.{next, after, commands, commands_in};
 ghost use Rattle.script_run.specs.Asking.{When};
 ghost use Rattle.script_run.specs.RunPlaces.{Stands, wanted_at};
-ghost use Rattle.script_run.specs.Advances.{GoesOn, wanted_by};
+ghost use Rattle.script_run.specs.Advances.{Advances, GoesOn, wanted_by};
 ghost use Rattle.script_run.specs.Courses.{Call, Going, Supplying, Reply, ran, taken, Point, beginning, Course, IsAmple, IsAt, Follows};
 
 /// What a script has done after further results is what it had done before them, and what these did. So over a whole run the commands
@@ -23,12 +23,16 @@ pub fn commands_add_up()
         → commands script given (settled ++ results) ≡ commands script given settled ++ commands_in (after script given settled) results }
 {}
 
-/// A line fails for a fault of the machine only where the machine counted one in this advance, or where the line had failed so before.
-/// So who reads this answer can look for the fault at the machine.
+/// A line fails for a fault of the machine only where the machine counted one in this advance, or where the line had failed so before;
+/// no script begins so, and none comes to it by a file that it wanted. So who reads this answer can look for the fault at the machine.
 pub fn a_machine_fault_is_counted()
-    ensures { (at : When) (script : PlainScript) (given : List Pair) (settled : List Settled) (old : MachineView) (line : ℕ)
-        (new : MachineView) (run : Run) → GoesOn at script given settled old (of_run.Failed line MachineFault) new run
+    ensures counted { (at : When) (script : PlainScript) (given : List Pair) (settled : List Settled) (old : MachineView) (line : ℕ)
+        (new : MachineView) (left : Walk) → Advances at old (after script given settled) (of_run.Failed line MachineFault) new left
         → Rose old.faults new.faults ⊎ (next script given settled ≡ Fails line MachineFault) }
+    ensures begins { (script : PlainScript) (given : List Pair) (line : ℕ) → next script given [] ≢ Fails line MachineFault }
+    ensures supplies { (script : PlainScript) (given : List Pair) (settled : List Settled) (wanting : ℕ) (digest : List ℕ)
+        (bytes : Option (List ℕ)) (line : ℕ) → next script given settled ≡ Wants wanting digest
+        → next script given (settled ++ supplied bytes ∷ []) ≢ Fails line MachineFault }
 {}
 
 /// Where nothing fails and memory lasts, what a script comes to and what it answers is fixed by its lines and parameters and by the
