@@ -1,4 +1,4 @@
--- A turn, point by point: what holds at each point of it holds of what it comes to.
+-- A turn, point by point: what holds at each point of it holds of what it comes to. Other crates may cite these lemmas.
 use Rattle.std.proofs.Common.{◌≡◌, ℕ, List, [], ◌∷◌, All, Contains, Bool, true, false, inl, inr, Option, Some, None, refl, sym, subst}
 use Rattle.std.proofs.lemmas.List.Elements.{All-contains_itself, All-head, All-tail}
 use Rattle.act_rules.specs.Rows.{last_row}
