@@ -1,6 +1,6 @@
 -- Lawful rows and backed attempts over calls of an agent, one after another.
 use Rattle.std.proofs.Common.{◌≡◌, ℕ, List, [], ◌∷◌, codes, true, false, Bool, Option, Some, None, refl, sym, ap, subst, arith}
-use Rattle.std.specs.Prelude.{All}
+use Rattle.std.specs.Prelude.{All, IsSome}
 use Rattle.std.specs.Str.{bytes_eq}
 use Rattle.std.proofs.lemmas.List.Elements.{All-head, All-nil, All-tail}
 use Rattle.std.proofs.lemmas.Slice.Eq.{bytes_eq-Decides}
@@ -12,7 +12,7 @@ use Rattle.report_text.specs.declared.answer.Verdict.{Verdict}
 use Rattle.report_text.specs.declared.answer.Verdict.TheVariants as verdict
 use Rattle.script_run.specs.Asking.{When}
 use Rattle.agent_text.specs.declared.saved.Saved.{Saved}
-use Rattle.agent_text.specs.Pockets.{Holds}
+use Rattle.agent_text.specs.Pockets.{Holds, PocketView}
 use Rattle.agent_attempt.specs.Attempts.{PlainAttempt}
 use Rattle.agent_attempt.specs.ActionContents.{actions_of}
 use Rattle.agent_attempt.specs.Supplies.{Takes}
@@ -20,7 +20,9 @@ use Rattle.agent_core.specs.declared.turned.Turned.{Turned}
 use Rattle.agent_core.specs.Agents.{shown_state}
 use Rattle.agent_core.specs.Calls.{Call, gathers, turns, supplies, settles, restarts, DoAll, Does, IsCall}
 use Rattle.agent_state.specs.Changes.{DropsState, GathersSite, SettlesState, SuppliesHeld, with_site}
-use Rattle.agent_core.specs.Opens.{IsAgentOf, new_state, opened_state}
+use Rattle.agent_core.specs.declared.opening.Opened.{Opened}
+use Rattle.agent_core.specs.declared.opening.Opened.TheVariants as opened
+use Rattle.agent_core.specs.Opens.{IsAgentOf, OpensFrom, OpensLawful, new_state}
 use Rattle.agent_state.specs.States.{IsSound, State}
 use Rattle.agent_core.specs.Devices.{Devices}
 use Rattle.agent_core.specs.Stops.{Agrees, AreLawful, AreLawfulIn, BothLawful, HaveRules, IsBacked, IsTextOfSaved, Table}
@@ -101,12 +103,25 @@ rules_with table site sites its theirs = by_name (bytes_eq site.name (codes "act
         subst (HaveRules table) (sym (actions_of_own site sites own)) (subst (HaveRules table) (actions_of_own site [] own) its)
     by_name false e = subst (HaveRules table) (sym (actions_of_other site sites e)) theirs
 
+-- the rules of the gathered actions
+pub gathered_rules : (table : Table) (site : Site) (answer : Gathered) (s s2 : State) → HaveRules table (actions_of (site ∷ [])) → HaveRules table (actions_of s.sites) → GathersSite s site answer s2 → HaveRules table (actions_of s2.sites)
+gathered_rules table site gathered.New s s2 its theirs g = subst (λ (x : State). HaveRules table (actions_of x.sites)) (sym g.1) (rules_with table site s.sites its theirs)
+gathered_rules table site (gathered.Older version) s s2 its theirs g = subst (λ (x : State). HaveRules table (actions_of x.sites)) (sym g.2) theirs
+gathered_rules table site gathered.Memory s s2 its theirs g = subst (λ (x : State). HaveRules table (actions_of x.sites)) (sym g) theirs
+
+-- what has the same rows and the same attempt
+gathered_same : (site : Site) (answer : Gathered) (s s2 : State) → GathersSite s site answer s2 → (s2.histories ≡ s.histories) × (s2.held ≡ s.held)
+gathered_same site gathered.New s s2 g = (ap (λ (x : State). x.histories) g.1, ap (λ (x : State). x.held) g.1)
+gathered_same site (gathered.Older version) s s2 g = (ap (λ (x : State). x.histories) g.2, ap (λ (x : State). x.held) g.2)
+gathered_same site gathered.Memory s s2 g = (ap (λ (x : State). x.histories) g, ap (λ (x : State). x.held) g)
+
+pub gathered_lawful : (table : Table) (site : Site) (answer : Gathered) (s s2 : State) (told : Option (Option (List ℕ))) → GathersSite s site answer s2 → BothLawful table s told → BothLawful table s2 told
+gathered_lawful table site answer s s2 told g lawful = (subst (AreLawful table) (sym (gathered_same site answer s s2 g).0) lawful.0, lawful.1)
+
 gathered_stands : (table : Table) (site : Site) (answer : Gathered) (s s2 : State) (saved : Option (List ℕ)) → HaveRules table (actions_of (site ∷ [])) → Stands table s saved → IsSound s2 → GathersSite s site answer s2 → Stands table s2 saved
-gathered_stands table site gathered.New s s2 saved its stands is g =
-    stands_with table s s2 saved stands is (subst (λ (x : State). HaveRules table (actions_of x.sites)) (sym g.1) (rules_with table site s.sites its stands.rules)) (ap (λ (x : State). x.histories) g.1)
-    (subst (λ (x : State). Agrees x.held (Some saved)) (sym g.1) stands.agrees)
-gathered_stands table site (gathered.Older version) s s2 saved its stands is g = same_state table s s2 saved stands g.2
-gathered_stands table site gathered.Memory s s2 saved its stands is g = same_state table s s2 saved stands g
+gathered_stands table site answer s s2 saved its stands is g =
+    let same = gathered_same site answer s s2 g in
+    stands_with table s s2 saved stands is (gathered_rules table site answer s s2 its stands.rules g) same.0 (subst (λ o. Agrees o (Some saved)) (sym same.1) stands.agrees)
 
 -- ---- a verdict comes
 dropped_stands : (table : Table) (seq : ℕ) (answer : Bool) (s s2 : State) (saved : Option (List ℕ)) → Stands table s saved → IsSound s2 → DropsState seq s answer s2 → Stands table s2 saved
@@ -132,24 +147,41 @@ supplied_agrees (Some old) None digest bytes answer saved h agrees = absurd h
 supplied_agrees (Some old) (Some new) digest bytes answer saved h agrees = taken_backed old new bytes answer saved h.1 agrees
 
 -- ---- another agent is opened
-opened_stands : (table : Table) (computer : List ℕ) (saved : Option (List ℕ)) (s2 : State) → Holds (Some saved) (AreLawfulIn table) → IsSound s2 → IsAgentOf computer saved s2 → Stands table s2 saved
-opened_stands table computer None s2 lawful is of = record {
-  sound = is;
-  rules = subst (λ (x : State). HaveRules table (actions_of x.sites)) (sym of) (All-nil _);
-  lawful = (subst (λ (x : State). AreLawful table x.histories) (sym of) (All-nil _), tt);
-  agrees = subst (λ (x : State). Agrees x.held (Some None)) (sym of) tt;
-}
-opened_stands table computer (Some text) s2 lawful is of =
+opened_rows : (table : Table) (computer : List ℕ) (saved : Option (List ℕ)) (s2 : State) → AreLawfulIn table saved → IsAgentOf computer saved s2 → AreLawful table s2.histories
+opened_rows table computer None s2 lawful of = subst (λ (x : State). AreLawful table x.histories) (sym of) (All-nil _)
+opened_rows table computer (Some text) s2 lawful of =
     let what : Saved = of.0 in
     let read = of.1 in
     let own : IsTextOfSaved text what = (read.0, (read.1.0, read.1.1, refl), read.2) in
-    let e : s2 ≡ opened_state what = of.2 in
+    subst (λ (x : State). AreLawful table x.histories) (sym of.2) (lawful what own)
+
+-- an opened agent has no site and holds no attempt
+opened_bare : (computer : List ℕ) (saved : Option (List ℕ)) (s2 : State) → IsAgentOf computer saved s2 → (s2.sites ≡ []) × (s2.held ≡ None)
+opened_bare computer None s2 of = (ap (λ (x : State). x.sites) of, ap (λ (x : State). x.held) of)
+opened_bare computer (Some text) s2 of = (ap (λ (x : State). x.sites) of.2, ap (λ (x : State). x.held) of.2)
+
+opened_stands : (table : Table) (computer : List ℕ) (saved : Option (List ℕ)) (s2 : State) → Holds (Some saved) (AreLawfulIn table) → IsSound s2 → IsAgentOf computer saved s2 → Stands table s2 saved
+opened_stands table computer saved s2 lawful is of =
+    let bare = opened_bare computer saved s2 of in
     record {
       sound = is;
-      rules = subst (λ (x : State). HaveRules table (actions_of x.sites)) (sym e) (All-nil _);
-      lawful = (subst (λ (x : State). AreLawful table x.histories) (sym e) (lawful what own), lawful);
-      agrees = subst (λ (x : State). Agrees x.held (Some (Some text))) (sym e) tt;
+      rules = subst (λ l. HaveRules table (actions_of l)) (sym bare.0) (All-nil _);
+      lawful = (opened_rows table computer saved s2 lawful of, lawful);
+      agrees = subst (λ o. Agrees o (Some saved)) (sym bare.1) tt;
     }
+
+-- the rows of an agent that is opened from a pocket that tells its text
+opened_told : (table : Table) (computer : List ℕ) (found : Option (List ℕ)) (old new : Option (Option (List ℕ))) (s : State) → new ≡ old → IsSome old → Holds old (AreLawfulIn table) → Holds old (λ now. now ≡ found) → IsAgentOf computer found s → BothLawful table s new
+opened_told table computer found None new s same some lawful is of = absurd (cc)
+opened_told table computer found (Some now) new s same some lawful is of =
+    (opened_rows table computer found s (subst (AreLawfulIn table) is lawful) of, subst (λ o. Holds o (AreLawfulIn table)) (sym same) lawful)
+
+pub opens_lawful : (table : Table) (computer : List ℕ) (old : PocketView) (answer : Opened) (new : PocketView) → OpensFrom computer old answer new → IsSome old.saved → Holds old.saved (AreLawfulIn table) → OpensLawful table answer new.saved
+opens_lawful table computer old (opened.Agent agent) new opens some lawful =
+    opened_told table computer opens.opens.0 old.saved new.saved (shown_state agent) opens.saved some lawful opens.opens.1 opens.opens.2
+opens_lawful table computer old (opened.BadPocket line) new opens some lawful = tt
+opens_lawful table computer old opened.PocketFault new opens some lawful = tt
+opens_lawful table computer old opened.Memory new opens some lawful = tt
 
 -- ---- each call, and all of them
 call_stands : Laws → (table : Table) (call : Call) (s s2 : State) (saved saved2 : Option (List ℕ)) → IsCall table call → Stands table s saved → IsSound s2 → Does call s saved s2 saved2 → Stands table s2 saved2

@@ -8,6 +8,7 @@ use Rattle.agent_text.specs.SavedTexts.{ReadsSaved}
 use Rattle.agent_core.specs.declared.opening.Opened.{Opened}
 use Rattle.agent_core.specs.declared.opening.Opened.TheVariants as opened
 use Rattle.agent_core.specs.Agents.{shown_state}
+use Rattle.agent_core.specs.Stops.{BothLawful, Table}
 use Rattle.agent_state.specs.States.{State}
 
 -- the agent of what was saved: all of its reports are saved, and it has no site and holds no attempt
@@ -48,3 +49,8 @@ pub record OpensFrom (computer : List ℕ) (old : PocketView) (answer : Opened) 
   pub opens : OpensAgent computer old.saved answer
   pub saved : new.saved ≡ old.saved
   pub counts : CountsFaults (answer ≡ opened.PocketFault) old.faults new.faults
+
+-- Where an agent was opened, its rows are lawful, and those of its pocket.
+abbrev pub OpensLawful : Table → Opened → Option (Option (List ℕ)) → Type 0
+OpensLawful table (opened.Agent agent) told = BothLawful table (shown_state agent) told
+OpensLawful table answer told = ⊤

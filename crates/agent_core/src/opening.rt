@@ -1,9 +1,11 @@
 // Opening an agent from its pocket.
-ghost use Rattle.std.specs.Prelude.{◌≡◌, ◌≢◌, Some, IfOk};
+ghost use Rattle.std.specs.Prelude.{◌≡◌, ◌≢◌, Some, IfOk, IsSome};
 ghost use Rattle.line_forms.specs.Names.{IsName};
+ghost use Rattle.agent_text.specs.Pockets.{Holds};
 ghost use Rattle.agent_text.specs.SavedTexts.{IsSaved};
 ghost use Rattle.agent_core.specs.Agents.{shown_state};
-ghost use Rattle.agent_core.specs.Opens.{OpensAgent, OpensFrom, new_state, opened_state};
+ghost use Rattle.agent_core.specs.Opens.{OpensAgent, OpensFrom, OpensLawful, new_state, opened_state};
+ghost use Rattle.agent_core.specs.Stops.{AreLawfulIn, Table};
 
 use crate::agent::Agent;
 use crate::kept_state::KeptState;
@@ -29,6 +31,17 @@ impl Agent {
     /// The agent of the computer of this name, as it was saved: with its rows, reports, pending actions and next number, without sites
     /// and without an attempt. Where nothing is saved it has none of these, and its next number is 1.
     pub fn open<P: Pocket>(alloc: Global, name: &Text, pocket: &mut P) -> Opened
+        requires { IsName name.now }
+        ensures opens { OpensFrom name.now (P.told pocket.old) result (P.told pocket.new) }
+        // Where the pocket tells its text, whose rows are lawful, the agent's are lawful too, and the saved ones stay so.
+        ensures lawful { (table : Table) → IsSome (P.told pocket.old).saved → Holds (P.told pocket.old).saved (AreLawfulIn table)
+            → OpensLawful table result (P.told pocket.new).saved }
+    {
+        Agent::load(alloc, name, pocket)
+    }
+
+    /// The agent of what the pocket loads.
+    fn load<P: Pocket>(alloc: Global, name: &Text, pocket: &mut P) -> Opened
         requires { IsName name.now }
         ensures { OpensFrom name.now (P.told pocket.old) result (P.told pocket.new) }
     {
