@@ -36,3 +36,4 @@ pub mod SoundReport
 pub mod HeldAttempt
 pub mod Broken
 pub mod Reopening
+pub mod Showing

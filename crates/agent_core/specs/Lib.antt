@@ -9,3 +9,4 @@ pub mod Wants
 pub mod Schedules
 pub mod Steps
 pub mod Calls
+pub mod ShownReports

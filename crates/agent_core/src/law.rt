@@ -1,4 +1,5 @@
 ghost use Rattle.std.specs.Prelude.{◌≡◌, ◌≢◌, ◌⊎◌, ◌+◌, ◌<◌, ℕ, List, ◌∷◌, ◌++◌, [], All, Option, None, Some, IsSome, Result, Ok, Err, Bool, true, false};
+ghost use Rattle.desk_base.specs.Moments.{IsMoment};
 ghost use Rattle.act_rules.specs.Lawful.{AreBounded};
 ghost use Rattle.act_rules.specs.Series.{series};
 ghost use Rattle.report_text.specs.declared.report.Report.{Report};
@@ -23,6 +24,7 @@ ghost use Rattle.fix_site.specs.declared.site.Site.{Site};
 ghost use Rattle.agent_state.specs.Changes.{GathersSite, SettlesState, SuppliesHeld, SuppliesState};
 ghost use Rattle.agent_core.specs.Opens.{OpensAgent, new_state, opened_state};
 ghost use Rattle.agent_core.specs.Schedules.{IsMailOf, IsStep, Mail, restarted, saved, settled};
+ghost use Rattle.agent_core.specs.ShownReports.{ShowsAll, ShowsSaved};
 ghost use Rattle.agent_core.specs.declared.opening.Opened.TheVariants as opening;
 ghost use Rattle.agent_state.specs.States.{IsSound, State, saved_of, text_of};
 ghost use Rattle.agent_core.specs.Devices.{Devices, NoFaults, TellsWorld};
@@ -101,6 +103,25 @@ pub fn turns_are_steps()
 {
     one_saved();
     lines_are_read_again();
+}
+
+/// An agent is unsaved or shows all its reports, and those that it shows stand in its pocket's text: this holds of each that is opened,
+/// and every call keeps it. A turn that doesn't end by a pocket's fault or want of memory leaves all reports shown, and settling does so
+/// where all were.
+pub fn shown_reports_are_saved()
+    ensures opened { (computer : List ℕ) (told : Option (Option (List ℕ))) (agent : AgentState)
+        → OpensAgent computer told (opening.Agent agent) → ShowsAll (shown_state agent) × ShowsSaved (shown_state agent) told }
+    ensures turn { (at : When) (s s2 : State) (d d2 : Devices) (answer : Turned) → IsMoment at.moment → IsSound s → IsSound s2
+        → Turn at s d answer s2 d2 → ShowsSaved s d.pocket.saved
+        → ShowsSaved s2 d2.pocket.saved × (answer ≢ PocketFault → answer ≢ Memory → ShowsAll s2) }
+    ensures settled { (seq : ℕ) (verdict : Verdict) (s s2 : State) (answer : Bool) (told : Option (Option (List ℕ))) → IsSound s
+        → SettlesState seq verdict s answer s2 → ShowsSaved s told → ShowsSaved s2 told × (ShowsAll s → ShowsAll s2) }
+    ensures gathered { (site : Site) (s s2 : State) (answer : Gathered) (told : Option (Option (List ℕ)))
+        → GathersSite s site answer s2 → ShowsSaved s told → ShowsSaved s2 told }
+    ensures supplied { (digest : List ℕ) (bytes : Option (List ℕ)) (s s2 : State) (answer : Bool) (told : Option (Option (List ℕ)))
+        → SuppliesState s digest bytes answer s2 → ShowsSaved s told → ShowsSaved s2 told }
+{
+    changed_histories_can_be_saved();
 }
 
 /// An attempt that wants a file, is given it, and wants one again in its next turn, can want fewer files from then on.
