@@ -37,3 +37,4 @@ pub mod HeldAttempt
 pub mod Broken
 pub mod Reopening
 pub mod Showing
+pub mod OwnTexts

@@ -1,5 +1,5 @@
 -- What turns and openings are to the delivery of reports.
-use Rattle.std.proofs.Common.{ℕ, ◌≡◌, ◌+◌, ◌^◌, ◌++◌, List, [], ◌∷◌, length, Bool, true, false, cond, inl, inr, Option, Some, None, refl, sym, ap, subst, ◌∙◌, take}
+use Rattle.std.proofs.Common.{ℕ, ◌≡◌, ◌+◌, ◌^◌, ◌++◌, List, [], ◌∷◌, length, Bool, true, false, cond, inl, inr, Option, Some, None, Ok, refl, sym, ap, subst, ◌∙◌, take}
 use Rattle.std.proofs.lemmas.List.Elements.{All-head, All-tail}
 use Rattle.report_text.specs.Reports.{IsReport}
 use Rattle.std.specs.Prelude.{All, ◌⊎◌, ◌≢◌, ◌&&◌, IsSome, nat_lt}
@@ -9,6 +9,7 @@ use Rattle.script_run.specs.Asking.{When}
 use Rattle.agent_text.specs.declared.saved.Saved.{Saved}
 use Rattle.agent_text.specs.Histories.{PlainHistory, report_rows}
 use Rattle.agent_text.specs.Pockets.{Holds}
+use Rattle.agent_text.specs.SavedTexts.{ReadsSaved}
 use Rattle.agent_text.proofs.SavedAnswers.{LinesAgain}
 use Rattle.agent_core.specs.declared.turned.Turned.{Turned}
 use Rattle.agent_core.specs.declared.turned.Turned.TheVariants.{MachineFault, PocketFault, Memory}
@@ -58,7 +59,8 @@ mail_saved m s told is fits next outbox stands = record {
   computer = fits.computer;
   next = fits.next;
   outbox = fits.outbox;
-  kept = holds_so (λ now. now ≡ Some (text_of s)) (HasSaved m) (λ now e. subst (HasSaved m) (sym e) (saved_of s, own_text s is.saved, next, outbox)) told stands;
+  kept = holds_so (λ now. now ≡ Some (text_of s)) (HasSaved m)
+      (λ now e. subst (HasSaved m) (sym e) (saved_of s, subst (λ c. ReadsSaved c (text_of s) (Ok (saved_of s))) (sym fits.computer) (own_text s is.saved), next, outbox)) told stands;
 }
 
 ended : (Q : Type 0) (m : Mail) (answer : Turned) (s : State) (d : Devices) → Fits m s → Standing Q m s d → Steps Q m answer s d
@@ -169,8 +171,8 @@ record HasOpened (m : Mail) (agent : State) : Type 0 where
   outbox : m.saved_outbox ≡ agent.reports
 
 from_text : OneSaved → LinesAgain → (computer text : List ℕ) (agent : State) (m : Mail) → IsAgentOf computer (Some text) agent → HasSaved m (Some text) → m.computer ≡ computer → HasOpened m agent
-from_text one law computer text agent m (what, (form, by, read), is) (other, before, next, outbox) own =
-    let same : other ≡ what = saved_once one law text other what before (form, (by.0, by.1, refl), read) in
+from_text one law computer text agent m (what, (form, by, read), is) (other, (other_form, also, before), next, outbox) own =
+    let same : other ≡ what = saved_once one law text other what (other_form, (also.0, also.1, refl), before) (form, (by.0, by.1, refl), read) in
     record {
       computer = own ∙ sym by.2 ∙ sym (ap (λ (x : State). x.computer) is);
       next = next ∙ ap (λ (x : Saved). x.next) same ∙ sym (ap (λ (x : State). x.next) is);

@@ -22,7 +22,7 @@ abbrev pub OneSaved : Type 0
 OneSaved = (computer : List ℕ) (form other_form : Form) (saved other : Saved) → IsSavedBy computer form saved → IsSavedBy computer other_form other
     → lines_text (saved_lines form saved) ≡ lines_text (saved_lines other_form other) → (form ≡ other_form) × (saved ≡ other)
 
-lines_again : LinesAgain → (form : Form) (saved : Saved) → IsSaved saved → FitsForm form saved → lines_of (lines_text (saved_lines form saved)) ≡ saved_lines form saved
+pub lines_again : LinesAgain → (form : Form) (saved : Saved) → IsSaved saved → FitsForm form saved → lines_of (lines_text (saved_lines form saved)) ≡ saved_lines form saved
 lines_again law form saved is fits = ap lines_of (sym (append-nil (lines_text (saved_lines form saved)))) ∙ law (saved_lines form saved) [] (saved_are form saved is fits) (All-nil (λ x. x ≢ 10))
 
 -- the second line names the computer

@@ -10,3 +10,4 @@ pub mod Schedules
 pub mod Steps
 pub mod Calls
 pub mod ShownReports
+pub mod PocketTexts

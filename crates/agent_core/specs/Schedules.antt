@@ -1,5 +1,5 @@
 -- What of an agent matters for the delivery of its reports, and what its steps do to that.
-use Rattle.std.specs.Prelude.{◌≡◌, ◌⊎◌, ℕ, ◌+◌, nat_lt, if◌then◌else◌, List, [], ◌∷◌, ◌++◌, Option, Some, None}
+use Rattle.std.specs.Prelude.{◌≡◌, ◌⊎◌, ℕ, ◌+◌, nat_lt, if◌then◌else◌, List, [], ◌∷◌, ◌++◌, Option, Some, None, Ok}
 use Rattle.line_forms.specs.Numbers.{last_id}
 use Rattle.report_text.specs.declared.form.Form.TheVariants.{Two}
 use Rattle.report_text.specs.declared.report.Report.{Report}
@@ -7,9 +7,9 @@ use Rattle.report_text.specs.declared.report_row.ReportRow.{ReportRow}
 use Rattle.report_text.specs.Reports.{AreReportRows}
 use Rattle.agent_text.specs.declared.saved.Saved.{Saved}
 use Rattle.agent_text.specs.Pockets.{Holds}
+use Rattle.agent_text.specs.SavedTexts.{ReadsSaved}
 use Rattle.agent_state.specs.Changes.{without_report}
 use Rattle.agent_state.specs.States.{State}
-use Rattle.agent_core.specs.Stops.{IsTextOfSaved}
 
 -- the computer, the number of its next report and its outbox, and both as they were last saved
 pub record Mail : Type 0 where
@@ -42,11 +42,11 @@ settled seq m = record m { outbox = without_report seq m.outbox }
 abbrev pub restarted : Mail → Mail
 restarted m = record m { next = m.saved_next; outbox = m.saved_outbox }
 
--- what a pocket without a text, or with this one, has saved
+-- what a pocket without a text, or with this one, has saved: a text is one of the mail's computer
 abbrev pub HasSaved : Mail → Option (List ℕ) → Type 0
 HasSaved m None = (m.saved_next ≡ 1) × (m.saved_outbox ≡ [])
 HasSaved m (Some text) =
-    (what : Saved) × IsTextOfSaved text what × (m.saved_next ≡ what.next) × (m.saved_outbox ≡ what.reports)
+    (what : Saved) × ReadsSaved m.computer text (Ok what) × (m.saved_next ≡ what.next) × (m.saved_outbox ≡ what.reports)
 
 -- this is what matters of an agent and its pocket
 pub record IsMailOf (m : Mail) (s : State) (told : Option (Option (List ℕ))) : Type 0 where

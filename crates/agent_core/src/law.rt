@@ -8,6 +8,7 @@ ghost use Rattle.agent_text.specs.declared.saved.Saved.{Saved};
 ghost use Rattle.agent_text.specs.declared.error.SavedError.{SavedError};
 ghost use Rattle.agent_text.specs.declared.error.SavedError.TheVariants.{Memory as NoMemory};
 ghost use Rattle.agent_text.specs.Histories.{rows_at};
+ghost use Rattle.agent_text.specs.Pockets.{Changes};
 ghost use Rattle.agent_text.specs.SavedTexts.{ReadsSaved};
 ghost use Rattle.agent_attempt.specs.Attempts.{PlainAttempt};
 ghost use Rattle.agent_attempt.specs.ActionContents.{actions_of};
@@ -23,7 +24,8 @@ ghost use Rattle.report_text.specs.declared.answer.Verdict.{Verdict};
 ghost use Rattle.fix_site.specs.declared.site.Site.{Site};
 ghost use Rattle.agent_state.specs.Changes.{GathersSite, SettlesState, SuppliesHeld, SuppliesState};
 ghost use Rattle.agent_core.specs.Opens.{OpensAgent, new_state, opened_state};
-ghost use Rattle.agent_core.specs.Schedules.{IsMailOf, IsStep, Mail, restarted, saved, settled};
+ghost use Rattle.agent_core.specs.Schedules.{HasSaved, IsMailOf, IsStep, Mail, restarted, saved, settled};
+ghost use Rattle.agent_core.specs.PocketTexts.{IsTextOfSound, TurnSaves};
 ghost use Rattle.agent_core.specs.ShownReports.{ShowsAll, ShowsSaved};
 ghost use Rattle.agent_core.specs.declared.opening.Opened.TheVariants as opening;
 ghost use Rattle.agent_state.specs.States.{IsSound, State, saved_of, text_of};
@@ -102,6 +104,21 @@ pub fn turns_are_steps()
         → IsMailOf (restarted m) (shown_state agent) told }
 {
     one_saved();
+    lines_are_read_again();
+}
+
+/// What a pocket has after a turn, where it tells its text: at every answer what it had, or the text of a sound state of the same
+/// computer; and at each answer but a pocket's fault and want of memory the text of the state after the turn, unless there was nothing
+/// to save. That is what a mail of this computer saved, and never a bad pocket to an agent of it that is opened.
+pub fn pockets_keep_own_texts()
+    ensures turn { (at : When) (s s2 : State) (d d2 : Devices) (answer : Turned) → IsMoment at.moment → IsSound s → IsSound s2
+        → Turn at s d answer s2 d2 → Changes d.pocket.saved d2.pocket.saved (TurnSaves s answer s2) }
+    ensures saved { (computer : List ℕ) (now : Option (List ℕ)) → IsTextOfSound computer now
+        → (m : Mail) × (m.computer ≡ computer) × HasSaved m now }
+    ensures opened { (m : Mail) (now : Option (List ℕ)) (line : ℕ) → HasSaved m now
+        → ¬ OpensAgent m.computer (Some now) (opening.BadPocket line) }
+{
+    changed_histories_can_be_saved();
     lines_are_read_again();
 }
 
