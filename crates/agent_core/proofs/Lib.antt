@@ -38,3 +38,4 @@ pub mod Broken
 pub mod Reopening
 pub mod Showing
 pub mod OwnTexts
+pub mod Counting

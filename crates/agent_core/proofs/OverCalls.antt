@@ -110,7 +110,7 @@ gathered_rules table site (gathered.Older version) s s2 its theirs g = subst (λ
 gathered_rules table site gathered.Memory s s2 its theirs g = subst (λ (x : State). HaveRules table (actions_of x.sites)) (sym g) theirs
 
 -- what has the same rows and the same attempt
-gathered_same : (site : Site) (answer : Gathered) (s s2 : State) → GathersSite s site answer s2 → (s2.histories ≡ s.histories) × (s2.held ≡ s.held)
+pub gathered_same : (site : Site) (answer : Gathered) (s s2 : State) → GathersSite s site answer s2 → (s2.histories ≡ s.histories) × (s2.held ≡ s.held)
 gathered_same site gathered.New s s2 g = (ap (λ (x : State). x.histories) g.1, ap (λ (x : State). x.held) g.1)
 gathered_same site (gathered.Older version) s s2 g = (ap (λ (x : State). x.histories) g.2, ap (λ (x : State). x.held) g.2)
 gathered_same site gathered.Memory s s2 g = (ap (λ (x : State). x.histories) g, ap (λ (x : State). x.held) g)
@@ -156,7 +156,7 @@ opened_rows table computer (Some text) s2 lawful of =
     subst (λ (x : State). AreLawful table x.histories) (sym of.2) (lawful what own)
 
 -- an opened agent has no site and holds no attempt
-opened_bare : (computer : List ℕ) (saved : Option (List ℕ)) (s2 : State) → IsAgentOf computer saved s2 → (s2.sites ≡ []) × (s2.held ≡ None)
+pub opened_bare : (computer : List ℕ) (saved : Option (List ℕ)) (s2 : State) → IsAgentOf computer saved s2 → (s2.sites ≡ []) × (s2.held ≡ None)
 opened_bare computer None s2 of = (ap (λ (x : State). x.sites) of, ap (λ (x : State). x.held) of)
 opened_bare computer (Some text) s2 of = (ap (λ (x : State). x.sites) of.2, ap (λ (x : State). x.held) of.2)
 
@@ -188,16 +188,14 @@ call_stands : Laws → (table : Table) (call : Call) (s s2 : State) (saved saved
 call_stands law table (gathers site) s s2 saved saved2 good stands is does =
     subst (Stands table s2) (sym does.2) (gathered_stands table site does.0 s s2 saved good.1 stands is does.1)
 call_stands law table (turns at) s s2 saved saved2 good stands is does =
-    let d = does.1 in
-    let d2 = does.2 in
-    let turn = does.3 in
-    let was = does.4 in
-    let came = does.5 in
+    let made = does.3 in
+    let d = made.before in
+    let d2 = made.after in
     record {
       sound = is;
-      rules = subst (λ x. HaveRules table (actions_of x)) (sym (turn_sites at s s2 d d2 does.0 turn)) stands.rules;
-      lawful = subst (BothLawful table s2) came (turn_lawful law table at good s s2 d d2 does.0 turn stands.sound is stands.rules (subst (BothLawful table s) (sym was) stands.lawful));
-      agrees = subst (Agrees s2.held) came (turn_agrees law.histories at good s s2 d d2 does.0 turn stands.sound is (subst (Agrees s.held) (sym was) stands.agrees));
+      rules = subst (λ x. HaveRules table (actions_of x)) (sym (turn_sites at s s2 d d2 does.0 made.turn)) stands.rules;
+      lawful = subst (BothLawful table s2) made.saved_after (turn_lawful law table at good s s2 d d2 does.0 made.turn stands.sound is stands.rules (subst (BothLawful table s) (sym made.saved_before) stands.lawful));
+      agrees = subst (Agrees s2.held) made.saved_after (turn_agrees law.histories at good s s2 d d2 does.0 made.turn stands.sound is (subst (Agrees s.held) (sym made.saved_before) stands.agrees));
     }
 call_stands law table (supplies digest bytes) s s2 saved saved2 good stands is does =
     let h = does.1 in

@@ -36,12 +36,30 @@ IsCall table (gathers site) = IsSite site × HaveRules table (actions_of (site �
 IsCall table (turns at) = IsMoment at.moment
 IsCall table call = ⊤
 
+-- where an agent stands: its state, the text of its pocket, and its machine's count of faults
+pub record Point : Type 0 where
+  pub state : State
+  pub saved : Option (List ℕ)
+  pub faults : ℕ
+
+-- A turn leads from one point to another, its devices telling what stands there.
+pub record MakesTurn (at : When) (old : Point) (answer : Turned) (new : Point) : Type 0 where
+  pub before : Devices
+  pub after : Devices
+  pub turn : Turn at old.state before answer new.state after
+  pub saved_before : before.pocket.saved ≡ Some old.saved
+  pub saved_after : after.pocket.saved ≡ Some new.saved
+  pub faults_before : before.machine.faults ≡ old.faults
+  pub faults_after : after.machine.faults ≡ new.faults
+
+abbrev pub point : State → Option (List ℕ) → ℕ → Point
+point s saved faults = record { state = s; saved = saved; faults = faults }
+
 -- what a call does to an agent and to the text of its pocket
 abbrev pub Does : Call → State → Option (List ℕ) → State → Option (List ℕ) → Type 0
 Does (gathers site) s saved s2 saved2 = (answer : Gathered) × GathersSite s site answer s2 × (saved2 ≡ saved)
 Does (turns at) s saved s2 saved2 =
-    (answer : Turned) × (d : Devices) × (d2 : Devices) × Turn at s d answer s2 d2
-    × (d.pocket.saved ≡ Some saved) × (d2.pocket.saved ≡ Some saved2)
+    (answer : Turned) × (faults : ℕ) × (faults2 : ℕ) × MakesTurn at (point s saved faults) answer (point s2 saved2 faults2)
 Does (supplies digest bytes) s saved s2 saved2 = (answer : Bool) × SuppliesState s digest bytes answer s2 × (saved2 ≡ saved)
 Does (settles seq verdict) s saved s2 saved2 = (answer : Bool) × SettlesState seq verdict s answer s2 × (saved2 ≡ saved)
 Does restarts s saved s2 saved2 =

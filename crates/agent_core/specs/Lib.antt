@@ -11,3 +11,4 @@ pub mod Steps
 pub mod Calls
 pub mod ShownReports
 pub mod PocketTexts
+pub mod ToldFaults

@@ -3,6 +3,7 @@ ghost use Rattle.desk_base.specs.Moments.{IsMoment};
 ghost use Rattle.act_rules.specs.Lawful.{AreBounded};
 ghost use Rattle.act_rules.specs.Series.{series};
 ghost use Rattle.report_text.specs.declared.report.Report.{Report};
+ghost use Rattle.bf_machine.specs.Rises.{RoseBy};
 ghost use Rattle.script_run.specs.Asking.{When};
 ghost use Rattle.agent_text.specs.declared.saved.Saved.{Saved};
 ghost use Rattle.agent_text.specs.declared.error.SavedError.{SavedError};
@@ -16,7 +17,7 @@ ghost use Rattle.line_forms.specs.Names.{IsName};
 ghost use Rattle.agent_core.specs.declared.turned.Turned.{Turned};
 ghost use Rattle.agent_core.specs.declared.turned.Turned.TheVariants.{Memory, PocketFault, Wants};
 ghost use Rattle.agent_core.specs.Agents.{AgentState, shown_state};
-ghost use Rattle.agent_core.specs.Calls.{Call, DoAll, IsCall};
+ghost use Rattle.agent_core.specs.Calls.{Call, DoAll, IsCall, Point};
 ghost use Rattle.agent_core.specs.Wants.{AttemptWantsAtMost};
 ghost use Rattle.report_text.specs.declared.answer.Gathered.{Gathered};
 ghost use Rattle.report_text.specs.declared.answer.Gathered.TheVariants as gathering;
@@ -27,6 +28,7 @@ ghost use Rattle.agent_core.specs.Opens.{OpensAgent, new_state, opened_state};
 ghost use Rattle.agent_core.specs.Schedules.{HasSaved, IsMailOf, IsStep, Mail, restarted, saved, settled};
 ghost use Rattle.agent_core.specs.PocketTexts.{IsTextOfSound, TurnSaves};
 ghost use Rattle.agent_core.specs.ShownReports.{ShowsAll, ShowsSaved};
+ghost use Rattle.agent_core.specs.ToldFaults.{DoAllCounted, faults_told};
 ghost use Rattle.agent_core.specs.declared.opening.Opened.TheVariants as opening;
 ghost use Rattle.agent_state.specs.States.{IsSound, State, saved_of, text_of};
 ghost use Rattle.agent_core.specs.Devices.{Devices, NoFaults, TellsWorld};
@@ -38,6 +40,7 @@ use act_rules::{lawful_rows, lawful_rows_stay_lawful};
 use agent_text::{a_saved_text_is_read_again, changed_histories_can_be_saved, one_saved};
 use line_forms::lines_are_read_again;
 use rel_eval::one_plan;
+use script_run::a_machine_fault_is_counted;
 use script_text::one_verdict;
 
 /// What an agent saves is read back as what it saved, or want of memory stands in its place. An agent that is opened from it has that.
@@ -175,6 +178,16 @@ pub fn attempts_are_bounded()
     lawful_rows();
     lawful_rows_stay_lawful();
     stops_leave_rows_lawful();
+}
+
+/// Over any list of calls of an agent that was opened, stops among them, the machine's count rose by at least as many as the turns told
+/// faults of the machine, or stands still at its last value: each turn that ends by one, or in which an attempt ends by one, tells one.
+pub fn told_faults_are_counted()
+    ensures { (calls : List Call) (computer : List ℕ) (told : Option (Option (List ℕ))) (agent : AgentState) (old new : Point)
+        (answers : List Turned) → OpensAgent computer told (opening.Agent agent) → old.state ≡ shown_state agent
+        → DoAllCounted calls old answers new → RoseBy (faults_told answers) old.faults new.faults }
+{
+    a_machine_fault_is_counted();
 }
 
 /// What an agent shows is a sound state.
