@@ -39,3 +39,5 @@ pub mod Reopening
 pub mod Showing
 pub mod OwnTexts
 pub mod Counting
+pub mod Bounded
+pub mod Wanting

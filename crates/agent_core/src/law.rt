@@ -1,4 +1,4 @@
-ghost use Rattle.std.specs.Prelude.{◌≡◌, ◌≢◌, ◌⊎◌, ◌+◌, ◌<◌, ℕ, List, ◌∷◌, ◌++◌, [], All, Option, None, Some, IsSome, Result, Ok, Err, Bool, true, false};
+ghost use Rattle.std.specs.Prelude.{◌≡◌, ◌≢◌, ◌⊎◌, ◌+◌, ◌<◌, ℕ, List, ◌∷◌, ◌++◌, [], All, Option, None, Some, IsSome, IsSomeAnd, Result, Ok, Err, Bool, true, false};
 ghost use Rattle.desk_base.specs.Moments.{IsMoment};
 ghost use Rattle.act_rules.specs.Lawful.{AreBounded};
 ghost use Rattle.act_rules.specs.Series.{series};
@@ -13,6 +13,7 @@ ghost use Rattle.agent_text.specs.Pockets.{Changes};
 ghost use Rattle.agent_text.specs.SavedTexts.{ReadsSaved};
 ghost use Rattle.agent_attempt.specs.Attempts.{PlainAttempt};
 ghost use Rattle.agent_attempt.specs.ActionContents.{actions_of};
+ghost use Rattle.agent_attempt.specs.Supplies.{wanted_of};
 ghost use Rattle.line_forms.specs.Names.{IsName};
 ghost use Rattle.agent_core.specs.declared.turned.Turned.{Turned};
 ghost use Rattle.agent_core.specs.declared.turned.Turned.TheVariants.{Memory, PocketFault, Wants};
@@ -144,9 +145,16 @@ pub fn shown_reports_are_saved()
     changed_histories_can_be_saved();
 }
 
-/// An attempt that wants a file, is given it, and wants one again in its next turn, can want fewer files from then on.
+/// An attempt that is held can want so many files at most. After a turn that answers Wants the held attempt wants the file of the answer,
+/// so that just that one can be supplied; once it is, and a file is wanted again in the next turn, the attempt can want fewer from then on.
+/// So a turn, what it wants, and the turn again come to an end.
 pub fn wants_come_to_an_end()
-    ensures { (at : When) (agent : AgentState) (given s2 : State) (d d2 : Devices) (attempt then : PlainAttempt)
+    ensures bounded { (agent : AgentState) (attempt : PlainAttempt) → (shown_state agent).held ≡ Some attempt
+        → (most : ℕ) × AttemptWantsAtMost attempt most }
+    ensures wanted { (at : When) (s s2 : State) (d d2 : Devices) (id : ℕ) (began : Bool) (digest : List ℕ)
+        → Turn at s d (Wants id began digest) s2 d2
+        → IsSomeAnd s2.held (λ attempt. (attempt.action.id ≡ id) × (wanted_of attempt.stage ≡ Some digest)) }
+    ensures fewer { (at : When) (agent : AgentState) (given s2 : State) (d d2 : Devices) (attempt then : PlainAttempt)
         (bytes : Option (List ℕ)) (id : ℕ) (digest next : List ℕ) (began : Bool) (most : ℕ) → (shown_state agent).held ≡ Some attempt
         → AttemptWantsAtMost attempt most → SuppliesHeld (shown_state agent).held digest bytes true given.held
         → Turn at given d (Wants id began next) s2 d2 → s2.held ≡ Some then
