@@ -3,15 +3,31 @@ ghost use Rattle.host_edge.specs.Ordered.{AreEntries};
 
 use crate::Host;
 use crate::faults::tell;
-use crate::kind::there;
+use crate::kind::{says_nothing_is_there, there};
 use crate::machine::MACHINE;
 use crate::ordered::Ordered;
 use crate::trouble::Trouble;
-use bf_world::{Entry, EntryList, is_part};
+use bf_world::{Entry, EntryList};
+use line_forms::read_part;
 use rel_lexer::Text;
 use std::alloc::{AllocError, Global};
-use std::fs::{self, DirEntry, FileType};
-use std::io::{self, Error, ErrorKind};
+use std::fs;
+use std::io::{Error, ErrorKind, Read};
+use std::mem::drop;
+
+/// How many bytes of names are read at a time.
+const ROOM: usize = 8192;
+
+/// A folder whose names are read. A walk looks at hundreds of thousands of them, so the path of each is made in the same room.
+#[derive(Drop)]
+struct Listing<'a> {
+    /// The folder's path, with a `/` behind it.
+    folder: &'a str,
+    /// The most bytes of a name that is shown.
+    longest: usize,
+    /// The path of the entry at hand.
+    path: String,
+}
 
 /// The entries of the folder at a place whose names have at most `longest` bytes, or None where no folder is there. Left out are names
 /// that aren't UTF-8 or not one part of a path, and what has no kind when it is asked for it.
@@ -22,59 +38,134 @@ pub(crate) fn entries_at<H: Host>(
 ) -> Result<Option<EntryList>, Trouble>
     ensures { IfOk result (λ entries. IfSome entries AreEntries) }
 {
-    let Some(listing) = there(fs::read_dir(host, place))? else {
+    let folder = with_slash(host.alloc(), place)?;
+    let entries = entries_of(host, folder.as_str(), longest);
+    drop(folder);
+    match entries? {
+        Some(entries) => Ok(Some(in_order(host.alloc(), entries)?)),
+        None => Ok(None),
+    }
+}
+
+/// A folder's path with a `/` behind it, by which the system follows a link to a folder.
+fn with_slash(alloc: Global, place: &str) -> Result<Text, AllocError> {
+    let mut folder = Text::from_str(alloc, place)?;
+    if !place.ends_with('/') {
+        folder.push("/")?;
+    }
+    Ok(folder)
+}
+
+/// The entries in no order.
+fn entries_of<H: Host>(
+    host: &H,
+    folder: &str,
+    longest: usize,
+) -> Result<Option<Vec<Entry>>, Trouble> {
+    let Some(mut names) = there(host.open_dir(folder))? else {
         return Ok(None);
     };
     let mut entries = Vec::new(host.alloc());
-    for entry in listing {
-        if let Some(entry) = entry_of(host, entry, longest)? {
-            entries.push(entry).map_err(AllocError::from)?;
+    let mut listing = Listing {
+        folder,
+        longest,
+        path: String::new(host.alloc()),
+    };
+    let read = listing.read(host, &mut names, &mut entries);
+    drop(names);
+    drop(listing);
+    read?;
+    Ok(Some(entries))
+}
+
+impl<'a> Listing<'a> {
+    /// Adds the entries of all names that are still to be read.
+    fn read<H: Host>(
+        &mut self,
+        host: &H,
+        names: &mut H::Dir,
+        entries: &mut Vec<Entry>,
+    ) -> Result<(), Trouble> {
+        let mut room = [0u8; ROOM];
+        for _ in 0..u64::MAX {
+            let count = match names.read(&mut room) {
+                Ok(count) => count,
+                Err(error) if says_nothing_is_there(&error) => return Ok(()),
+                Err(error) => return Err(Trouble::from(error)),
+            };
+            if count == 0 {
+                return Ok(());
+            }
+            self.add_all(host, &room[..count], entries)?;
+        }
+        Ok(())
+    }
+
+    /// Adds the entries of these names, each of which ends with a NUL.
+    fn add_all<H: Host>(
+        &mut self,
+        host: &H,
+        names: &[u8],
+        entries: &mut Vec<Entry>,
+    ) -> Result<(), Trouble> {
+        for name in names.split(|byte| *byte == 0) {
+            self.add(host, name, entries)?;
+        }
+        Ok(())
+    }
+
+    /// Adds the entry of this name, where it is one that is shown.
+    fn add<H: Host>(
+        &mut self,
+        host: &H,
+        name: &[u8],
+        entries: &mut Vec<Entry>,
+    ) -> Result<(), Trouble> {
+        if name.len() > self.longest {
+            return Ok(());
+        }
+        let Some(name) = read_part(name) else {
+            return Ok(());
+        };
+        self.name_entry(name)?;
+        if let Some(folder) = self.is_folder(host)? {
+            let name = Text::from_str(host.alloc(), name)?;
+            entries
+                .push(Entry { name, folder })
+                .map_err(AllocError::from)?;
+        }
+        Ok(())
+    }
+
+    /// Makes the path that of the entry with this name.
+    fn name_entry(&mut self, name: &str) -> Result<(), AllocError> {
+        self.path.clear();
+        self.path.push_str(self.folder)?;
+        self.path.push_str(name)?;
+        Ok(())
+    }
+
+    /// Whether the entry at hand is a folder, and not only a link to one. None where it is gone, and where it can't be asked, which is
+    /// told.
+    fn is_folder<H: Host>(&self, host: &H) -> Result<Option<bool>, Trouble> {
+        match fs::symlink_metadata(host, self.path.as_str()) {
+            Ok(metadata) => Ok(Some(metadata.is_dir())),
+            Err(error) if says_nothing_is_there(&error) => Ok(None),
+            Err(error) if error.kind() == ErrorKind::OutOfMemory => Err(Trouble::Memory),
+            Err(error) => {
+                self.tell_passed_over(host, &error);
+                Ok(None)
+            }
         }
     }
-    Ok(Some(in_order(host.alloc(), entries)?))
-}
 
-/// What a folder's listing gives, where it is an entry with a name of at most `longest` bytes. It is a folder only where it is one without
-/// following a link.
-fn entry_of<H: Host>(
-    host: &H,
-    entry: io::Result<DirEntry<H>>,
-    longest: usize,
-) -> Result<Option<Entry>, Trouble> {
-    let Some(entry) = there(entry)? else {
-        return Ok(None);
-    };
-    if entry.file_name().len() > longest {
-        return Ok(None);
-    }
-    let Some(kind) = kind_of(host, &entry)? else {
-        return Ok(None);
-    };
-    Ok(Some(Entry {
-        name: Text::from_str(host.alloc(), entry.file_name())?,
-        folder: kind.is_dir(),
-    }))
-}
-
-/// What sort of thing an entry is, links not followed. None where it is gone, and where it can't be asked, which is told.
-fn kind_of<H: Host>(host: &H, entry: &DirEntry<H>) -> Result<Option<FileType>, Trouble> {
-    match there(entry.file_type()) {
-        Err(error) if error.kind() != ErrorKind::OutOfMemory => {
-            tell_passed_over(host, entry, &error);
-            Ok(None)
-        }
-        kind => Ok(kind?),
-    }
-}
-
-/// Tells that an entry is passed over, where a look would show it: no other name is written.
-fn tell_passed_over<H: Host>(host: &H, entry: &DirEntry<H>, error: &Error) {
-    if is_part(entry.file_name()) {
+    /// Tells that the entry at hand is passed over.
+    fn tell_passed_over<H: Host>(&self, host: &H, error: &Error) {
         tell(
             host,
             MACHINE,
             "look",
-            entry.path().as_os_str(),
+            self.path.as_str(),
             format_args!("it is passed over: {error}"),
         );
     }
