@@ -5,6 +5,9 @@ use std::alloc::{AllocError, Global};
 /// The most bytes of a path.
 const LONGEST_PATH: usize = 1024;
 
+/// The most bytes of a number by which the system names something, as a process.
+pub(crate) const LONGEST_NUMBER: usize = 20;
+
 /// Where a path lies: one without a leading `/` lies beneath the work folder. None where the text is no path.
 pub(crate) fn place_of(alloc: Global, work: &str, path: &str) -> Result<Option<Text>, AllocError> {
     if !is_path(path) {

@@ -3,10 +3,11 @@ ghost use Rattle.bf_world.specs.Answers.{IsGoodAnswer, HasAscendingNames};
 
 use crate::Host;
 use crate::list::entries_at;
+use crate::place::LONGEST_NUMBER;
 use crate::read::content_at;
 use crate::rows::bare_world;
 use crate::trouble::Trouble;
-use bf_world::{Answer, Key, joined};
+use bf_world::{Answer, Entry, Key, World, joined};
 use desk_base::Bytes;
 use line_forms::read_rest;
 use rel_lexer::Text;
@@ -16,9 +17,6 @@ use std::mem::drop;
 
 /// Where the system shows its processes, each in a folder with its number as the name.
 const PROCESSES: &str = "/proc";
-
-/// The most bytes of a process's number.
-const LONGEST_NUMBER: usize = 20;
 
 /// The most bytes of what the system calls a process: it cuts a longer name there.
 const LONGEST_CALLED: usize = 15;
@@ -32,15 +30,43 @@ pub(crate) fn processes<H: Host>(host: &H) -> Result<Answer, Trouble>
     let Some(entries) = entries_at(host, PROCESSES, LONGEST_NUMBER)? else {
         return Err(Trouble::System(Error::new(ErrorKind::NotFound, "it isn't there")));
     };
+    let shown = shown_among(host, entries.as_slice());
+    drop(entries);
+    shown
+}
+
+/// The same, where these are the folders of the processes and what stands beside them.
+fn shown_among<H: Host>(host: &H, entries: &[Entry]) -> Result<Answer, Trouble>
+    ensures good { IfOk result IsGoodAnswer }
+    ensures ascending { IfOk result HasAscendingNames }
+{
     let mut world = bare_world(host.alloc())?;
-    for entry in entries.as_slice() {
+    let shown = shown_in(host, &mut world, entries);
+    drop(world);
+    shown
+}
+
+/// The same, by what a machine shows that has them.
+fn shown_in<H: Host>(host: &H, world: &mut World, entries: &[Entry]) -> Result<Answer, Trouble>
+    ensures good { IfOk result IsGoodAnswer }
+    ensures ascending { IfOk result HasAscendingNames }
+{
+    for entry in entries {
         if entry.folder && is_number(entry.name.as_str()) {
-            if let Some(name) = process_name(host, entry.name.as_str())? {
-                world.set_process(name.as_str())?;
-            }
+            add_process(host, world, entry.name.as_str())?;
         }
     }
     Ok(world.look(&Key::Processes)?)
+}
+
+/// Adds the process with this number, where it has a name.
+fn add_process<H: Host>(host: &H, world: &mut World, number: &str) -> Result<(), Trouble> {
+    let Some(name) = process_name(host, number)? else {
+        return Ok(());
+    };
+    let added = world.set_process(name.as_str());
+    drop(name);
+    Ok(added?)
 }
 
 fn is_number(name: &str) -> bool {

@@ -5,6 +5,7 @@ use bf_world::ProcessNo;
 use std::alloc::{AllocError, Global};
 use std::io::{self, Error, ErrorKind};
 use std::marker::Model;
+use std::mem::drop;
 use std::os::unix::process::ExitStatusExt;
 use std::process::{Child, Command, ExitStatus, OpenProcess, Stdio};
 
@@ -88,16 +89,34 @@ pub(crate) fn start<H: Host>(
 /// A program of `sh`, with a command line to do in a folder. It has no input, and its output goes nowhere.
 fn spawned<H: Host>(host: &H, folder: &str, line: &str) -> io::Result<Child<H::Started>> {
     let mut command = Command::new(host.alloc(), "sh")?;
-    command
-        .arg("-c")?
-        .arg("--")?
-        .arg(line)?
-        .current_dir(folder)?;
+    let child = spawned_by(host, &mut command, folder, line);
+    drop(command);
+    child
+}
+
+/// The same by the command of a shell that has no words so far.
+fn spawned_by<H: Host>(
+    host: &H,
+    command: &mut Command,
+    folder: &str,
+    line: &str,
+) -> io::Result<Child<H::Started>> {
+    give_words(command, folder, line)?;
     command
         .stdin(Stdio::null())
         .stdout(Stdio::null())
         .stderr(Stdio::null());
     command.spawn(host)
+}
+
+/// Gives a shell the command line that it does, and the folder in which it does it.
+fn give_words(command: &mut Command, folder: &str, line: &str) -> Result<(), AllocError> {
+    command
+        .arg("-c")?
+        .arg("--")?
+        .arg(line)?
+        .current_dir(folder)?;
+    Ok(())
 }
 
 /// The exit code of a program that has ended; of one that a signal ended 128 and the signal's number.

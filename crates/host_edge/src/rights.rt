@@ -1,7 +1,11 @@
 use crate::Host;
 use crate::kind::{metadata_at, there};
+use crate::list::entries_at;
+use crate::place::LONGEST_NUMBER;
+use bf_world::{Entry, joined};
 use std::fs::{self, Metadata, OpenFile, Permissions};
 use std::io;
+use std::mem::drop;
 use std::os::unix::fs::{MetadataExt, PermissionsExt, chown};
 
 /// The bits of a mode: who may read, write and run a file, and set-user, set-group and sticky.
@@ -84,22 +88,54 @@ fn is_given_to<H: Host>(host: &H, file: &H::File, owner: Owner) -> io::Result<bo
     if metadata.uid() == owner.user && metadata.gid() == owner.group {
         return Ok(true);
     }
-    let Ok(listing) = fs::read_dir(host, DESCRIPTORS) else {
-        return Ok(false);
+    Ok(is_found_and_given(host, &metadata, owner))
+}
+
+/// Finds the open file that this is of among what this process has open, and gives it to an owner, likewise.
+fn is_found_and_given<H: Host>(host: &H, metadata: &Metadata, owner: Owner) -> bool {
+    let Ok(Some(descriptors)) = entries_at(host, DESCRIPTORS, LONGEST_NUMBER) else {
+        return false;
     };
-    for entry in listing {
-        let Ok(entry) = entry else {
-            return Ok(false);
-        };
-        if is_same(&metadata, &fs::metadata(host, entry.path())) {
-            if chown(host, entry.path(), Some(owner.user), Some(owner.group)).is_ok() {
-                return Ok(true);
-            }
-            let _ = chown(host, entry.path(), None, Some(owner.group));
-            return Ok(false);
+    let given = is_given_by(host, descriptors.as_slice(), metadata, owner);
+    drop(descriptors);
+    given
+}
+
+/// The same among these.
+fn is_given_by<H: Host>(
+    host: &H,
+    descriptors: &[Entry],
+    metadata: &Metadata,
+    owner: Owner,
+) -> bool {
+    for descriptor in descriptors {
+        if let Some(given) = given_as(host, descriptor.name.as_str(), metadata, owner) {
+            return given;
         }
     }
-    Ok(false)
+    false
+}
+
+/// Gives what has this number to an owner, where it is what this is of, and answers whether it is his then. None where it is another file.
+fn given_as<H: Host>(host: &H, number: &str, metadata: &Metadata, owner: Owner) -> Option<bool> {
+    let Ok(place) = joined(host.alloc(), DESCRIPTORS, number) else {
+        return Some(false);
+    };
+    let given = given_at(host, place.as_str(), metadata, owner);
+    drop(place);
+    given
+}
+
+/// The same of what stands at this place.
+fn given_at<H: Host>(host: &H, place: &str, metadata: &Metadata, owner: Owner) -> Option<bool> {
+    if !is_same(metadata, &fs::metadata(host, place)) {
+        return None;
+    }
+    if chown(host, place, Some(owner.user), Some(owner.group)).is_ok() {
+        return Some(true);
+    }
+    let _ = chown(host, place, None, Some(owner.group));
+    Some(false)
 }
 
 /// Whether what was asked for is this very file.
