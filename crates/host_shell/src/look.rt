@@ -1,6 +1,6 @@
-use crate::shown::write_looked;
 use bf_machine::{Key, Machine};
 use desk_base::Bytes;
+use look_text::write_looked;
 use rel_lexer::Text;
 use std::alloc::Global;
 use std::mem::drop;
@@ -31,5 +31,5 @@ pub(crate) fn look<M: Machine>(
     drop(key);
     let written = write_looked(&looked, words);
     drop(looked);
-    written
+    written.ok()
 }

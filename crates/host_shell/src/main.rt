@@ -4,7 +4,6 @@
 
 mod command;
 mod look;
-mod shown;
 
 use bf_machine::Machine;
 use desk_base::Bytes;

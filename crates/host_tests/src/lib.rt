@@ -11,5 +11,3 @@ mod looks;
 mod machine;
 #[cfg(test)]
 mod programs;
-#[cfg(test)]
-mod shown;

@@ -1,9 +1,9 @@
 // Looks at files, folders, and what the files of the work folder spell.
 use crate::programs::run;
-use crate::shown::write_looked;
 use bf_machine::{Answer, Key, Looked, Machine};
 use bf_world::joined;
 use desk_base::Bytes;
+use look_text::write_looked;
 use rel_lexer::Text;
 use std::alloc::Global;
 use std::fs;
@@ -110,7 +110,7 @@ fn write_shown<M: Machine>(machine: &mut M, key: &Key, words: &mut Bytes) -> Opt
     let looked = machine.look(key);
     let written = write_looked(&looked, words);
     drop(looked);
-    written
+    written.ok()
 }
 
 /// Whether a look shows this.
