@@ -16,7 +16,7 @@ use std::io::{Error, ErrorKind, Read};
 use std::mem::drop;
 
 /// How many bytes of names are read at a time.
-const ROOM: usize = 8192;
+const ROOM: usize = 4096;
 
 /// A folder whose names are read. A walk looks at hundreds of thousands of them, so the path of each is made in the same room.
 #[derive(Drop)]
