@@ -101,7 +101,8 @@ impl Attempt {
     ) -> Result<Attempt, AllocError>
         requires offset { IsOffset offset }
         requires script { (fixlet : Fixlet) → shown_content content ≡ single fixlet → HasScript fixlet.script }
-        ensures begun { IfOk result (λ attempt. shown_attempt attempt ≡ new_attempt action.now (shown_content content.entry) row offset) }
+        ensures begun { IfOk result (λ attempt. shown_attempt attempt
+            ≡ new_attempt action.now (shown_content content.entry) row offset) }
         ensures waits { IfOk result (λ attempt. (started : ℕ) → StageWaitsBelow started (shown_stage attempt.stage)) }
     {
         let own = action.copied()?;

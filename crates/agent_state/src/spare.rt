@@ -34,8 +34,8 @@ impl Spare {
         ensures computer { IfOk result (λ spare. spare.computer ≡ computer.now) }
         ensures empty { IfOk result (λ spare. spare.rows.items ≡ []) }
         ensures rows { IfOk result (λ spare. min most_rows (pending_count histories.now + 1) ≤ vec_capacity spare.rows) }
-        ensures text { IfOk result (λ spare.
-            most_bytes histories.now reports.now + most_report_bytes (min most_rows (pending_count histories.now + 1)) ≤ spare.text.capacity) }
+        ensures text { IfOk result (λ spare. most_bytes histories.now reports.now
+            + most_report_bytes (min most_rows (pending_count histories.now + 1)) ≤ spare.text.capacity) }
     {
         let rows = pending_count(histories.as_slice())
             .saturating_add(1)

@@ -27,7 +27,8 @@ pub(crate) fn open_question<R: Reader>(
 ) -> Result<Paused, Refusal>
     requires moment { IsMoment asked.moment }
     requires offset { IsOffset asked.asking.offset }
-    ensures { MatchResult result (IsOpened R.reads asked.moment asked.asking.offset text.now) (λ refusal. IsRead R.reads text.now (Err refusal)) }
+    ensures { MatchResult result (IsOpened R.reads asked.moment asked.asking.offset text.now)
+        (λ refusal. IsRead R.reads text.now (Err refusal)) }
 {
     let question = match read_question::<R>(alloc, text) {
         Ok(question) => question,

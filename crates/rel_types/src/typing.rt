@@ -108,7 +108,8 @@ fn truth(alloc: Global, it: Option<&Kind>, tree: &Tree) -> Result<Node, TypeErro
 #[cycle(typing)]
 #[tactic(auto, unfolding(crate::specs::Typing::same_branch, crate::specs::Outcomes::after, crate::specs::Outcomes::Fails))]
 fn branch(alloc: Global, it: Option<&Kind>, tree: &Tree, kind: &Kind) -> Result<Node, TypeError>
-    ensures { Answers shown_node (same_branch (shown_kind kind.now) (shown tree.now) (typed (shown_lent it.entry) (shown tree.now))) result }
+    ensures { Answers shown_node (same_branch (shown_kind kind.now) (shown tree.now)
+        (typed (shown_lent it.entry) (shown tree.now))) result }
 {
     let node = typed(alloc, it, tree)?;
     ask_kind(kind, span(tree), node)

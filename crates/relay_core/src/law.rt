@@ -9,9 +9,9 @@ ghost use Rattle.relay_core.specs.KeptSites.{AreKept, KeepsSite};
 
 /// What comes of a site that a relay is to keep is one thing, but for want of memory, and its sites stay kept ones.
 pub fn one_keeping()
-    ensures one { (old new other : RelayState) (site : Site) (answer otherwise : Gathered) → AreKept old.sites → KeepsSite old site answer new
-        → KeepsSite old site otherwise other → answer ≢ gathering.Memory → otherwise ≢ gathering.Memory
+    ensures one { (old new other : RelayState) (site : Site) (answer otherwise : Gathered) → AreKept old.sites
+        → KeepsSite old site answer new → KeepsSite old site otherwise other → answer ≢ gathering.Memory → otherwise ≢ gathering.Memory
         → (answer ≡ otherwise) × (new ≡ other) }
-    ensures kept { (old new : RelayState) (site : Site) (answer : Gathered) → AreKept old.sites → IsSite site → KeepsSite old site answer new
-        → AreKept new.sites }
+    ensures kept { (old new : RelayState) (site : Site) (answer : Gathered) → AreKept old.sites → IsSite site
+        → KeepsSite old site answer new → AreKept new.sites }
 {}
