@@ -1,6 +1,8 @@
-// What holds of every run of a command.
+// What holds of every run of a command, and of every schedule of the delivery of reports.
 ghost use Rattle.std.specs.Prelude.{◌≡◌, ℕ, List};
 ghost use Rattle.rel_session.specs.Devices.{Devices};
+ghost use Rattle.delivery.specs.Holdings.{IsDelivered};
+ghost use Rattle.delivery.specs.Schedules.{Deployment, IsSchedule, Step, reached, start};
 ghost use Rattle.desk_top.specs.declared.command.DeskCommand.{DeskCommand};
 ghost use Rattle.desk_top.specs.declared.command.DeskCommand.TheVariants.{Qna};
 ghost use Rattle.desk_top.specs.Said.{Did, IsGoodInput, Refuses};
@@ -25,4 +27,13 @@ pub fn one_said()
     one_finding();
     one_front();
     a_world_is_read();
+}
+
+/// Over every schedule of the delivery of reports each accepted report was made by its computer, no two have one computer and number, each
+/// report that a computer ever dropped is held with its digest, and no report is answered by a conflict.
+pub fn what_is_dropped_is_held()
+    ensures { (given : Deployment) (steps : List Step) → IsSchedule given.limits (start given) steps
+        → IsDelivered (reached given.limits (start given) steps) }
+{
+    delivery::what_is_dropped_is_held();
 }

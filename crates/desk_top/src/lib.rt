@@ -10,6 +10,6 @@ mod status;
 mod top;
 
 pub use command::DeskCommand;
-pub use law::one_said;
+pub use law::{one_said, what_is_dropped_is_held};
 pub use status::Status;
 pub use top::desk;
