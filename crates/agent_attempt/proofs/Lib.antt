@@ -1,4 +1,5 @@
 pub mod Lookups
+pub mod Places
 pub mod Reading
 pub mod Asked
 pub mod Quiet

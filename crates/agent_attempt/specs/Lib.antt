@@ -1,6 +1,7 @@
 pub mod ActionContents
 pub mod ReadTexts
 pub mod ReadBlocks
+pub mod BlockPlaces
 pub mod FoundContents
 pub mod Relevance
 pub mod Times

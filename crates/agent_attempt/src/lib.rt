@@ -7,6 +7,7 @@ mod component;
 mod found;
 mod going;
 mod read_block;
+mod read_blocks;
 mod read_fixlet;
 mod read_site;
 mod relevance;

@@ -1,12 +1,11 @@
-ghost use Rattle.std.specs.Prelude.{◌≡◌, ◌==◌, map, IfOk};
-ghost use Rattle.std.specs.List.{find};
-ghost use Rattle.std.specs.Option.{option_map};
+ghost use Rattle.std.specs.Prelude.{◌≡◌, map, IfOk};
 ghost use Rattle.fix_site.specs.Sites.{IsSite};
-ghost use Rattle.agent_attempt.specs.ReadBlocks.{read_id, shown_block};
+ghost use Rattle.agent_attempt.specs.ReadBlocks.{shown_block};
 ghost use Rattle.agent_attempt.specs.ActionContents.{block_content};
 ghost use Rattle.agent_attempt.specs.FoundContents.{FindsBlock, FindsContent, FindsFixlet, shown_if};
 
 use crate::read_block::{ReadBaseline, ReadBlock};
+use crate::read_blocks::ReadBlocks;
 use crate::read_fixlet::ReadFixlet;
 use fix_site::Site;
 use rel_lexer::Text;
@@ -18,20 +17,18 @@ use std::marker::Model;
 pub struct ReadSite {
     name: Text,
     version: u64,
-    blocks: Vec<ReadBlock>,
+    blocks: ReadBlocks,
 }
 
 impl Model for ReadSite {
-    ghost use Rattle.std.specs.Prelude.{map};
     ghost use Rattle.fix_site.specs.declared.site.Site.{Site};
     ghost use Rattle.fix_site.specs.Sites.{IsSite};
-    ghost use Rattle.agent_attempt.specs.ReadBlocks.{shown_block};
 
     ghost Value = { Site };
 
-    ghost view = { λ s. record { name = s.name; version = s.version; blocks = map shown_block s.blocks.items } };
+    ghost view = { λ s. record { name = s.name; version = s.version; blocks = s.blocks } };
 
-    ghost invariant = { λ s. IsSite (record { name = s.name; version = s.version; blocks = map shown_block s.blocks.items }) };
+    ghost invariant = { λ s. IsSite (record { name = s.name; version = s.version; blocks = s.blocks }) };
 }
 
 /// A baseline, and the site that it is of. Only a site makes one, of a baseline of its own.
@@ -54,9 +51,9 @@ impl ReadSite {
         requires { IsSite site.now }
         ensures { IfOk result (λ read. read ≡ site.now) }
     {
-        let mut blocks = Vec::new(alloc);
+        let mut blocks = ReadBlocks::new(alloc);
         for block in site.blocks.as_slice() {
-            blocks.push(ReadBlock::read(alloc, block)?)?;
+            blocks = blocks.with(ReadBlock::read(alloc, block)?)?;
         }
         Ok(ReadSite {
             name: site.name.copy()?,
@@ -90,7 +87,7 @@ impl ReadSite {
     fn block(&self, id: u64) -> Option<&ReadBlock>
         ensures { FindsBlock id self.now.blocks result }
     {
-        block_of(self.blocks.as_slice(), id)
+        self.blocks.get(id)
     }
 
     /// The fixlet of this id, if there is one.
@@ -126,11 +123,4 @@ impl ReadSite {
             ReadBlock::Action(_) => None,
         }
     }
-}
-
-/// The first of these blocks that has this id.
-fn block_of(blocks: &[ReadBlock], id: u64) -> Option<&ReadBlock>
-    ensures { option_map (λ block. block.now) result ≡ find (λ block. read_id block == id) blocks.now }
-{
-    blocks.iter().find(|block| block.id() == id)
 }
