@@ -39,16 +39,6 @@ impl Clause {
         })
     }
 
-    /// The same clause once more.
-    pub(crate) fn copy(&self) -> Result<Clause, AllocError>
-        ensures { IfOk result (λ clause. clause ≡ self.now) }
-    {
-        Ok(Clause {
-            text: self.text.copy()?,
-            question: copy_question(&self.question)?,
-        })
-    }
-
     /// Asks the clause.
     pub(crate) fn ask<M: Machine>(&self, alloc: Global, machine: &mut M, time: &Time) -> Found
         ensures { Asks time.now self.now (M.told machine.old) result (M.told machine.new) }
@@ -73,26 +63,6 @@ fn question_of(alloc: Global, text: &Text) -> Result<Option<Question>, AllocErro
     }
 }
 
-/// The same question once more.
-fn copy_question(question: &Option<Question>) -> Result<Option<Question>, AllocError>
-    ensures { (text : List ℕ) → IsReadAs text question.now → IfOk result (λ copy. IsReadAs text copy) }
-{
-    match question {
-        Some(question) => Ok(Some(question.copy()?)),
-        None => Ok(None),
-    }
-}
-
-/// The same clause once more, if there is one.
-pub(crate) fn copy_clause(clause: &Option<Clause>) -> Result<Option<Clause>, AllocError>
-    ensures { IfOk result (λ copy. copy ≡ clause.now) }
-{
-    match clause {
-        Some(clause) => Ok(Some(clause.copy()?)),
-        None => Ok(None),
-    }
-}
-
 /// Reads clauses, in their order.
 pub(crate) fn read_all(alloc: Global, texts: &[Text]) -> Result<Vec<Clause>, AllocError>
     ensures { IfOk result (λ clauses. clauses.items ≡ texts.now) }
@@ -102,17 +72,6 @@ pub(crate) fn read_all(alloc: Global, texts: &[Text]) -> Result<Vec<Clause>, All
         clauses.push(Clause::read(alloc, text)?)?;
     }
     Ok(clauses)
-}
-
-/// The same clauses once more.
-pub(crate) fn copy_all(alloc: Global, clauses: &[Clause]) -> Result<Vec<Clause>, AllocError>
-    ensures { IfOk result (λ copies. copies.items ≡ clauses.now) }
-{
-    let mut copies = Vec::new(alloc);
-    for clause in clauses {
-        copies.push(clause.copy()?)?;
-    }
-    Ok(copies)
 }
 
 /// Asks clauses in order, up to the first that isn't true.

@@ -4,6 +4,7 @@
 mod attempt;
 mod clause;
 mod component;
+mod fixlet_texts;
 mod found;
 mod going;
 mod read_block;

@@ -1,37 +1,30 @@
-ghost use Rattle.std.specs.Prelude.{◌≡◌, ◌<◌, ◌^◌, ℕ, List, length, Some, IfOk};
+ghost use Rattle.std.specs.Prelude.{◌≡◌, Some, IfOk};
 ghost use Rattle.fix_site.specs.Contents.{IsFixlet};
-ghost use Rattle.agent_attempt.specs.ReadTexts.{IsScriptOf, success_clause};
+ghost use Rattle.agent_attempt.specs.ReadTexts.{IsScriptOf};
 ghost use Rattle.agent_attempt.specs.Relevance.{FixletIs, HasScript, Succeeds};
 
-use crate::clause::{Clause, ask_all, ask_given, copy_all, copy_clause, read_all};
+use crate::fixlet_texts::FixletTexts;
 use crate::found::Found;
 use crate::time::Time;
 use bf_machine::Machine;
-use fix_site::{Fixlet, Success};
-use rel_lexer::Text;
-use script_text::{Script, ScriptError, one_verdict, read_script};
+use fix_site::Fixlet;
+use script_text::Script;
 use std::alloc::{AllocError, Global};
 use std::marker::Model;
+use std::rc::Rc;
 
-/// A fixlet whose texts were read once. Contracts see the fixlet.
+/// A fixlet whose texts were read once. Its copies share them. Contracts see the fixlet.
 #[derive(Drop)]
 pub struct ReadFixlet {
-    alloc: Global,
-    fixlet: Fixlet,
-    relevance: Vec<Clause>,
-    success: Option<Clause>,
-    script: Option<Script>,
+    texts: Rc<FixletTexts>,
 }
 
 impl Model for ReadFixlet {
     ghost use Rattle.fix_site.specs.declared.fixlet.Fixlet.{Fixlet};
-    ghost use Rattle.agent_attempt.specs.ReadTexts.{IsReadFixlet};
 
     ghost Value = { Fixlet };
 
-    ghost view = { λ f. f.fixlet };
-
-    ghost invariant = { λ f. IsReadFixlet f.fixlet f.relevance.items f.success f.script };
+    ghost view = { λ f. f.texts.value };
 }
 
 impl ReadFixlet {
@@ -40,25 +33,18 @@ impl ReadFixlet {
         requires { IsFixlet fixlet.now }
         ensures { IfOk result (λ read. read ≡ fixlet.now) }
     {
+        let texts = FixletTexts::read(alloc, fixlet)?;
         Ok(ReadFixlet {
-            alloc,
-            fixlet: fixlet.copy()?,
-            relevance: read_all(alloc, fixlet.relevance.as_slice())?,
-            success: read_success(alloc, &fixlet.success)?,
-            script: script_of(alloc, fixlet.script.as_slice())?,
+            texts: Rc::new(alloc, texts)?,
         })
     }
 
-    /// The same fixlet once more.
+    /// The same fixlet once more. It takes no memory, but can't be had of more copies than can be counted.
     pub(crate) fn copy(&self) -> Result<ReadFixlet, AllocError>
         ensures { IfOk result (λ copy. copy ≡ self.now) }
     {
         Ok(ReadFixlet {
-            alloc: self.alloc,
-            fixlet: self.fixlet.copy()?,
-            relevance: copy_all(self.alloc, self.relevance.as_slice())?,
-            success: copy_clause(&self.success)?,
-            script: copy_script(&self.script)?,
+            texts: self.texts.clone()?,
         })
     }
 
@@ -66,7 +52,7 @@ impl ReadFixlet {
     pub(crate) fn id(&self) -> u64
         ensures { result ≡ self.now.id }
     {
-        self.fixlet.id
+        self.texts.id()
     }
 
     /// Its script, which isn't refused.
@@ -74,12 +60,7 @@ impl ReadFixlet {
         requires { HasScript self.now.script }
         ensures { IfOk result (λ script. IsScriptOf self.now.script (Some script)) }
     {
-        // Proof: lines that are a script aren't refused.
-        one_verdict();
-        match &self.script {
-            Some(script) => script.copy(),
-            None => unreachable!(),
-        }
+        self.texts.script()
     }
 
     /// Whether the fixlet is relevant.
@@ -91,58 +72,13 @@ impl ReadFixlet {
     ) -> Found
         ensures { FixletIs time.now self.now (M.told machine.old) result (M.told machine.new) }
     {
-        if self.script.is_none() {
-            // Proof: lines that are refused are no script.
-            one_verdict();
-            return Found::No;
-        }
-        ask_all(alloc, self.relevance.as_slice(), machine, time)
+        self.texts.is_relevant(alloc, machine, time)
     }
 
     /// Whether its success rule holds, after its script is done.
     pub(crate) fn succeeds<M: Machine>(&self, alloc: Global, machine: &mut M, time: &Time) -> Found
         ensures { Succeeds time.now self.now self.now.success (M.told machine.old) result (M.told machine.new) }
     {
-        match &self.fixlet.success {
-            Success::Lines => Found::Yes,
-            Success::Relevance => {
-                ask_all(alloc, self.relevance.as_slice(), machine, time).opposite()
-            }
-            Success::Clause(_) => ask_given(alloc, &self.success, machine, time),
-        }
-    }
-}
-
-/// Reads the question of a success rule, if it has one.
-fn read_success(alloc: Global, success: &Success) -> Result<Option<Clause>, AllocError>
-    ensures { IfOk result (λ clause. clause ≡ success_clause success.now) }
-{
-    match success {
-        Success::Lines | Success::Relevance => Ok(None),
-        Success::Clause(question) => Ok(Some(Clause::read(alloc, question)?)),
-    }
-}
-
-/// Reads a script. None where it is refused.
-fn script_of(alloc: Global, lines: &[Text]) -> Result<Option<Script>, AllocError>
-    requires { length lines.now < 2 ^ 32 }
-    ensures { IfOk result (λ script. IsScriptOf lines.now script) }
-{
-    match read_script(alloc, lines) {
-        Ok(script) => Ok(Some(script)),
-        Err(error) => match error {
-            ScriptError::Memory => Err(AllocError),
-            _ => Ok(None),
-        },
-    }
-}
-
-/// The same script once more.
-fn copy_script(script: &Option<Script>) -> Result<Option<Script>, AllocError>
-    ensures { (lines : List (List ℕ)) → IsScriptOf lines script.now → IfOk result (λ copy. IsScriptOf lines copy) }
-{
-    match script {
-        Some(script) => Ok(Some(script.copy()?)),
-        None => Ok(None),
+        self.texts.succeeds(alloc, machine, time)
     }
 }

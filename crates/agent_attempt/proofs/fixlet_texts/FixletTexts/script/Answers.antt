@@ -3,7 +3,7 @@ use Rattle.fix_site.specs.declared.fixlet.Fixlet.{Fixlet}
 use Rattle.agent_attempt.specs.ReadTexts.{IsScriptOf}
 use Rattle.agent_attempt.specs.Relevance.{HasScript}
 use Rattle.agent_attempt.proofs.Asked.{no_script}
-use Rattle.agent_attempt.proofs.read_fixlet.ReadFixlet.script.Goals as goal
+use Rattle.agent_attempt.proofs.fixlet_texts.FixletTexts.script.Goals as goal
 
 pub unreachable-requires : goal.unreachable-requires
 unreachable-requires c =

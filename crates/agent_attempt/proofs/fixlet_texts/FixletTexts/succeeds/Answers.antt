@@ -1,6 +1,6 @@
 use Rattle.std.proofs.Common.{◌∙◌}
 use Rattle.agent_attempt.proofs.Rules.{succeeds_lines, succeeds_relevance, succeeds_clause}
-use Rattle.agent_attempt.proofs.read_fixlet.ReadFixlet.succeeds.Goals as goal
+use Rattle.agent_attempt.proofs.fixlet_texts.FixletTexts.succeeds.Goals as goal
 
 pub returns-in-Lines : goal.returns-in-Lines
 returns-in-Lines g c = succeeds_lines _ c.args.self.now c.self.inside.fixlet _ c.self.view_is c.in-Lines.is
