@@ -1,4 +1,4 @@
--- An attempt that is held can want so many files at most.
+-- An attempt that is held can want so many files at most. Other crates may cite these lemmas.
 use Rattle.std.proofs.Common.{ℕ, suc, ◌≡◌, ◌+◌, List, [], ◌∷◌, length, false, Option, Some, None, refl, subst}
 use Rattle.std.specs.Prelude.{sum_by}
 use Rattle.std.specs.Option.{option_map}
