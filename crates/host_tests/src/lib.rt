@@ -6,6 +6,8 @@ mod commands;
 #[cfg(test)]
 mod devices;
 #[cfg(test)]
+mod doors;
+#[cfg(test)]
 mod looks;
 #[cfg(test)]
 mod machine;

@@ -17,7 +17,7 @@ enum Tried {
 }
 
 /// Makes a fresh folder for the test of this name.
-fn fresh_folder(rt: &HostRuntime, name: &str) -> Option<String> {
+pub(crate) fn fresh_folder(rt: &HostRuntime, name: &str) -> Option<String> {
     let number = std::process::id(rt.process());
     let folder = format!(in rt.alloc(); "/tmp/host_tests-{number}-{name}").ok()?;
     fs::create_dir(rt, folder.as_str()).ok()?;

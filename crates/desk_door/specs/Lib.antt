@@ -1,0 +1,4 @@
+pub mod Lists
+pub mod Doors
+pub mod Links
+pub mod Memory
