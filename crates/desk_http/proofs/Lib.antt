@@ -1,0 +1,10 @@
+mod Numbers
+mod Naming
+mod Heads
+mod Taking
+mod Requests
+mod Saying
+mod Talking
+mod Laws
+mod ReadBack
+mod AskBack

@@ -1,0 +1,205 @@
+-- What was heard, by what was read.
+use Rattle.std.proofs.Common.{◌≡◌, ℕ, ◌≤◌, ◌<◌, ◌+◌, ◌-◌, ◌⊎◌, max, nat_lt, true, false, List, [], ◌++◌, Option, None, Some, Result, Ok, IfOk, length, length-append, length-take-le, length-drop, drop, take, map, refl, sym, ap, ◌∙◌, subst, arith, inl, inr, append-nil, append_assoc}
+use Rattle.std.specs.List.{slice_range}
+use Rattle.std.specs.Io.KnownBytes.{Consumes, IsAtEnd}
+use Rattle.std.proofs.KnownBytes.{Consumes-trans}
+use Rattle.std.proofs.lemmas.List.{length-map}
+use Rattle.std.proofs.lemmas.Grind.{common_steps}
+use Rattle.std.proofs.lemmas.Bool.Decides.{nat_tests}
+use Rattle.httparse.specs.Grammar.{RequestHead, print_request}
+use Rattle.httparse.specs.Spans.{IsRequestAt, IsRequestWithin, IsWithin, span_bytes, header_bytes, name_and_value}
+use Rattle.httparse.specs.declared.spans.Span.{Span}
+use Rattle.httparse.specs.declared.spans.HeaderSpan.{HeaderSpan}
+use Rattle.httparse.specs.declared.spans.RequestSpans.{RequestSpans}
+use Rattle.httparse.proofs.GrammarLemmas.{ReadsRequest-append}
+use Rattle.route_rules.specs.declared.route.Route.{Route}
+use Rattle.route_rules.specs.declared.route.Route.TheVariants as route
+use Rattle.route_rules.specs.declared.route.Routes.{Routes}
+use Rattle.route_rules.specs.Routes.{FindsRoute, row_of}
+use Rattle.desk_http.specs.declared.request.Refusal.TheVariants.{BadRequest, NoSuch, TooLong}
+use Rattle.desk_http.specs.Fields.{request_length}
+use Rattle.desk_http.specs.Heard.{Heard, Call, Refused, IsHead, HasNoHead, heard_behind, length_of, most_behind, Hears, no_head, bad_fields, good_head}
+use Rattle.desk_http.specs.Conversing.{Says}
+use Rattle.desk_http.specs.Reading.{Grew, IsClamped, NeverHasHead, TakesHeard}
+
+abbrev pub rest_of : Option (List ℕ) → List ℕ
+rest_of None = []
+rest_of (Some bytes) = bytes
+
+says_all : (old new : Option (List ℕ)) (buf : List ℕ) → Consumes old new buf → Says old (buf ++ rest_of new)
+says_all None new buf taken = tt
+says_all (Some xs) None buf taken = absurd taken
+says_all (Some xs) (Some ys) buf taken = taken
+
+-- bytes that were taken, and what is heard in all
+pub heard_in : (routes : Routes) (old new : Option (List ℕ)) (buf : List ℕ) (heard : Heard) (most : ℕ) → Consumes old new buf → 0 < length buf → length buf ≤ most → Hears routes (buf ++ rest_of new) heard most → TakesHeard routes old new heard
+heard_in routes old new buf heard most taken some few hears =
+    (buf ++ rest_of new, most, says_all old new buf taken, omega (arith, some, length-append buf (rest_of new)), hears, (buf, taken, few))
+
+rest_at_end : (new : Option (List ℕ)) → IsAtEnd new → rest_of new ≡ []
+rest_at_end None is = refl
+rest_at_end (Some xs) is = is
+
+pub hears_no_head : (routes : Routes) (old new : Option (List ℕ)) (buf : List ℕ) → Consumes old new buf → 0 < length buf → length buf ≤ 16384 → NeverHasHead buf ⊎ (IsAtEnd new × HasNoHead buf) → TakesHeard routes old new (Refused BadRequest)
+hears_no_head routes old new buf taken some few (inl never) =
+    heard_in routes old new buf (Refused BadRequest) 16384 taken some few (no_head (never (rest_of new)) refl refl)
+hears_no_head routes old new buf taken some few (inr (end, none)) =
+    heard_in routes old new buf (Refused BadRequest) 16384 taken some few
+    (no_head (subst (λ l. HasNoHead l) (sym (ap (λ l. buf ++ l) (rest_at_end new end) ∙ append-nil buf)) none) refl refl)
+
+-- the fields of a head that was read
+fields_of : (buf : List ℕ) (fields : List HeaderSpan) (spans : RequestSpans) (h : RequestHead) → length fields ≡ 64 → IsRequestWithin buf fields spans → IsRequestAt buf fields spans h → length h.fields ≤ 64
+fields_of buf fields spans h room within at =
+    omega (arith, room, within.section.count_fits, ap length at.fields, length-map h.fields name_and_value, length-map (take spans.headers fields) (header_bytes buf), length-take-le spans.headers fields within.section.count_fits)
+
+head_in : (buf more : List ℕ) (fields : List HeaderSpan) (spans : RequestSpans) (h : RequestHead) → length fields ≡ 64 → IsRequestWithin buf fields spans → IsRequestAt buf fields spans h → spans.len ≤ 16384 → IsHead (buf ++ more) h (drop spans.len buf ++ more)
+head_in buf more fields spans h room within at short = record {
+  reads = ReadsRequest-append buf h (drop spans.len buf) more at.reads;
+  short = omega (arith, at.len, short);
+  few = fields_of buf fields spans h room within at;
+}
+
+lt_true : (a b : ℕ) → a < b → nat_lt a b ≡ true
+lt_true a b less = grind (arith, nat_tests)
+
+lt_false : (a b : ℕ) → b ≤ a → nat_lt a b ≡ false
+lt_false a b less = grind (arith, nat_tests)
+
+-- the route that was found
+pub found_at : {E : Type 0} (P : Option Route → Type 0) (r : Result (Option Route) E) (f found : Option Route) → r ≡ Ok f → f ≡ found → IfOk r P → P found
+found_at P r f found is of p =
+    let e : r ≡ Ok found = is ∙ ap (λ (x : Option Route). Ok x) of in
+    subst (λ r. IfOk r P) e p
+
+-- the greatest limit of a body
+pub most_of : (r : Route) → (row_of r).most ≤ 4194304
+most_of route.Publish = omega arith
+most_of route.Act = omega arith
+most_of (route.Stop id) = omega arith
+most_of route.File = omega arith
+most_of route.AskSites = omega arith
+most_of (route.AskSite name version) = omega arith
+most_of (route.AskFile digest) = omega arith
+most_of route.Report = omega arith
+most_of (route.Results computer) = omega arith
+
+-- what is heard behind a good head
+module _ (h : RequestHead) (rest : List ℕ) (count : ℕ) (r : Route) where
+  long_is : (row_of r).most < count → heard_behind h rest count (Some r) ≡ Refused TooLong
+  long_is long = rw (lt_true (row_of r).most count long) refl
+
+  cut_is : count ≤ (row_of r).most → length rest < count → heard_behind h rest count (Some r) ≡ Refused BadRequest
+  cut_is fits cut = rw (lt_false (row_of r).most count fits, lt_true (length rest) count cut) refl
+
+  pub call_is : count ≤ (row_of r).most → count ≤ length rest → heard_behind h rest count (Some r) ≡ Call (row_of r).asking h.target (take count rest)
+  call_is fits whole = rw (lt_false (row_of r).most count fits, lt_false (length rest) count whole) refl
+
+  refused_takes : (row_of r).most < count → most_behind h count (Some r) ≡ 16384
+  refused_takes long = rw (lt_true (row_of r).most count long) refl
+
+  whole_takes : count ≤ (row_of r).most → most_behind h count (Some r) ≡ max 16384 (length (print_request h) + count)
+  whole_takes fits = rw (lt_false (row_of r).most count fits) refl
+
+-- bytes that came later change no earlier part
+slice_more : (buf bytes : List ℕ) (span : Span) → IsWithin (length buf) span → span_bytes (buf ++ bytes) span ≡ span_bytes buf span
+slice_more buf bytes span within = grind (arith, common_steps)
+
+body_is : (buf bytes more : List ℕ) (len count : ℕ) → len ≤ length buf → len + count ≤ length (buf ++ bytes) → take count (drop len buf ++ (bytes ++ more)) ≡ slice_range (buf ++ bytes) len (len + count)
+body_is buf bytes more len count within whole = grind (arith, common_steps)
+
+slice_short : (buf : List ℕ) (a n : ℕ) → length (take n (drop a buf)) ≤ length buf
+slice_short buf a n = grind (arith, common_steps)
+
+-- what a head that was read says, as it was read
+pub record ReadHead (old mid : Option (List ℕ)) (buf : List ℕ) (fields : List HeaderSpan) (spans : RequestSpans) : Type 0 where
+  pub room : length fields ≡ 64
+  pub taken : Consumes old mid buf
+  pub short : length buf ≤ 16384
+  pub within : IsRequestWithin buf fields spans
+  pub head : RequestHead
+  pub at : IsRequestAt buf fields spans head
+
+module _ (routes : Routes) (old mid : Option (List ℕ)) (buf : List ℕ) (fields : List HeaderSpan) (spans : RequestSpans) (is : ReadHead old mid buf fields spans) where
+  abbrev h : RequestHead
+  h = is.head
+
+  len_short : spans.len ≤ 16384
+  len_short = omega (arith, is.within.section.len_fits, is.short)
+
+  some_read : 0 < length buf
+  some_read = omega (arith, is.at.reads.0.method.0, ap length is.at.method, slice_short buf spans.method.start (spans.method.end - spans.method.start))
+
+  pub fields_at : (b : List ℕ) (fs : List HeaderSpan) (result : Option ℕ) → b ≡ buf → fs ≡ take spans.headers fields → IsClamped (request_length spans.version (map (header_bytes b) fs)) result → IsClamped (length_of h) result
+  fields_at b fs result b_is fs_is clamped =
+      let pairs : map (header_bytes b) fs ≡ map name_and_value h.fields = ap (λ b. map (header_bytes b) fs) b_is ∙ ap (map (header_bytes buf)) fs_is ∙ is.at.fields in
+      subst (λ n. IsClamped n result) (ap (λ v. request_length v (map (header_bytes b) fs)) is.at.version ∙ ap (request_length h.minor) pairs) clamped
+
+  pub route_at : (m p b b' : List ℕ) (found : Option Route) → b ≡ buf → b' ≡ buf → m ≡ span_bytes b spans.method → p ≡ span_bytes b' spans.path → FindsRoute routes m p found → FindsRoute routes h.method h.target found
+  route_at m p b b' found b_is b'_is m_is p_is finds =
+      let same : m ≡ h.method = m_is ∙ ap (λ b. span_bytes b spans.method) b_is ∙ is.at.method in
+      let same' : p ≡ h.target = p_is ∙ ap (λ b. span_bytes b spans.path) b'_is ∙ is.at.path in
+      subst (λ p. FindsRoute routes h.method p found) same' (subst (λ m. FindsRoute routes m p found) same finds)
+
+  -- a refusal for which nothing more was read
+  pub hears_bad : IsClamped (length_of h) None → TakesHeard routes old mid (Refused BadRequest)
+  hears_bad none =
+      heard_in routes old mid buf (Refused BadRequest) 16384 is.taken some_read is.short
+      (bad_fields h (drop spans.len buf ++ rest_of mid) (head_in buf (rest_of mid) fields spans h is.room is.within is.at len_short) none refl refl)
+
+  module _ (n : ℕ) (clamped : IsClamped (length_of h) (Some n)) where
+    pub hears_none : FindsRoute routes h.method h.target None → TakesHeard routes old mid (Refused NoSuch)
+    hears_none finds =
+        heard_in routes old mid buf (Refused NoSuch) 16384 is.taken some_read is.short
+        (good_head h (drop spans.len buf ++ rest_of mid) clamped.0 None (head_in buf (rest_of mid) fields spans h is.room is.within is.at len_short) clamped.1 finds refl refl)
+
+    module _ (r : Route) (finds : FindsRoute routes h.method h.target (Some r)) where
+      pub hears_long : (row_of r).most < n → TakesHeard routes old mid (Refused TooLong)
+      hears_long long =
+          let rest = drop spans.len buf ++ rest_of mid in
+          let more : (row_of r).most < clamped.0 = omega (arith, clamped.2, long) in
+          heard_in routes old mid buf (Refused TooLong) 16384 is.taken some_read is.short
+          (good_head h rest clamped.0 (Some r) (head_in buf (rest_of mid) fields spans h is.room is.within is.at len_short) clamped.1 finds
+          (sym (long_is h rest clamped.0 r more)) (sym (refused_takes h rest clamped.0 r more)))
+
+      module _ (new : Option (List ℕ)) (buf' : List ℕ) (fits : n ≤ (row_of r).most) (grew : Grew mid new buf buf') (few : length buf' ≤ max (length buf) (spans.len + n)) where
+        all_taken : Consumes old new buf'
+        all_taken = subst (λ l. Consumes old new l) (sym grew.2) (Consumes-trans old mid new buf grew.0 is.taken grew.1)
+
+        same_count : clamped.0 ≡ n
+        same_count = omega (arith, clamped.2, fits, most_of r)
+
+        abbrev rest : List ℕ
+        rest = drop spans.len buf ++ (grew.0 ++ rest_of new)
+
+        in_limit : clamped.0 ≤ (row_of r).most
+        in_limit = omega (arith, same_count, fits)
+
+        taken_few : length buf' ≤ max 16384 (length (print_request h) + clamped.0)
+        taken_few = omega (arith, few, same_count, is.at.len, is.short)
+
+        hears_later : (heard : Heard) → heard ≡ heard_behind h rest clamped.0 (Some r) → TakesHeard routes old new heard
+        hears_later heard same =
+            let more = grew.0 ++ rest_of new in
+            let whole : buf ++ more ≡ buf' ++ rest_of new = sym (append_assoc buf grew.0 (rest_of new)) ∙ ap (λ l. l ++ rest_of new) (sym grew.2) in
+            let some : 0 < length buf' = omega (arith, some_read, ap length grew.2, length-append buf grew.0) in
+            let most = max 16384 (length (print_request h) + clamped.0) in
+            heard_in routes old new buf' heard most all_taken some taken_few (subst (λ l. Hears routes l heard most) whole
+            (good_head h rest clamped.0 (Some r) (head_in buf more fields spans h is.room is.within is.at len_short) clamped.1 finds same (sym (whole_takes h rest clamped.0 r in_limit))))
+
+        pub hears_cut : IsAtEnd new → length buf' < spans.len + n → TakesHeard routes old new (Refused BadRequest)
+        hears_cut end cut =
+            let none = ap length (rest_at_end new end) in
+            let few : length rest < clamped.0 = omega (arith, same_count, none, cut, ap length grew.2, length-append buf grew.0, length-append (drop spans.len buf) (grew.0 ++ rest_of new), length-append grew.0 (rest_of new), length-drop spans.len buf) in
+            hears_later (Refused BadRequest) (sym (cut_is h rest clamped.0 r in_limit few))
+
+        path_later : span_bytes buf' spans.path ≡ h.target
+        path_later = ap (λ l. span_bytes l spans.path) grew.2 ∙ slice_more buf grew.0 spans.path (is.within.path.0, omega (arith, is.within.path.1, is.within.section.len_fits)) ∙ is.at.path
+
+        pub hears_call : spans.len + n ≤ length buf' → TakesHeard routes old new (Call (row_of r).asking (span_bytes buf' spans.path) (span_bytes buf' (record { start = spans.len; end = spans.len + n })))
+        hears_call long =
+            let many : clamped.0 ≤ length rest = omega (arith, same_count, long, ap length grew.2, length-append buf grew.0, length-append (drop spans.len buf) (grew.0 ++ rest_of new), length-append grew.0 (rest_of new), length-drop spans.len buf) in
+            let body : take clamped.0 rest ≡ slice_range buf' spans.len (spans.len + n) =
+            ap (λ k. take k rest) same_count ∙ body_is buf grew.0 (rest_of new) spans.len n is.within.section.len_fits (omega (arith, long, ap length grew.2)) ∙ ap (λ l. slice_range l spans.len (spans.len + n)) (sym grew.2) in
+            let same : Call (row_of r).asking (span_bytes buf' spans.path) (slice_range buf' spans.len (spans.len + n)) ≡ Call (row_of r).asking h.target (take clamped.0 rest) =
+            ap (λ p. Call (row_of r).asking p (slice_range buf' spans.len (spans.len + n))) path_later ∙ ap (Call (row_of r).asking h.target) (sym body) in
+            hears_later _ (same ∙ sym (call_is h rest clamped.0 r in_limit many))

@@ -1,0 +1,9 @@
+pub mod Calling
+pub mod Fields
+pub mod Heard
+pub mod Spoken
+pub mod Asked
+pub mod Replied
+pub mod Conversing
+pub mod Reading
+pub mod Replying

@@ -1,0 +1,104 @@
+ghost use Rattle.std.specs.Prelude.{◌≡◌, []};
+ghost use Rattle.desk_http.specs.Reading.{OnlyReads, TakesRequest, is_call};
+
+use crate::fields::request_length;
+use crate::reading::{Head, Rest, read_head, read_rest};
+use desk_base::Bytes;
+use desk_door::Door;
+use httparse::spans::{EMPTY_HEADER_SPAN, Span};
+use route_rules::{Asking, Routes, find_route};
+use std::alloc::Global;
+
+/// The most fields of a head.
+pub(crate) const FIELD_LIMIT: usize = 64;
+
+/// How many bytes are read at once.
+const ROOM: usize = 16_384;
+
+/// Why a request is no call.
+#[derive(Clone, Copy)]
+pub enum Refusal {
+    /// Its head isn't read, or its body is cut.
+    BadRequest,
+    /// There is no such route.
+    NoSuch,
+    /// Its body is longer than its route allows.
+    TooLong,
+}
+
+/// A call, and where in the bytes that were read its path and its body are.
+#[derive(Clone, Copy)]
+pub(crate) struct CallSpans {
+    pub asking: Asking,
+    pub path: Span,
+    pub body: Span,
+}
+
+/// What reading a request answers.
+#[derive(Clone, Copy)]
+pub(crate) enum Taken {
+    Call(CallSpans),
+    Refused(Refusal),
+    /// There was no byte.
+    Closed,
+    Failed,
+    Memory,
+}
+
+impl Taken {
+    /// Whether a request was read to its end.
+    pub(crate) fn is_call(self) -> bool
+        ensures { result ≡ is_call self }
+    {
+        matches!(self, Taken::Call(_))
+    }
+}
+
+/// Reads a request.
+pub(crate) fn read_request<D: Door>(
+    alloc: Global,
+    door: &mut D,
+    buf: &mut Bytes,
+    routes: Routes,
+) -> Taken
+    requires { buf.old ≡ [] }
+    ensures takes { TakesRequest routes (D.told door.old).left (D.told door.new).left buf.new result }
+    ensures only { OnlyReads (result ≡ Taken.Failed) (D.told door.old) (D.told door.new) }
+{
+    let mut room = [0u8; ROOM];
+    let mut fields = [EMPTY_HEADER_SPAN; FIELD_LIMIT];
+    let head = match read_head(door, &mut room, buf, &mut fields) {
+        Head::Read(head) => head,
+        Head::Bad => return Taken::Refused(Refusal::BadRequest),
+        Head::Closed => return Taken::Closed,
+        Head::Failed => return Taken::Failed,
+        Head::Memory => return Taken::Memory,
+    };
+    let Some(length) = request_length(head.version, buf.as_slice(), &fields[..head.headers]) else {
+        return Taken::Refused(Refusal::BadRequest);
+    };
+    let method = head.method.of(buf.as_slice());
+    let path = head.path.of(buf.as_slice());
+    let (asking, most) = match find_route(alloc, routes, method, path) {
+        Ok(Some(route)) => (route.asking(), route.most()),
+        Ok(None) => return Taken::Refused(Refusal::NoSuch),
+        Err(_) => return Taken::Memory,
+    };
+    if length > most {
+        return Taken::Refused(Refusal::TooLong);
+    }
+    let end = head.len + length as usize;
+    match read_rest(door, &mut room, buf, end) {
+        Rest::Whole => Taken::Call(CallSpans {
+            asking,
+            path: head.path,
+            body: Span {
+                start: head.len,
+                end,
+            },
+        }),
+        Rest::Cut => Taken::Refused(Refusal::BadRequest),
+        Rest::Failed => Taken::Failed,
+        Rest::Memory => Taken::Memory,
+    }
+}
