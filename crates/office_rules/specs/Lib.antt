@@ -1,0 +1,10 @@
+pub mod Offices
+pub mod Deeds
+pub mod OfficeLines
+pub mod ServerWords
+pub mod RelayWords
+pub mod ComputerWords
+pub mod MessageWords
+pub mod Endings
+pub mod Plays
+pub mod OfficeSchedules
