@@ -18,6 +18,7 @@ pub mod OneLook
 pub mod OneAsking
 pub mod OneGoing
 pub mod OneTurn
+pub mod StillTelling
 pub mod OneChange
 pub mod FewWants
 pub mod FewerWants

@@ -33,7 +33,7 @@ ghost use Rattle.agent_core.specs.ToldFaults.{DoAllCounted, faults_told};
 ghost use Rattle.agent_core.specs.declared.opening.Opened.TheVariants as opening;
 ghost use Rattle.agent_state.specs.States.{IsSound, State, saved_of, text_of};
 ghost use Rattle.agent_core.specs.Devices.{Devices, NoFaults, TellsWorld};
-ghost use Rattle.agent_core.specs.Stops.{Agrees, AreLawful, BothLawful, HaveRules, Table};
+ghost use Rattle.agent_core.specs.Stops.{Agrees, AreLawful, BothLawful, HaveRules, Table, TurnHasCause};
 ghost use Rattle.agent_core.specs.Turns.{Turn};
 
 use crate::agent::Agent;
@@ -61,6 +61,17 @@ pub fn one_turn()
         → TellsWorld d → Turn at s d answer s2 d2 → Turn at s d other s3 d3 → NoFaults d d2 → NoFaults d d3
         → answer ≢ PocketFault → answer ≢ Memory → other ≢ PocketFault → other ≢ Memory
         → (answer ≡ other) × (s2 ≡ s3) × (d2 ≡ d3) }
+{
+    one_plan();
+    one_verdict();
+}
+
+/// On devices that tell, a turn in which none fails, and that ends by neither a pocket's fault nor want of memory, leaves them telling. Every
+/// turn has its cause: the machine's count doesn't fall, and the pocket's rises only where the turn ends by its fault.
+pub fn devices_go_on_telling()
+    ensures tells { (at : When) (s s2 : State) (d d2 : Devices) (answer : Turned) → TellsWorld d → Turn at s d answer s2 d2
+        → NoFaults d d2 → answer ≢ PocketFault → answer ≢ Memory → TellsWorld d2 }
+    ensures cause { (at : When) (s s2 : State) (d d2 : Devices) (answer : Turned) → Turn at s d answer s2 d2 → TurnHasCause d answer d2 }
 {
     one_plan();
     one_verdict();
