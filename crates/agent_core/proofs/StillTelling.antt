@@ -108,7 +108,7 @@ turn_tells plan verdict at s d answer s2 d2 tells turn none fault memory =
       saved = tells.saved;
     } in
     let ended : Telling plan verdict at d.machine.faults none.machine_counts d2 =
-        turn_keeps at _ _ _ _ _ (keeps_telling plan verdict at d.machine.faults none.machine_counts) answer s2 d2 s d (λ e. start) (λ pocket h. saves plan verdict at d.machine.faults none.machine_counts _ _ d pocket start h)
-        (λ pocket h fault memory. absurd (fault refl)) (λ pocket h fault memory. absurd (memory refl)) turn fault memory in
+    turn_keeps at _ _ _ _ _ (keeps_telling plan verdict at d.machine.faults none.machine_counts) answer s2 d2 s d (λ e. start) (λ pocket h. saves plan verdict at d.machine.faults none.machine_counts _ _ d pocket start h)
+    (λ pocket h fault memory. absurd (fault refl)) (λ pocket h fault memory. absurd (memory refl)) turn fault memory in
     let calm = ended.calm none.machine in
     record { world = calm.world; looked = calm.looked; acted = calm.acted; polled = calm.polled; saved = ended.saved }

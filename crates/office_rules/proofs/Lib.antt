@@ -1,1 +1,6 @@
 pub mod Fronts
+pub mod OneDeed
+pub mod OneServerWord
+pub mod OneTurning
+pub mod OneMessageWord
+pub mod OnePlay

@@ -32,7 +32,7 @@ use Rattle.turn_lines.specs.Givers.{Gives, GiverView}
 use Rattle.turn_lines.specs.TurnLines.{turn_line}
 use Rattle.turn_lines.specs.TurnsWithFiles.{TurnsWithFiles}
 use Rattle.office_rules.specs.Deeds.{AtComputer, Deed}
-use Rattle.office_rules.specs.Offices.{PlayedComputer, new_computer}
+use Rattle.office_rules.specs.Offices.{Office, PlayedComputer, new_computer}
 use Rattle.office_rules.specs.OfficeLines.{words_line}
 
 -- ---- computer
@@ -100,14 +100,19 @@ pub record TurnsComputer (name : List ℕ) (moment : ℤ) (accepted : List Entry
   pub said_is : said ≡ do_lines (answers_from moment old.again commands) ++ turn_line name moment answer
 
 -- A computer turns, with the sites that its relay keeps, in byte order of their names.
+abbrev pub TurnsAt : List ℕ → ℤ → Office → PlayedComputer → List ℕ → PlayedComputer → Type 0
+TurnsAt name moment o old said new =
+    (relay : RelayState) × (named old.relay o.relays ≡ Some relay) × TurnsComputer name moment o.accepted relay.sites old said new
+
 abbrev pub Turns : List ℕ → ℤ → Deed
-Turns name moment old said new = AtComputer name (λ computer lines then. (relay : RelayState)
-    × (named computer.relay old.relays ≡ Some relay)
-    × TurnsComputer name moment old.accepted relay.sites computer lines then) old said new
+Turns name moment old said new = AtComputer name (TurnsAt name moment old) old said new
 
 -- ---- restart
 -- An agent is opened again from its pocket.
+abbrev pub RestartsAt : List ℕ → PlayedComputer → List ℕ → PlayedComputer → Type 0
+RestartsAt name old said new =
+    (agent : AgentState) × OpensAgent name (Some old.saved) (opened.Agent agent) × (said ≡ words_line (codes "restart" ∷ name ∷ []))
+    × (new ≡ record old { agent = shown_state agent })
+
 abbrev pub Restarts : List ℕ → Deed
-Restarts name = AtComputer name (λ computer said then. (agent : AgentState)
-    × OpensAgent name (Some computer.saved) (opened.Agent agent) × (said ≡ words_line (codes "restart" ∷ name ∷ []))
-    × (then ≡ record computer { agent = shown_state agent }))
+Restarts name = AtComputer name (RestartsAt name)

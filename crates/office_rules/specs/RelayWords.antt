@@ -16,6 +16,7 @@ use Rattle.server_core.specs.AcceptedTables.{view}
 use Rattle.server_core.specs.DeskLimits.{desk_limits}
 use Rattle.server_core.specs.Replies.{reply}
 use Rattle.office_rules.specs.Deeds.{AtRelay, Deed}
+use Rattle.office_rules.specs.Offices.{Office}
 use Rattle.office_rules.specs.OfficeLines.{gathered_line, nothing_line, words_line}
 
 -- ---- relay
@@ -48,12 +49,18 @@ or_line other [] = other
 or_line other lines = lines
 
 -- A relay asks for each site that the server has, `actionsite` too, in byte order of their names.
+abbrev pub GathersAt : List ℕ → Office → RelayState → List ℕ → RelayState → Type 0
+GathersAt name o old said new =
+    (taken : List ℕ) × TakesNewer name o.accepted (filter_map site_version (view o.accepted)) old taken new
+    × (said ≡ or_line (nothing_line (codes "gather" ∷ name ∷ [])) taken)
+
 abbrev pub Gathers : List ℕ → Deed
-Gathers name old said new = AtRelay name (λ relay lines then. (taken : List ℕ)
-    × TakesNewer name old.accepted (filter_map site_version (view old.accepted)) relay taken then
-    × (lines ≡ or_line (nothing_line (codes "gather" ∷ name ∷ [])) taken)) old said new
+Gathers name old said new = AtRelay name (GathersAt name old) old said new
 
 -- ---- forget
 -- A relay begins anew: it queues nothing, knows of no report that the server holds one, and keeps no site.
+abbrev pub ForgetsAt : List ℕ → RelayState → List ℕ → RelayState → Type 0
+ForgetsAt name old said new = (said ≡ words_line (codes "forget" ∷ name ∷ [])) × (new ≡ empty_relay desk_queue)
+
 abbrev pub Forgets : List ℕ → Deed
-Forgets name = AtRelay name (λ relay said then. (said ≡ words_line (codes "forget" ∷ name ∷ [])) × (then ≡ empty_relay desk_queue))
+Forgets name = AtRelay name (ForgetsAt name)

@@ -3,4 +3,4 @@
 
 mod law;
 
-pub use law::a_play_is_a_front_of_itself;
+pub use law::{a_play_is_a_front_of_itself, one_play};
