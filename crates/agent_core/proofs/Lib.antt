@@ -19,6 +19,7 @@ pub mod OneAsking
 pub mod OneGoing
 pub mod OneTurn
 pub mod StillTelling
+pub mod MachineSteps
 pub mod OneChange
 pub mod FewWants
 pub mod FewerWants

@@ -4,6 +4,7 @@ ghost use Rattle.act_rules.specs.Lawful.{AreBounded};
 ghost use Rattle.act_rules.specs.Series.{series};
 ghost use Rattle.report_text.specs.declared.report.Report.{Report};
 ghost use Rattle.bf_machine.specs.Rises.{RoseBy};
+ghost use Rattle.bf_machine.specs.Steps.{Step, TakesAll};
 ghost use Rattle.script_run.specs.Asking.{When};
 ghost use Rattle.agent_text.specs.declared.saved.Saved.{Saved};
 ghost use Rattle.agent_text.specs.declared.error.SavedError.{SavedError};
@@ -76,6 +77,12 @@ pub fn devices_go_on_telling()
     one_plan();
     one_verdict();
 }
+
+/// What a turn does on its machine is looks, commands and polls, one after another, the commands at its moment.
+pub fn a_turn_acts_step_by_step()
+    ensures { (at : When) (s s2 : State) (d d2 : Devices) (answer : Turned) → Turn at s d answer s2 d2
+        → (steps : List Step) × TakesAll at.moment d.machine steps d2.machine }
+{}
 
 /// What a call between turns comes to is a function of its arguments and the state: of settling, of supplying, and of gathering but for
 /// want of memory. An agent that is opened from a pocket that tells its text shows one state.

@@ -89,7 +89,7 @@ module _ (laws : Laws) where
   obeys_once (order.Forward relay) = forwards_once laws.settling relay
   obeys_once (order.Forget relay) = forgets_once relay
 
-  plays_once : (what : Order) → IsOne (PlaysOrder what)
+  pub plays_once : (what : Order) → IsOne (PlaysOrder what)
   plays_once what old said other new two p q = obeys_once what old said other new two p.obeys q.obeys
 
   pub play_once : (orders : List Order) (written other : List ℕ) (one two : Office) → IsPlayed orders written one → IsPlayed orders other two → (written ≡ other) × (one ≡ two)

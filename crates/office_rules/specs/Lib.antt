@@ -7,4 +7,5 @@ pub mod ComputerWords
 pub mod MessageWords
 pub mod Endings
 pub mod Plays
+pub mod PrintedAnswers
 pub mod OfficeSchedules

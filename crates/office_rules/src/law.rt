@@ -1,17 +1,24 @@
 // What holds of every office that is played. The body of a law calls the laws that its proof stands on.
-ghost use Rattle.std.specs.Prelude.{◌≡◌, List, ℕ};
+ghost use Rattle.std.specs.Prelude.{◌≡◌, List, ℕ, ℤ};
+ghost use Rattle.desk_base.specs.Flow.{IsFront};
+ghost use Rattle.bf_machine.specs.Steps.{SameButPolls};
+ghost use Rattle.fix_site.specs.declared.site.Site.{Site};
+ghost use Rattle.server_text.specs.Entries.{Entry};
 ghost use Rattle.office_text.specs.declared.order.Order.{Order};
-ghost use Rattle.office_rules.specs.Offices.{Office};
+ghost use Rattle.office_rules.specs.ComputerWords.{TurnsComputer};
+ghost use Rattle.office_rules.specs.Offices.{Office, PlayedComputer};
 ghost use Rattle.office_rules.specs.Plays.{IsFrontOfPlay, IsPlayed};
+ghost use Rattle.office_rules.specs.PrintedAnswers.{AreAlike, PrintsAnswers};
 
-use agent_core::{devices_go_on_telling, one_change, one_turn};
+use agent_core::{a_turn_acts_step_by_step, devices_go_on_telling, one_change, one_turn};
+use bf_machine::commands_are_answered_alike;
 use fix_site::one_reading;
 use server_text::one_meaning;
 
 /// Orders print one text and leave one office.
 pub fn one_play()
-    ensures { (orders : List Order) (written other : List ℕ) (one two : Office) → IsPlayed orders written one → IsPlayed orders other two
-        → (written ≡ other) × (one ≡ two) }
+    ensures { (orders : List Order) (written other : List ℕ) (one two : Office) → IsPlayed orders written one
+        → IsPlayed orders other two → (written ≡ other) × (one ≡ two) }
 {
     one_meaning();
     one_reading();
@@ -20,7 +27,26 @@ pub fn one_play()
     one_change();
 }
 
-/// What is written of orders that are played is a front of what is written of them.
-pub fn a_play_is_a_front_of_itself()
-    ensures { (orders : List Order) (written : List ℕ) (o : Office) → IsPlayed orders written o → IsFrontOfPlay orders written }
-{}
+/// What is written of orders that are played is a front of their play, and every front of it begins that.
+pub fn fronts_begin_the_play()
+    ensures whole { (orders : List Order) (written : List ℕ) (o : Office) → IsPlayed orders written o → IsFrontOfPlay orders written }
+    ensures fronts { (orders : List Order) (written front : List ℕ) (o : Office) → IsPlayed orders written o
+        → IsFrontOfPlay orders front → IsFront written front }
+{
+    one_meaning();
+    one_reading();
+    one_turn();
+    devices_go_on_telling();
+    one_change();
+}
+
+/// Both worlds of each computer stay the same but for polls left. So what is printed of a turn's commands is what its machine answered.
+pub fn commands_are_printed_as_answered()
+    ensures worlds { (orders : List Order) (written : List ℕ) (o : Office) → IsPlayed orders written o → AreAlike o.computers }
+    ensures lines { (name : List ℕ) (moment : ℤ) (accepted : List Entry) (sites : List Site) (old : PlayedComputer) (said : List ℕ)
+        (new : PlayedComputer) → SameButPolls old.world old.again → TurnsComputer name moment accepted sites old said new
+        → PrintsAnswers name moment old said new }
+{
+    a_turn_acts_step_by_step();
+    commands_are_answered_alike();
+}

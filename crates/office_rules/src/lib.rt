@@ -3,4 +3,4 @@
 
 mod law;
 
-pub use law::{a_play_is_a_front_of_itself, one_play};
+pub use law::{commands_are_printed_as_answered, fronts_begin_the_play, one_play};
