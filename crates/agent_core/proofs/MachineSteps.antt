@@ -1,5 +1,5 @@
 -- What a turn does on its machine is steps at its moment, one after another: looks, commands and polls.
-use Rattle.std.proofs.Common.{◌≡◌, ℕ, ℤ, List, [], ◌∷◌, ◌++◌, ◌⊎◌, inl, inr, Option, Some, None, refl, subst}
+use Rattle.std.proofs.Common.{◌≡◌, ℕ, ℤ, List, [], ◌∷◌, ◌++◌, ◌⊎◌, inl, inr, Option, refl, subst}
 use Rattle.bf_machine.specs.Steps.{Step, Looking, Acting, Polling, Takes, TakesAll}
 use Rattle.bf_machine.specs.Views.{MachineView, OnlyLooks}
 use Rattle.bf_world.specs.declared.command.Polled.TheVariants as of_poll
@@ -9,7 +9,6 @@ use Rattle.script_run.specs.Advances.{Advances}
 use Rattle.script_run.specs.Asking.{When}
 use Rattle.script_run.specs.RunSteps.{Any, Comes, Holds, IsTextOf, Settles, StarvesAsking, Stops}
 use Rattle.script_run.specs.Walks.{Known, Settled, said, judged, acted, polled, Next, Says, Tests, Pauses, Does, Polls, Walk}
-use Rattle.agent_text.specs.Pockets.{PocketView}
 use Rattle.agent_attempt.specs.declared.went.Went.{Went}
 use Rattle.agent_attempt.specs.Attempts.{PlainAttempt}
 use Rattle.agent_attempt.specs.Going.{GoesOn}

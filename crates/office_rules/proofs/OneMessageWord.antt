@@ -1,5 +1,5 @@
 -- What becomes of messages comes to one thing.
-use Rattle.std.proofs.Common.{◌≡◌, ℕ, ◌+◌, Bool, List, [], ◌∷◌, ◌++◌, length, Option, Some, None, refl, sym, ap, subst, ◌∙◌}
+use Rattle.std.proofs.Common.{◌≡◌, ℕ, Bool, List, [], ◌∷◌, length, Option, Some, None, refl, sym, ap, subst, ◌∙◌}
 use Rattle.std.specs.List.{range_with_len}
 use Rattle.fix_site.specs.declared.site.Site.{Site}
 use Rattle.report_text.specs.declared.answer.Verdict.{Verdict}
@@ -9,11 +9,11 @@ use Rattle.agent_state.specs.Changes.{SettlesState}
 use Rattle.agent_state.specs.States.{State}
 use Rattle.delivery.specs.Messages.{Carrier, Message, ReportToRelay, ReportToServer, VerdictToComputer, ReplyToRelay, carrier_of, named}
 use Rattle.delivery.specs.Schedules.{message_at}
-use Rattle.office_rules.specs.Deeds.{Deed, DoesBoth, DoesEach}
-use Rattle.office_rules.specs.MessageWords.{Delivers, DeliversAnswered, DeliversAt, DeliversFound, Dispatches, Forwards, Pushes, PushesQueue, Reaches, ReportsAll, ReportsOne, SaysAnswer, Sends, SendsFound, Tells, answer_word, arrived, next_number, settled_word, shown_numbers, shown_report, sites_of}
+use Rattle.office_rules.specs.Deeds.{DoesBoth, DoesEach}
+use Rattle.office_rules.specs.MessageWords.{Delivers, DeliversAnswered, DeliversAt, DeliversFound, Dispatches, Forwards, Pushes, PushesQueue, ReportsAll, ReportsOne, SaysAnswer, Sends, SendsFound, Tells, answer_word, arrived, next_number, settled_word, shown_numbers, shown_report, sites_of}
 use Rattle.office_rules.specs.Offices.{Office, PlayedComputer, carriers_of, with_computer}
 use Rattle.office_rules.specs.OfficeLines.{delivered_line, verdict_words}
-use Rattle.office_rules.proofs.OneDeed.{IsOne, IsOneFrom, both_once, each_once, found_once}
+use Rattle.office_rules.proofs.OneDeed.{IsOne, both_once, each_once, found_once}
 
 -- ---- sent messages
 pub dispatches_once : (message : Message) (report : Report) (to : List ℕ) → IsOne (Dispatches message report to)

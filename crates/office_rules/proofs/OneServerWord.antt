@@ -1,5 +1,5 @@
 -- What the server and the relays do of an order comes to one thing.
-use Rattle.std.proofs.Common.{◌≡◌, ◌≢◌, ℕ, List, [], ◌∷◌, ◌++◌, Ok, Err, refl, sym, ap, subst, ◌∙◌}
+use Rattle.std.proofs.Common.{◌≡◌, ◌≢◌, ℕ, List, [], ◌∷◌, ◌++◌, Ok, Err, sym, ap, subst, ◌∙◌}
 use Rattle.std.specs.declared.result.Result.{Result}
 use Rattle.fix_site.specs.declared.error.SiteError.{SiteError}
 use Rattle.fix_site.specs.declared.error.SiteError.TheVariants as error

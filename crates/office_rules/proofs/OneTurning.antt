@@ -1,5 +1,5 @@
 -- Turns with the server's files between them come to one thing, where no device fails and memory lasts.
-use Rattle.std.proofs.Common.{◌≡◌, ◌≢◌, ℕ, ℤ, ◌-◌, ◌^◌, ◌<◌, ◌≤◌, Bool, true, false, ◌||◌, List, [], ◌∷◌, ◌++◌, inl, inr, IsSome, Option, Some, None, refl, sym, ap, subst, ◌∙◌, arith}
+use Rattle.std.proofs.Common.{◌≡◌, ◌≢◌, ℕ, ℤ, ◌≤◌, Bool, true, ◌||◌, List, [], ◌∷◌, ◌++◌, inl, inr, Option, Some, None, refl, sym, ap, subst, ◌∙◌, arith}
 use Rattle.std.specs.Prelude.{map}
 use Rattle.desk_base.specs.Counts.{Rose}
 use Rattle.bf_world.specs.declared.command.Command.{Command}
@@ -25,8 +25,8 @@ use Rattle.turn_lines.specs.declared.giver.Given.TheVariants as given
 use Rattle.turn_lines.specs.DoLines.{do_lines}
 use Rattle.turn_lines.specs.Givers.{GivesAll, GiverView}
 use Rattle.turn_lines.specs.TurnLines.{turn_line}
-use Rattle.turn_lines.specs.TurnsWithFiles.{Closes, Fetch, Fetches, FetchesAll, TurnsMade, TurnsWithFiles, any_begun, asked_by, given_of, with_begun}
-use Rattle.office_rules.specs.ComputerWords.{Brings, GathersEach, ServesFiles, TellComputer, TurnsComputer, devices_of, server_files, turn_time}
+use Rattle.turn_lines.specs.TurnsWithFiles.{Closes, Fetch, FetchesAll, TurnsWithFiles, any_begun, asked_by, given_of, with_begun}
+use Rattle.office_rules.specs.ComputerWords.{Brings, GathersEach, ServesFiles, TurnsComputer, devices_of, server_files, turn_time}
 use Rattle.office_rules.specs.Offices.{PlayedComputer}
 use Rattle.office_rules.proofs.OneDeed.{some_is}
 

@@ -1,9 +1,8 @@
 -- What is printed of commands is what they were answered, since both worlds of a computer stay the same but for polls left.
-use Rattle.std.proofs.Common.{◌≡◌, ℕ, ℤ, ◌-◌, ◌^◌, ◌<◌, Bool, true, false, cond, List, [], ◌∷◌, ◌++◌, length, Option, Some, None, refl, sym, ap, subst, ◌∙◌, arith}
-use Rattle.std.specs.Prelude.{bytes_eq, map}
+use Rattle.std.proofs.Common.{◌≡◌, ℕ, ℤ, Bool, true, false, cond, List, [], ◌∷◌, ◌++◌, Option, Some, None, refl, sym, ap, subst, ◌∙◌, arith}
+use Rattle.std.specs.Prelude.{bytes_eq}
 use Rattle.std.specs.Map.{set_value}
 use Rattle.bf_world.specs.declared.command.Command.{Command}
-use Rattle.bf_world.specs.declared.parts.Run.{Run}
 use Rattle.bf_world.specs.Worlds.{WorldState}
 use Rattle.bf_machine.specs.Steps.{Answered, AnswersAs, SameButPolls, Steady, Step, TakesAll, answered_in, answers_from, commands_of, world_after}
 use Rattle.bf_machine.specs.Told.{Grows}
@@ -28,7 +27,7 @@ use Rattle.turn_lines.specs.TurnLines.{turn_line}
 use Rattle.turn_lines.specs.TurnsWithFiles.{Fetch, FetchesAll, TurnsWithFiles}
 use Rattle.office_rules.specs.ComputerWords.{RestartsAt, TurnsAt, TurnsComputer, devices_of, turn_time}
 use Rattle.office_rules.specs.Deeds.{AtComputer, AtRelay, Deed, DoesBoth, DoesEach}
-use Rattle.office_rules.specs.MessageWords.{Delivers, DeliversAnswered, DeliversAt, DeliversFound, Dispatches, Forwards, PushesQueue, ReportsAll, ReportsOne, Sends, SendsFound, Tells, next_number, shown_numbers, shown_report}
+use Rattle.office_rules.specs.MessageWords.{DeliversAnswered, DeliversAt, DeliversFound, Dispatches, Forwards, PushesQueue, ReportsAll, ReportsOne, Sends, SendsFound, Tells, next_number, shown_numbers, shown_report}
 use Rattle.office_rules.specs.Offices.{Office, PlayedComputer, empty_office}
 use Rattle.office_rules.specs.Plays.{IsPlayed, Obeys, PlaysOrder}
 use Rattle.office_rules.specs.RelayWords.{ForgetsAt, GathersAt}
