@@ -9,7 +9,7 @@ use desk_door::{Door, DoorGot};
 use edge_faults::Faults;
 use std::alloc::AllocError;
 use std::io::{self, Error, ErrorKind};
-use std::net::{Ipv4Addr, Net, OpenListener, OpenStream, Shutdown, TcpListener};
+use std::net::{Ipv4Addr, OpenListener, OpenStream, Shutdown, TcpListener};
 use std::time::Duration;
 
 /// How many seconds a peer has for its next byte, or for taking one.

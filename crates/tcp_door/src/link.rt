@@ -12,7 +12,6 @@ use edge_faults::{Faults, Trouble};
 use rel_lexer::Text;
 use std::alloc::{AllocError, Global};
 use std::io::{Error, ErrorKind};
-use std::net::Net;
 use std::thread;
 use std::time::{Duration, Instant};
 

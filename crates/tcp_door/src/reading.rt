@@ -3,7 +3,7 @@ ghost use Rattle.std.specs.Prelude.{◌≤◌, length, IfOk};
 use crate::Network;
 use crate::limits::{Limits, is_made_again, ran_out};
 use std::io::{self, Read};
-use std::net::{Net, OpenStream};
+use std::net::OpenStream;
 use std::time::Instant;
 
 /// How many bytes are read at a time.

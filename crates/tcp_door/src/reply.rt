@@ -5,7 +5,6 @@ use desk_base::Bytes;
 use edge_faults::Trouble;
 use std::alloc::Global;
 use std::io::{Error, ErrorKind};
-use std::net::Net;
 
 /// The most bytes of a reply: a head of 16,384 and a body of 4,194,304.
 const LONGEST_REPLY: usize = 4_210_688;

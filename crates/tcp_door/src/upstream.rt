@@ -2,7 +2,7 @@ use crate::Network;
 use crate::limits::ran_out;
 use line_forms::read_number;
 use std::io::{self, Error, ErrorKind};
-use std::net::{Net, SocketAddr, TcpStream, ToSocketAddrs};
+use std::net::{SocketAddr, TcpStream, ToSocketAddrs};
 use std::time::{Duration, Instant};
 
 /// The last port.

@@ -3,7 +3,7 @@ ghost use Rattle.std.specs.Prelude.{◌≤◌, length, IfOk};
 use crate::Network;
 use crate::limits::{Limits, is_made_again, ran_out};
 use std::io::{self, Error, ErrorKind, Write};
-use std::net::{Net, OpenStream};
+use std::net::OpenStream;
 use std::time::Instant;
 
 /// Hands a peer all bytes of a piece, and waits for it within the limits.
