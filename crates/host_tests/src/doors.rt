@@ -1,4 +1,4 @@
-// The real door, link and pocket, at a call or two. Their rows are those of examples/doors; a link has none to answer it here.
+// The real door, link and pocket, at a call or two. Their rows are those of examples/doors.
 use crate::machine::fresh_folder;
 use agent_text::{Loaded, Pocket, SaveResult};
 use desk_base::Put;
@@ -6,9 +6,23 @@ use desk_door::{Door, DoorGot, Exchanged, Link};
 use file_pocket::FilePocket;
 use rel_lexer::Text;
 use std::io::{self, Write};
+use std::mem::drop;
 use std::net::{Ipv4Addr, Shutdown, TcpListener, TcpStream};
+use std::process::{Command, Stdio};
 use std::{fs, test};
 use tcp_door::{TcpDoor, TcpLink, listen_address, seconds_between};
+
+/// A program that says at which address it listens, and answers the first client there once it has said `hello`.
+const UPSTREAM: &str = "import os, socket
+listener = socket.create_server(('127.0.0.1', 0))
+os.write(1, b'127.0.0.1:%d' % listener.getsockname()[1])
+os.close(1)
+client = listener.accept()[0]
+heard = b''
+while len(heard) < 5:
+    heard += client.recv(5)
+client.sendall(b'served' if heard == b'hello' else heard)
+";
 
 /// A port at which nobody listens.
 fn free_port(rt: &HostRuntime) -> io::Result<u16> {
@@ -46,6 +60,17 @@ fn holds<P: Pocket>(pocket: &mut P, place: &Text) -> bool {
     }
 }
 
+/// Whether an exchange with an upstream that serves is answered.
+fn is_answered<L: Link>(link: &mut L, upstream: &Text) -> bool {
+    if link.open(upstream).is_err() {
+        return false;
+    }
+    match link.exchange(b"hello") {
+        Exchanged::Reply(bytes) => bytes.as_slice() == b"served".as_slice(),
+        Exchanged::Failed | Exchanged::Memory => false,
+    }
+}
+
 /// Whether an exchange with an upstream that isn't there fails.
 fn fails<L: Link>(link: &mut L, upstream: &Text) -> bool {
     link.open(upstream).is_ok() && matches!(link.exchange(b"hello"), Exchanged::Failed)
@@ -62,6 +87,27 @@ fn a_client_is_served(rt: HostRuntime) -> io::Result<()> {
     assert!(rt; serves(&mut door));
     let said = io::read_to_string(rt.alloc(), client)?;
     assert_eq!(rt; said.as_str(), "served");
+    Ok(())
+}
+
+#[test]
+fn an_upstream_answers(rt: HostRuntime) -> io::Result<()> {
+    let alloc = rt.alloc();
+    let mut command = Command::new(alloc, "python3")?;
+    command.arg("-c")?.arg(UPSTREAM)?;
+    command.stdin(Stdio::null()).stdout(Stdio::piped());
+    let mut program = command.spawn(&rt)?;
+    drop(command);
+    let said = program.stdout.take();
+    assert!(rt; said.is_some());
+    if let Some(said) = said {
+        let name = io::read_to_string(alloc, said)?;
+        let upstream = Text::from_str(alloc, name.as_str())?;
+        let mut link = TcpLink::new(alloc, &rt, seconds_between(None))?;
+        assert!(rt; is_answered(&mut link, &upstream));
+    }
+    program.kill()?;
+    program.wait()?;
     Ok(())
 }
 
