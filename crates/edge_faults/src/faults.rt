@@ -40,7 +40,17 @@ impl<E: Eprint> Faults<E> {
         ensures later { self.old ≤ self.new }
     {
         self.count = self.count.saturating_add(1);
-        let device = self.device;
-        let _ = eprintln!(&self.errors; "desk: {device}: {call} {subject}: {reason}");
+        tell(&self.errors, self.device, call, subject, reason);
     }
+}
+
+/// Tells on standard error, in one line, what a call of a device has to say of what it was about. What can't be told is passed over.
+pub fn tell<E: Eprint, S: Display + Drop, R: Display + Drop>(
+    errors: &E,
+    device: &str,
+    call: &str,
+    subject: S,
+    reason: R,
+) {
+    let _ = eprintln!(errors; "desk: {device}: {call} {subject}: {reason}");
 }

@@ -4,5 +4,5 @@
 mod faults;
 mod trouble;
 
-pub use faults::Faults;
+pub use faults::{Faults, tell};
 pub use trouble::Trouble;

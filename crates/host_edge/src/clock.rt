@@ -1,8 +1,8 @@
 ghost use Rattle.std.specs.Prelude.{◌≡◌, None, IfOk};
 ghost use Rattle.desk_base.specs.Moments.{IsMoment};
 
-use crate::faults::Faults;
 use desk_base::{Clock, LAST_MOMENT, Told};
+use edge_faults::Faults;
 use std::io;
 use std::io::Eprint;
 use std::time::{self, SystemTime, UNIX_EPOCH};

@@ -4,7 +4,6 @@
 
 mod change;
 mod clock;
-mod faults;
 mod host;
 mod kind;
 mod list;
@@ -22,7 +21,7 @@ mod settings;
 mod sink;
 mod source;
 mod stat;
-mod trouble;
+mod undone;
 
 pub use clock::SystemClock;
 pub use host::Host;

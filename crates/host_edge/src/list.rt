@@ -2,12 +2,11 @@ ghost use Rattle.std.specs.Prelude.{IfOk, IfSome};
 ghost use Rattle.host_edge.specs.Ordered.{AreEntries};
 
 use crate::Host;
-use crate::faults::tell;
 use crate::kind::{says_nothing_is_there, there};
 use crate::machine::MACHINE;
 use crate::ordered::Ordered;
-use crate::trouble::Trouble;
 use bf_world::{Entry, EntryList};
+use edge_faults::{Trouble, tell};
 use line_forms::read_part;
 use rel_lexer::Text;
 use std::alloc::{AllocError, Global};

@@ -1,8 +1,8 @@
 use crate::Host;
-use crate::faults::tell;
 use crate::kind::{Kind, kind_at};
 use crate::machine::{MACHINE, PACKAGES};
 use bf_world::joined;
+use edge_faults::tell;
 use std::mem::drop;
 
 /// What is told where the file isn't there.

@@ -1,7 +1,7 @@
 use crate::Host;
 use crate::kind::{Kind, kind_at, says_nothing_is_there, there};
-use crate::trouble::Trouble;
 use desk_base::Bytes;
+use edge_faults::Trouble;
 use std::alloc::Global;
 use std::fs::{File, Metadata, OpenFile};
 use std::io::{self, Error, ErrorKind, Read};

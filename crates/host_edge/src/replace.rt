@@ -1,8 +1,8 @@
 use crate::Host;
 use crate::place::folder_of;
 use crate::rights::{Rights, give};
-use crate::trouble::Trouble;
 use bf_world::joined;
+use edge_faults::Trouble;
 use rel_lexer::Text;
 use std::alloc::{AllocError, Global};
 use std::fs::{self, File, OpenFile, OpenOptions};

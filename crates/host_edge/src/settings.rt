@@ -1,8 +1,9 @@
 use crate::rows::read_setting;
-use crate::trouble::{Trouble, Undone};
+use crate::undone::Undone;
 use crate::{Host, HostMachine};
 use bf_world::joined;
 use desk_base::Bytes;
+use edge_faults::Trouble;
 use line_forms::{
     Ahead, Lines, read_name, read_rest, write_field, write_line, write_signed_number,
 };

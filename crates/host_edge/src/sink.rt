@@ -1,7 +1,7 @@
 ghost use Rattle.std.specs.Prelude.{◌≡◌, None};
 
-use crate::faults::Faults;
 use desk_base::{Put, Sink};
+use edge_faults::Faults;
 use std::io::{Eprint, Write};
 
 /// A writer of std as a sink.

@@ -1,7 +1,7 @@
 ghost use Rattle.std.specs.Prelude.{◌≡◌, None};
 
-use crate::faults::Faults;
 use desk_base::{Got, Source};
+use edge_faults::Faults;
 use std::io::{Eprint, Read};
 
 /// A reader of std as a source.

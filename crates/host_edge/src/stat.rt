@@ -4,8 +4,8 @@ ghost use Rattle.bf_world.specs.Answers.{IsGoodAnswer, HasAscendingNames};
 use crate::Host;
 use crate::clock::nearest_moment;
 use crate::kind::metadata_at;
-use crate::trouble::Trouble;
 use bf_world::Answer;
+use edge_faults::Trouble;
 use std::os::unix::fs::MetadataExt;
 
 /// What stands at a place, links followed. What is neither file nor folder is nothing.

@@ -1,16 +1,7 @@
 use bf_world::Reason;
+use edge_faults::Trouble;
 use std::alloc::AllocError;
 use std::io;
-use std::io::ErrorKind;
-
-/// Why a look gives up.
-#[derive(Drop)]
-pub(crate) enum Trouble {
-    /// Memory ran out.
-    Memory,
-    /// The system refused something, or gave what can't be an answer.
-    System(io::Error),
-}
 
 /// Why a command isn't done.
 #[derive(Drop)]
@@ -19,22 +10,6 @@ pub(crate) enum Undone {
     Refused(Reason),
     /// Something else keeps it from being done.
     Trouble(Trouble),
-}
-
-impl From<AllocError> for Trouble {
-    fn from(_error: AllocError) -> Trouble {
-        Trouble::Memory
-    }
-}
-
-impl From<io::Error> for Trouble {
-    fn from(error: io::Error) -> Trouble {
-        if error.kind() == ErrorKind::OutOfMemory {
-            Trouble::Memory
-        } else {
-            Trouble::System(error)
-        }
-    }
 }
 
 impl From<Reason> for Undone {
