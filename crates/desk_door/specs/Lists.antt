@@ -1,4 +1,4 @@
--- Lists that a door or a link tells or doesn't tell. What isn't told goes on not to be.
+-- What a door or a link tells or doesn't tell. What isn't told goes on not to be.
 use Rattle.std.specs.Prelude.{List, [], ◌∷◌, ◌++◌, None, Some}
 use Rattle.std.specs.declared.option.Option.{Option}
 
@@ -11,3 +11,8 @@ with_first item (Some items) = Some (item ∷ items)
 abbrev pub with_last : {T : Type 0} → T → Option (List T) → Option (List T)
 with_last item None = None
 with_last item (Some items) = Some (items ++ item ∷ [])
+
+-- the next one in the place of a told one, or of none
+abbrev pub with_next : {T : Type 0} → T → Option (Option T) → Option (Option T)
+with_next item None = None
+with_next item (Some before) = Some (Some item)

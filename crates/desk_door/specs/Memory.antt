@@ -13,22 +13,31 @@ use Rattle.desk_door.specs.declared.link.Exchanged.TheVariants as of_exchange
 use Rattle.desk_door.specs.Doors.{DoorView}
 use Rattle.desk_door.specs.Links.{LinkView}
 
--- the ports, the conversations to come, what is left of the present one, what was written in each, the present one first, and the calls
+-- the ports, the conversations to come, what is left of the present one, what was written in each, the present one first, what it was told
+-- at the last close, if there was one, and the calls
 pub record DoorState : Type 0 where
   pub ports : List ℕ
   pub coming : List (List ℕ)
   pub left : List ℕ
   pub written : List (List ℕ)
+  pub ended : Option Bool
   pub calls : CallState
 
 -- a door at which nothing has begun yet; the calls with these numbers are to fail
 abbrev pub closed_door : List (List ℕ) → List ℕ → DoorState
-closed_door coming fails = record { ports = []; coming = coming; left = []; written = []; calls = no_calls fails }
+closed_door coming fails =
+    record { ports = []; coming = coming; left = []; written = []; ended = None; calls = no_calls fails }
 
 -- what it tells
 abbrev pub door_view : DoorState → DoorView
-door_view d =
-    record { ports = Some d.ports; coming = Some d.coming; left = Some d.left; written = Some d.written; faults = d.calls.faults }
+door_view d = record {
+  ports = Some d.ports;
+  coming = Some d.coming;
+  left = Some d.left;
+  written = Some d.written;
+  ended = Some d.ended;
+  faults = d.calls.faults;
+}
 
 -- An opening or a beginning that fails changes nothing, and one that is listed fails.
 abbrev pub PutsMemory : DoorState → Put → DoorState → Type 0

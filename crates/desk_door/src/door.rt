@@ -29,5 +29,5 @@ pub trait Door {
     /// Ends the present conversation. `whole` says that the peer's request was read to its end: where it wasn't, a real door reads on for a
     /// while and drops what comes, so that the peer gets to read what was written.
     fn close(&mut self, whole: bool)
-        ensures { EndsTalk (told self.old) (told self.new) };
+        ensures { EndsTalk whole (told self.old) (told self.new) };
 }

@@ -21,6 +21,8 @@ pub struct MemoryDoor {
     at: usize,
     /// What was written in each conversation, the present one last.
     written: Vec<Bytes>,
+    /// What the last close was told.
+    ended: Option<bool>,
     calls: Calls,
 }
 
@@ -35,6 +37,7 @@ impl Model for MemoryDoor {
       coming = d.coming.items;
       left = drop d.at d.said;
       written = reverse d.written.items;
+      ended = d.ended;
       calls = d.calls;
     } };
 
@@ -54,6 +57,7 @@ impl MemoryDoor {
             said: Bytes::new(alloc),
             at: 0,
             written: Vec::new(alloc),
+            ended: None,
             calls: Calls::new(alloc, fails),
         }
     }
@@ -63,6 +67,13 @@ impl MemoryDoor {
         ensures { reverse result.now ≡ self.now.written }
     {
         self.written.as_slice()
+    }
+
+    /// What the last close was told: whether a request was read to its end.
+    pub fn ended(&self) -> Option<bool>
+        ensures { result ≡ self.now.ended }
+    {
+        self.ended
     }
 }
 
@@ -134,9 +145,11 @@ impl Door for MemoryDoor {
         Put::Done
     }
 
-    fn close(&mut self, _whole: bool)
-        ensures { self.new ≡ self.old }
-    {}
+    fn close(&mut self, whole: bool)
+        ensures { self.new ≡ record self.old { ended = Some whole } }
+    {
+        self.ended = Some(whole);
+    }
 }
 
 /// Appends a piece to the last of some texts, and answers whether that was done: there may be none, and memory may run out.

@@ -1,7 +1,10 @@
 -- Where a conversation has no head, whatever follows.
-use Rattle.std.proofs.Common.{◌≡◌, ℕ, ◌≤◌, ◌⊎◌, List, [], ◌∷◌, ◌++◌, length, get_or, drop, ap, ◌∙◌, arith, inl, inr}
+use Rattle.std.proofs.Common.{◌≡◌, ℕ, ◌≤◌, ◌<◌, ◌⊎◌, Option, List, [], ◌∷◌, ◌++◌, length, length-append, get_or, drop, sym, ap, subst, ◌∙◌, arith, inl, inr}
+use Rattle.std.specs.Io.KnownBytes.{Consumes, Keeps}
+use Rattle.std.proofs.KnownBytes.{Consumes-kept}
 use Rattle.std.proofs.lemmas.Grind.{common_steps}
 use Rattle.httparse.specs.Grammar.{HasNoRequest, print_request}
+use Rattle.httparse.proofs.GrammarLemmas.{print_request-append}
 use Rattle.httparse.specs.Spans.{RequestOverflows}
 use Rattle.desk_http.specs.Heard.{HasNoHead}
 use Rattle.desk_http.specs.Reading.{NeverHasHead}
@@ -33,3 +36,19 @@ none_at_end buf none head rest is = none head rest is.reads
 pub none_after : (buf : List ℕ) → (buf ≡ []) ⊎ HasNoRequest buf → 16384 ≤ length buf → NeverHasHead buf
 none_after buf (inl empty) long = absurd (omega (arith, ap length empty, long))
 none_after buf (inr none) long = none_in_many buf none long
+
+some_printed : (a b c : List ℕ) → [] ≡ a ++ (b ++ 32 ∷ c) → ⊥
+some_printed a b c e = omega (arith, ap length e, length-append a (b ++ 32 ∷ c), length-append b (32 ∷ c))
+
+none_in_nothing : HasNoHead []
+none_in_nothing head rest is = some_printed _ _ _ (is.reads.1 ∙ print_request-append head rest)
+
+no_head_yet : (buf : List ℕ) → (buf ≡ []) ⊎ HasNoRequest buf → HasNoHead buf
+no_head_yet buf (inl empty) = subst (λ l. HasNoHead l) (sym empty) none_in_nothing
+no_head_yet buf (inr none) = none_at_end buf none
+
+-- where a read failed before there was a head
+pub failed_head : (old mid new : Option (List ℕ)) (buf buf' : List ℕ) → Consumes old mid buf → (buf ≡ []) ⊎ HasNoRequest buf → length buf < 16384 → Keeps mid new → buf' ≡ buf → Consumes old new buf' × HasNoHead buf' × (length buf' < 16384)
+failed_head old mid new buf buf' taken none short kept same =
+    subst (λ l. Consumes old new l × HasNoHead l × (length l < 16384)) (sym same)
+    (Consumes-kept old mid new buf taken kept, no_head_yet buf none, short)

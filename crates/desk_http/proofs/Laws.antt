@@ -1,8 +1,7 @@
 -- What holds of requests and replies.
-use Rattle.std.proofs.Common.{◌≡◌, ℕ, ◌<◌, List, ◌++◌, Option, None, Some, is_some, unwrap_or, length, length-append, true, false, sym, ap, subst, ◌∙◌, arith}
-use Rattle.std.proofs.lemmas.Bool.{false≢true}
-use Rattle.httparse.specs.Grammar.{RequestHead}
-use Rattle.httparse.proofs.GrammarLemmas.{request_unique, response_prefix_free}
+use Rattle.std.proofs.Common.{◌≡◌, ℕ, ◌<◌, List, ◌++◌, Option, length, length-append, sym, ap, subst, ◌∙◌, arith}
+use Rattle.httparse.specs.Grammar.{RequestHead, ResponseHead, status_code}
+use Rattle.httparse.proofs.GrammarLemmas.{request_unique, response_prefix_free, response_unique}
 use Rattle.httparse.specs.Spans.{name_and_value}
 use Rattle.route_rules.specs.declared.route.Routes.{Routes}
 use Rattle.route_rules.specs.declared.route.Route.{Route}
@@ -10,13 +9,8 @@ use Rattle.route_rules.specs.Routes.{FindsRoute}
 use Rattle.desk_http.specs.Fields.{reply_length}
 use Rattle.desk_http.specs.Heard.{Heard, Hears, length_of, heard_behind, most_behind, no_head, bad_fields, good_head}
 use Rattle.desk_http.specs.Replied.{IsReply}
+use Rattle.desk_http.proofs.Requests.{none_some, same_in}
 use Rattle.std.specs.Prelude.{map}
-
-same_in : (a b : ℕ) → Some a ≡ Some b → a ≡ b
-same_in a b e = ap (λ o. unwrap_or o a) e
-
-none_some : (a : ℕ) → None ≡ Some a → ⊥
-none_some a e = false≢true (ap (λ o. is_some o) e)
 
 -- a method and a path have one route
 abbrev pub HasOneRoute : Type 0
@@ -52,3 +46,8 @@ no_more bytes more status body is some code rest other =
     let same = response_prefix_free bytes more is.head other.head body rest is.reads other.reads in
     let lengths : length body ≡ length rest = same_in (length body) (length rest) (sym is.stated ∙ ap (λ h. reply_length (map name_and_value h.fields)) same.0 ∙ other.stated) in
     omega (arith, lengths, some, ap length same.1, length-append body more)
+
+pub one_reply : (bytes : List ℕ) (status code : ℕ) (body rest : List ℕ) → IsReply bytes status body → IsReply bytes code rest → (status ≡ code) × (body ≡ rest)
+one_reply bytes status code body rest is other =
+    let same = response_unique bytes is.head other.head body rest is.reads other.reads in
+    (is.code ∙ ap (λ (h : ResponseHead). status_code h) same.0 ∙ sym other.code, same.1)

@@ -54,6 +54,7 @@ writes_both a b old mid new answer p q = record {
   ports = q.ports ∙ p.ports;
   coming = q.coming ∙ p.coming;
   left = q.left ∙ p.left;
+  ended = q.ended ∙ p.ended;
   counts = subst (λ n. CountsFaults (answer ≡ put.Failed) n new.faults) (p.counts.steady (λ e. cc e)) q.counts;
 }
 
@@ -71,5 +72,6 @@ writes_first a b old new p = record {
   ports = p.ports;
   coming = p.coming;
   left = p.left;
+  ended = p.ended;
   counts = p.counts;
 }

@@ -18,8 +18,8 @@ use Rattle.desk_http.specs.declared.reading.Step.{Step}
 use Rattle.desk_http.specs.declared.reading.Step.TheVariants as step
 use Rattle.desk_http.specs.declared.request.Taken.{Taken}
 use Rattle.desk_http.specs.declared.request.Taken.TheVariants as taken
-use Rattle.desk_http.specs.Heard.{Heard, Hears, Call, Refused, HasNoHead}
-use Rattle.desk_http.specs.Conversing.{Says}
+use Rattle.desk_http.specs.Heard.{Call, Refused, HasNoHead}
+use Rattle.desk_http.specs.Conversing.{IsBegun, IsHeard, TakesFew}
 
 -- what was found of the values with a name
 abbrev pub IsNamed : List ℕ → List (List ℕ) → Named → Type 0
@@ -36,16 +36,12 @@ pub record OnlyReads (failed : Type 0) (old new : DoorView) : Type 0 where
   pub ports : new.ports ≡ old.ports
   pub coming : new.coming ≡ old.coming
   pub written : new.written ≡ old.written
+  pub ended : new.ended ≡ old.ended
   pub counts : CountsFaults failed old.faults new.faults
 
 -- at most so many bytes were taken
 abbrev pub TakesAtMost : Option (List ℕ) → Option (List ℕ) → ℕ → Type 0
 TakesAtMost old new most = (bytes : List ℕ) × Consumes old new bytes × (length bytes ≤ most)
-
--- this is heard in what the peer says, which is a byte at least, and no more is taken than is needed to hear it
-abbrev pub TakesHeard : Routes → Option (List ℕ) → Option (List ℕ) → Heard → Type 0
-TakesHeard routes old new heard =
-    (bytes : List ℕ) × (most : ℕ) × Says old bytes × (0 < length bytes) × Hears routes bytes heard most × TakesAtMost old new most
 
 -- these bytes were taken onto the buffer
 abbrev pub Grew : Option (List ℕ) → Option (List ℕ) → List ℕ → List ℕ → Type 0
@@ -70,20 +66,21 @@ ReadsHead old new buf fields (of_head.Read spans) =
 ReadsHead old new buf fields of_head.Bad =
     Consumes old new buf × (0 < length buf) × (length buf ≤ 16384) × (NeverHasHead buf ⊎ (IsAtEnd new × HasNoHead buf))
 ReadsHead old new buf fields of_head.Closed = IsAtEnd old × Keeps old new
-ReadsHead old new buf fields of_head.Failed = TakesAtMost old new 16384
+ReadsHead old new buf fields of_head.Failed = Consumes old new buf × HasNoHead buf × (length buf < 16384)
 ReadsHead old new buf fields of_head.Memory = TakesAtMost old new 16384
 
 -- so many bytes are there, or the conversation ended before
 abbrev pub ReadsRest : Option (List ℕ) → Option (List ℕ) → List ℕ → List ℕ → ℕ → Rest → Type 0
 ReadsRest old new buf buf' upto of_rest.Whole = Grew old new buf buf' × (upto ≤ length buf') × (length buf' ≤ max (length buf) upto)
 ReadsRest old new buf buf' upto of_rest.Cut = Grew old new buf buf' × IsAtEnd new × (length buf' < upto)
-ReadsRest old new buf buf' upto of_rest.Failed = TakesAtMost old new (upto - length buf)
+ReadsRest old new buf buf' upto of_rest.Failed = Grew old new buf buf' × (length buf' < upto)
 ReadsRest old new buf buf' upto of_rest.Memory = TakesAtMost old new (upto - length buf)
 
--- whether it is a call
-abbrev pub is_call : Taken → Bool
-is_call (taken.Call call) = true
-is_call other = false
+-- whether all of a request was taken
+abbrev pub is_whole : Taken → Bool
+is_whole (taken.Call call) = true
+is_whole (taken.Refused refusal whole) = whole
+is_whole other = false
 
 -- the spans of a call lie in these bytes
 abbrev pub IsTakenWithin : List ℕ → Taken → Type 0
@@ -94,8 +91,8 @@ IsTakenWithin buf other = ⊤
 abbrev pub TakesRequest : Routes → Option (List ℕ) → Option (List ℕ) → List ℕ → Taken → Type 0
 TakesRequest routes old new buf (taken.Call call) =
     IsTakenWithin buf (taken.Call call)
-    × TakesHeard routes old new (Call call.asking (span_bytes buf call.path) (span_bytes buf call.body))
-TakesRequest routes old new buf (taken.Refused refusal) = TakesHeard routes old new (Refused refusal)
+    × IsHeard routes old new buf (Call call.asking (span_bytes buf call.path) (span_bytes buf call.body)) true
+TakesRequest routes old new buf (taken.Refused refusal whole) = IsHeard routes old new buf (Refused refusal) whole
 TakesRequest routes old new buf taken.Closed = IsAtEnd old × Keeps old new
-TakesRequest routes old new buf taken.Failed = TakesAtMost old new 4210688
-TakesRequest routes old new buf taken.Memory = TakesAtMost old new 4210688
+TakesRequest routes old new buf taken.Failed = Consumes old new buf × IsBegun routes buf
+TakesRequest routes old new buf taken.Memory = TakesFew routes old new

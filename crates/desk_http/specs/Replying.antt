@@ -39,7 +39,7 @@ module _ {Told : Type 0} (calls : Told → Asking → List ℕ → List ℕ → 
   abbrev pub Talks : DoorView → Told → List ℕ → Taken → Met → DoorView → Told → Type 0
   Talks door host buf (taken.Call call) result door' host' =
       AnswersCall door host call.asking (span_bytes buf call.path) (span_bytes buf call.body) result door' host'
-  Talks door host buf (taken.Refused refusal) result door' host' =
+  Talks door host buf (taken.Refused refusal whole) result door' host' =
       (host' ≡ host) × (answer : Put) × (result ≡ met_of (status_of refusal) answer)
       × WritesOut (spoken (status_of refusal) (text_of refusal)) door answer door'
   Talks door host buf taken.Closed result door' host' = (host' ≡ host) × (result ≡ met.Closed) × (door' ≡ door)

@@ -32,6 +32,12 @@ pub fn what_is_spoken_is_read()
     ensures { (status : ℕ) (body : List ℕ) → IsStatusCode status → length body < 2 ^ 63 → IsReply (spoken status body) status body }
 {}
 
+/// The bytes of a reply have one status and one body.
+pub fn a_reply_is_one_thing()
+    ensures { (bytes : List ℕ) (status code : ℕ) (body rest : List ℕ) → IsReply bytes status body → IsReply bytes code rest
+        → (status ≡ code) × (body ≡ rest) }
+{}
+
 /// A reply with a byte or more behind its body is none.
 pub fn a_byte_behind_a_reply_is_bad()
     ensures { (bytes more : List ℕ) (status : ℕ) (body : List ℕ) → IsReply bytes status body → 0 < length more

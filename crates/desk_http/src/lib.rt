@@ -15,8 +15,8 @@ pub use client::ask_bytes;
 pub use desk_door::{Door, DoorGot, Exchanged, Link, MemoryDoor, MemoryLink};
 pub use host::{Called, Site2};
 pub use law::{
-    a_byte_behind_a_reply_is_bad, what_is_asked_is_heard, what_is_heard_is_one_thing,
-    what_is_spoken_is_read,
+    a_byte_behind_a_reply_is_bad, a_reply_is_one_thing, what_is_asked_is_heard,
+    what_is_heard_is_one_thing, what_is_spoken_is_read,
 };
 pub use reply::{ReadReply, read_reply};
 pub use request::Refusal;

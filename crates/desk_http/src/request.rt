@@ -1,5 +1,5 @@
 ghost use Rattle.std.specs.Prelude.{◌≡◌, []};
-ghost use Rattle.desk_http.specs.Reading.{OnlyReads, TakesRequest, is_call};
+ghost use Rattle.desk_http.specs.Reading.{OnlyReads, TakesRequest, is_whole};
 
 use crate::fields::request_length;
 use crate::reading::{Head, Rest, read_head, read_rest};
@@ -38,19 +38,30 @@ pub(crate) struct CallSpans {
 #[derive(Clone, Copy)]
 pub(crate) enum Taken {
     Call(CallSpans),
-    Refused(Refusal),
+    /// A refusal, and whether all of the request was taken nevertheless.
+    Refused { refusal: Refusal, whole: bool },
     /// There was no byte.
     Closed,
     Failed,
     Memory,
 }
 
+/// A request whose head isn't read, or whose body is cut.
+const UNREAD: Taken = Taken::Refused {
+    refusal: Refusal::BadRequest,
+    whole: false,
+};
+
 impl Taken {
-    /// Whether a request was read to its end.
-    pub(crate) fn is_call(self) -> bool
-        ensures { result ≡ is_call self }
+    /// Whether all of a request was taken.
+    pub(crate) fn is_whole(self) -> bool
+        ensures { result ≡ is_whole self }
     {
-        matches!(self, Taken::Call(_))
+        match self {
+            Taken::Call(_) => true,
+            Taken::Refused { whole, .. } => whole,
+            Taken::Closed | Taken::Failed | Taken::Memory => false,
+        }
     }
 }
 
@@ -69,23 +80,32 @@ pub(crate) fn read_request<D: Door>(
     let mut fields = [EMPTY_HEADER_SPAN; FIELD_LIMIT];
     let head = match read_head(door, &mut room, buf, &mut fields) {
         Head::Read(head) => head,
-        Head::Bad => return Taken::Refused(Refusal::BadRequest),
+        Head::Bad => return UNREAD,
         Head::Closed => return Taken::Closed,
         Head::Failed => return Taken::Failed,
         Head::Memory => return Taken::Memory,
     };
     let Some(length) = request_length(head.version, buf.as_slice(), &fields[..head.headers]) else {
-        return Taken::Refused(Refusal::BadRequest);
+        return UNREAD;
     };
     let method = head.method.of(buf.as_slice());
     let path = head.path.of(buf.as_slice());
+    let whole = length <= (buf.as_slice().len() - head.len) as u64;
     let (asking, most) = match find_route(alloc, routes, method, path) {
         Ok(Some(route)) => (route.asking(), route.most()),
-        Ok(None) => return Taken::Refused(Refusal::NoSuch),
+        Ok(None) => {
+            return Taken::Refused {
+                refusal: Refusal::NoSuch,
+                whole,
+            };
+        }
         Err(_) => return Taken::Memory,
     };
     if length > most {
-        return Taken::Refused(Refusal::TooLong);
+        return Taken::Refused {
+            refusal: Refusal::TooLong,
+            whole,
+        };
     }
     let end = head.len + length as usize;
     match read_rest(door, &mut room, buf, end) {
@@ -97,7 +117,7 @@ pub(crate) fn read_request<D: Door>(
                 end,
             },
         }),
-        Rest::Cut => Taken::Refused(Refusal::BadRequest),
+        Rest::Cut => UNREAD,
         Rest::Failed => Taken::Failed,
         Rest::Memory => Taken::Memory,
     }

@@ -40,7 +40,7 @@ pub fn converse<D: Door, H: Site2>(alloc: Global, door: &mut D, host: &mut H, ro
     let mut buf = Bytes::new(alloc);
     let taken = read_request(alloc, door, &mut buf, routes);
     let met = respond(alloc, door, host, buf.as_slice(), taken);
-    door.close(taken.is_call());
+    door.close(taken.is_whole());
     met
 }
 
@@ -63,7 +63,7 @@ fn respond<D: Door, H: Site2>(
                 Called::Memory => no_memory(door),
             }
         }
-        Taken::Refused(refusal) => met_of(refusal.status(), door.write(refusal.response())),
+        Taken::Refused { refusal, .. } => met_of(refusal.status(), door.write(refusal.response())),
         Taken::Closed => Met::Closed,
         Taken::Failed => Met::DoorFault,
         Taken::Memory => no_memory(door),

@@ -107,7 +107,7 @@ impl<N: Network> TcpDoor<N> {
 }
 
 impl<N: Network> Door for TcpDoor<N> {
-    ghost told = { λ d. record { ports = None; coming = None; left = None; written = None; faults = d.faults } };
+    ghost told = { λ d. record { ports = None; coming = None; left = None; written = None; ended = None; faults = d.faults } };
 
     fn open(&mut self, port: u16) -> Put {
         match self.listen(port) {

@@ -9,6 +9,7 @@ invariant-pieces g l = record {
   ports : (g.D.Door.told l.door).ports ≡ (g.D.Door.told l.fn.door).ports;
   coming : (g.D.Door.told l.door).coming ≡ (g.D.Door.told l.fn.door).coming;
   written : (g.D.Door.told l.door).written ≡ (g.D.Door.told l.fn.door).written;
+  ended : (g.D.Door.told l.door).ended ≡ (g.D.Door.told l.fn.door).ended;
   steady : (g.D.Door.told l.door).faults ≡ (g.D.Door.told l.fn.door).faults;
 }
 
