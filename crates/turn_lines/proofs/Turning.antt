@@ -6,7 +6,7 @@ use Rattle.std.proofs.lemmas.List.{map-append}
 use Rattle.std.proofs.lemmas.List.Folds.{list_any-append}
 use Rattle.script_run.specs.Asking.{When}
 use Rattle.agent_state.specs.Changes.{SuppliesState}
-use Rattle.agent_state.specs.States.{State}
+use Rattle.agent_state.specs.States.{IsSound, State}
 use Rattle.agent_core.specs.declared.turned.Turned.{Turned}
 use Rattle.agent_core.specs.declared.turned.Turned.TheVariants.{Idle, Interrupted, Held, Wants, Ended, MachineFault, PocketFault, Memory}
 use Rattle.agent_core.specs.Devices.{Devices}
@@ -99,10 +99,10 @@ module _ {S : Type 0} (gives : Gives S) (at : When) (s : State) (d : Devices) (g
 
   -- a file came that the last turn wanted, was supplied and taken, and one turn more was made
   pub made_more : (a : Turned) (id : ℕ) (began : Bool) (digest : List ℕ) (s1 : State) (d1 : Devices) (g1 : GiverView S) (s2 : State) (g2 : GiverView S) (next now : Turned) (s3 : State) (d3 : Devices)
-      → TurnsMade gives at s d g a s1 d1 g1 → a ≡ Wants id began digest
+      → TurnsMade gives at s d g a s1 d1 g1 → IsSound s1 → a ≡ Wants id began digest
       → (bytes : Option (List ℕ)) × GivesFile gives digest g1 (given_of bytes) g2 × SuppliesState s1 digest bytes true s2
       → Turn at s2 d1 next s3 d3 → TurnHasCause d1 next d3 → now ≡ with_begun began next → TurnsMade gives at s d g now s3 d3 g2
-  made_more a id began digest s1 d1 g1 s2 g2 next now s3 d3 made is came turns cause e =
+  made_more a id began digest s1 d1 g1 s2 g2 next now s3 d3 made sound is came turns cause e =
       let last = wants_last (any_begun made.fetches) made.last id began digest (sym is ∙ made.answers) in
       let fetch : Fetch = record { id = id; began = last.0; digest = digest; bytes = came.0 } in
       let counts = wants_counts made.devices id last.0 digest d1 (subst (λ x. TurnHasCause made.devices x d1) last.1 made.cause) in
@@ -114,7 +114,7 @@ module _ {S : Type 0} (gives : Gives S) (at : When) (s : State) (d : Devices) (g
         devices = d1;
         last = next;
         fetched = fetched_more at s d made.fetches fetch made.between s2 made.devices d1 made.fetched
-            (record { turned = s1; turns = subst (λ x. Turn at made.between made.devices x s1 d1) last.1 made.turns; supplies = came.2 });
+            (record { turned = s1; turns = subst (λ x. Turn at made.between made.devices x s1 d1) last.1 made.turns; sound = sound; supplies = came.2 });
         turns = turns;
         answers = e ∙ ap (λ b. with_begun b next) (last.2 ∙ sym (any_more made.fetches fetch));
         asked = subst (λ l. GivesAll gives g l g2) (sym (map-append asked_by made.fetches (fetch ∷ [])))

@@ -4,7 +4,7 @@ use Rattle.std.specs.Prelude.{◌≡◌, ◌⊎◌, ℕ, ◌≤◌, Bool, true, 
 use Rattle.std.specs.List.{list_any}
 use Rattle.script_run.specs.Asking.{When}
 use Rattle.agent_state.specs.Changes.{SuppliesState}
-use Rattle.agent_state.specs.States.{State}
+use Rattle.agent_state.specs.States.{IsSound, State}
 use Rattle.agent_core.specs.declared.turned.Turned.{Turned}
 use Rattle.agent_core.specs.declared.turned.Turned.TheVariants.{Held, Wants, Ended, Memory}
 use Rattle.agent_core.specs.Devices.{Devices}
@@ -32,10 +32,11 @@ given_of (Some bytes) = given.File bytes
 abbrev pub asked_by : Fetch → FileAsked
 asked_by fetch = file fetch.digest (given_of fetch.bytes)
 
--- A turn wanted a file, and what came was supplied and taken.
+-- A turn wanted a file and left a sound state, and what came was supplied and taken.
 pub record Fetches (at : When) (s : State) (d : Devices) (fetch : Fetch) (s2 : State) (d2 : Devices) : Type 0 where
   pub turned : State
   pub turns : Turn at s d (Wants fetch.id fetch.began fetch.digest) turned d2
+  pub sound : IsSound turned
   pub supplies : SuppliesState turned fetch.digest fetch.bytes true s2
 
 -- Such turns were made one after another.

@@ -9,7 +9,7 @@ ghost use Rattle.turn_lines.specs.Fetching.{FetchesFile};
 ghost use Rattle.turn_lines.specs.TurnsWithFiles as made;
 
 use crate::giver::{Given, Giver};
-use agent_core::{Agent, Turned, wants_come_to_an_end};
+use agent_core::{Agent, Turned, agents_are_sound, wants_come_to_an_end};
 use agent_text::Pocket;
 use bf_machine::Machine;
 use std::alloc::Global;
@@ -60,6 +60,8 @@ pub fn turn_with_files<M: Machine, P: Pocket, G: Giver>(
         let Turned::Wants { id, began, digest } = turned else {
             return turned;
         };
+        // Proof: the state that a turn leaves is sound.
+        agents_are_sound(agent);
         match fetch(agent, giver, &digest) {
             Fetched::Came => {}
             Fetched::NotGot => return Turned::Wants { id, began, digest },

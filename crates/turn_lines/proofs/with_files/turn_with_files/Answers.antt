@@ -43,7 +43,7 @@ files-preserved g c =
       waits = c.turn-next.ensures.waits;
       started = search rules;
       holds = search rules;
-      made = made_more _ _ _ _ _ c.files.turned c.in-Wants.id c.in-Wants.began c.in-Wants.digest _ d _ s _ c.turn-next.result _ s2 d2 c.files.invariant.made c.in-Wants.is came turn c.turn-next.ensures.cause
+      made = made_more _ _ _ _ _ c.files.turned c.in-Wants.id c.in-Wants.began c.in-Wants.digest _ d _ s _ c.turn-next.result _ s2 d2 c.files.invariant.made c.agents_are_sound.ensures c.in-Wants.is came turn c.turn-next.ensures.cause
           c.with_begun-turned.ensures;
       few = few_came _ c.wants_come_to_an_end.ensures.wanted c.wants_come_to_an_end.ensures.fewer _ c.files.turned c.in-Wants.id c.in-Wants.began c.in-Wants.digest c.files.agent _ _ _ c.in-Wants.is c.files.invariant.few
           c.in-Came.ensures.fetches at d c.turn-next.result _ s2 d2 turn c.with_begun-turned.ensures;
