@@ -5,3 +5,10 @@ pub mod OneMessageWord
 pub mod OnePlay
 pub mod Fronts
 pub mod PrintedAlike
+pub mod UnderNames
+pub mod Networks
+pub mod TurningMail
+pub mod Numbered
+pub mod DeedSteps
+pub mod MessageSteps
+pub mod PlaySteps

@@ -12,7 +12,7 @@ use Rattle.delivery.specs.Schedules.{message_at}
 use Rattle.office_rules.specs.Deeds.{DoesBoth, DoesEach}
 use Rattle.office_rules.specs.MessageWords.{Delivers, DeliversAnswered, DeliversAt, DeliversFound, Dispatches, Forwards, Pushes, PushesQueue, ReportsAll, ReportsOne, SaysAnswer, Sends, SendsFound, Tells, answer_word, arrived, next_number, settled_word, shown_numbers, shown_report, sites_of}
 use Rattle.office_rules.specs.Offices.{Office, PlayedComputer, carriers_of, with_computer}
-use Rattle.office_rules.specs.OfficeLines.{delivered_line, verdict_words}
+use Rattle.office_rules.specs.OfficeLines.{delivered_line, answer_words}
 use Rattle.office_rules.proofs.OneDeed.{IsOne, both_once, each_once, found_once}
 
 -- ---- sent messages
@@ -63,7 +63,7 @@ says_once : (old : Office) (message : Message) (said other : List (List ℕ)) �
 says_once old message said other (answer, word, is, spelled, p) (answer', word', is', spelled', q) =
     let same : answer ≡ answer' = found_once (arrived old message).answer answer answer' is is' in
     let words : word ≡ word' = found_once (answer_word answer) word word' spelled (ap answer_word same ∙ spelled') in
-    p ∙ ap (λ (w : List ℕ). verdict_words w (next_number old)) words ∙ sym q
+    p ∙ ap (λ (w : List ℕ). answer_words w (next_number old)) words ∙ sym q
 
 abbrev pub OneSettling : Type 0
 OneSettling = (seq : ℕ) (verdict : Verdict) (s s2 s3 : State) (answer other : Bool) → SettlesState seq verdict s answer s2 → SettlesState seq verdict s other s3 → (answer ≡ other) × (s2 ≡ s3)

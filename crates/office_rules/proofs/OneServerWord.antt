@@ -19,7 +19,7 @@ use Rattle.server_core.specs.DeskLimits.{desk_limits}
 use Rattle.server_core.specs.Replies.{reply}
 use Rattle.office_rules.specs.Offices.{Office}
 use Rattle.office_rules.specs.OfficeLines.{gathered_line}
-use Rattle.office_rules.specs.RelayWords.{TakesNewer, TakesText, asked_site}
+use Rattle.office_rules.specs.RelayWords.{TakesNewer, TakesText, site_reply}
 use Rattle.office_rules.specs.ServerWords.{AsksServer, replied_line}
 
 abbrev pub OneMeaning : Type 0
@@ -69,6 +69,6 @@ pub newer_once : OneReading → (name : List ℕ) (accepted : List Entry) (sites
     → TakesNewer name accepted sites old other two → (said ≡ other) × (new ≡ two)
 newer_once reading name accepted [] old said other new two p q = (p.0 ∙ sym q.0, p.1 ∙ sym q.1)
 newer_once reading name accepted (site ∷ sites) old said other new two (mid, a, b, p, q, is) (far, c, d, p', q', is') =
-    let first = text_once reading name (asked_site accepted old site.name) old a c mid far p p' in
+    let first = text_once reading name (site_reply accepted old site.name) old a c mid far p p' in
     let second = newer_once reading name accepted sites mid b d new two q (subst (λ (r : RelayState). TakesNewer name accepted sites r d two) (sym first.1) q') in
     (is ∙ (λ j. first.0 j ++ second.0 j) ∙ sym is', second.1)

@@ -55,7 +55,7 @@ Brings (told.Content bytes) answer = answer ≡ given.File bytes
 Brings told.NoSuch answer = answer ≡ given.NotServed
 Brings other answer = ⊥
 
--- How files come from a server that accepted this: their bytes, or that they aren't served. Want of memory brings none.
+-- How files come from a server that accepted this: their bytes, or that they aren't served; or memory is wanting, and none comes.
 abbrev pub ServesFiles : Gives (List Entry)
 ServesFiles accepted digest given.Memory then = then ≡ accepted
 ServesFiles accepted digest answer then = Brings (reply accepted desk_limits (FileBytes digest)) answer × (then ≡ accepted)
@@ -68,11 +68,12 @@ server_files accepted = record { asked = []; source = accepted }
 abbrev pub turn_time : ℤ → PlayedComputer → When
 turn_time moment c = record { moment = moment; offset = c.world.offset }
 
--- what the devices of a computer tell: its world, in which nothing was asked or done yet, and its pocket's text; no call has failed
+-- what the devices of a computer tell as a word begins: its world, that nothing was looked up, done or polled yet, and its pocket's text;
+-- no call has failed
 abbrev pub devices_of : PlayedComputer → Devices
 devices_of c = devices (machine.sure_view (untouched c.world)) (pocket.sure_view c.saved)
 
--- The devices tell what stands at a computer, that these commands were done, and still that no call has failed.
+-- The devices tell what a computer has as the word ends, that these commands were done, and still that no call has failed.
 pub record TellComputer (d : Devices) (commands : List Command) (c : PlayedComputer) : Type 0 where
   pub world : d.machine.world ≡ Some c.world
   pub acted : d.machine.acted ≡ Some commands
@@ -80,9 +81,8 @@ pub record TellComputer (d : Devices) (commands : List Command) (c : PlayedCompu
   pub machine_faults : d.machine.faults ≡ 0
   pub pocket_faults : d.pocket.faults ≡ 0
 
--- The agent of a computer gathers the sites of its relay, and makes turns at a moment, with the server's files between them, of which none
--- ends for want of memory. Printed are the commands that were done, each with what it is answered in the other world, and then the line of
--- the turns.
+-- The agent of a computer gathers these sites, and makes turns at a moment, with the server's files between them, and memory doesn't run
+-- out. Printed are the commands that were done, each with what it is answered in the other world, and then one line for all the turns.
 pub record TurnsComputer (name : List ℕ) (moment : ℤ) (accepted : List Entry) (sites : List Site) (old : PlayedComputer)
     (said : List ℕ) (new : PlayedComputer) : Type 0 where
   pub gathered : State
@@ -99,7 +99,7 @@ pub record TurnsComputer (name : List ℕ) (moment : ℤ) (accepted : List Entry
   pub again : new.again ≡ world_after moment old.again commands
   pub said_is : said ≡ do_lines (answers_from moment old.again commands) ++ turn_line name moment answer
 
--- A computer turns, with the sites that its relay keeps, in byte order of their names.
+-- A computer turns, and gathers before that what its relay keeps, in byte order of names.
 abbrev pub TurnsAt : List ℕ → ℤ → Office → PlayedComputer → List ℕ → PlayedComputer → Type 0
 TurnsAt name moment o old said new =
     (relay : RelayState) × (named old.relay o.relays ≡ Some relay) × TurnsComputer name moment o.accepted relay.sites old said new
@@ -108,7 +108,7 @@ abbrev pub Turns : List ℕ → ℤ → Deed
 Turns name moment old said new = AtComputer name (TurnsAt name moment old) old said new
 
 -- ---- restart
--- An agent is opened again from its pocket.
+-- An agent is opened again from its pocket, and has what was saved there, no site, and no attempt that is held.
 abbrev pub RestartsAt : List ℕ → PlayedComputer → List ℕ → PlayedComputer → Type 0
 RestartsAt name old said new =
     (agent : AgentState) × OpensAgent name (Some old.saved) (opened.Agent agent) × (said ≡ words_line (codes "restart" ∷ name ∷ []))

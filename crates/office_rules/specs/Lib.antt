@@ -8,4 +8,5 @@ pub mod MessageWords
 pub mod Endings
 pub mod Plays
 pub mod PrintedAnswers
+pub mod WordSteps
 pub mod OfficeSchedules

@@ -15,13 +15,13 @@ use Rattle.delivery.specs.Schedules.{message_at}
 use Rattle.turn_lines.specs.VerdictWords.{reply_word, verdict_word}
 use Rattle.office_rules.specs.Deeds.{Deed, DoesBoth, DoesEach}
 use Rattle.office_rules.specs.Offices.{Office, PlayedComputer, carriers_of, with_computer}
-use Rattle.office_rules.specs.OfficeLines.{delivered_line, nothing_line, sent_line, verdict_words}
+use Rattle.office_rules.specs.OfficeLines.{answer_words, delivered_line, nothing_line, sent_line}
 
 -- the number of the next message
 abbrev pub next_number : Office → ℕ
 next_number o = length o.messages + 1
 
--- A message with this report goes to a relay of this name, or to `server`.
+-- This message, which brings the report, is sent. Whereto is printed: the name of a relay, or the word `server`.
 abbrev pub Dispatches : Message → Report → List ℕ → Deed
 Dispatches message report to old said new =
     (said ≡ sent_line (next_number old) report to) × (new ≡ record old { messages = old.messages ++ message ∷ [] })
@@ -31,7 +31,7 @@ Dispatches message report to old said new =
 abbrev pub shown_report : ℕ → State → Option Report
 shown_report seq s = find (λ (report : Report). report.seq == seq) (shown_reports s)
 
--- A report is sent to the relay, or there is none of the number.
+-- The report that was found is sent to the relay, or there is none.
 abbrev pub SendsFound : List ℕ → ℕ → List ℕ → Option Report → Deed
 SendsFound name seq relay None old said new = (said ≡ nothing_line (codes "send" ∷ name ∷ decimal seq ∷ [])) × (new ≡ old)
 SendsFound name seq relay (Some report) old said new = Dispatches (ReportToRelay relay report) report relay old said new
@@ -54,7 +54,7 @@ abbrev pub Pushes : List ℕ → Deed
 Pushes name old said new = (relay : RelayState) × (named name old.relays ≡ Some relay) × PushesQueue name relay.queue old said new
 
 -- ---- deliver
--- what the server and the relays make of a message, with all that was accepted and all that they carry
+-- what the server and the relays make of a message that arrives, by what was accepted and what the relays carry
 abbrev pub arrived : Office → Message → Arrived
 arrived o message = arrives desk_limits o.accepted (carriers_of o.relays) message
 
@@ -79,7 +79,7 @@ answer_word report = None
 abbrev pub SaysAnswer : Office → Message → List (List ℕ) → Type 0
 SaysAnswer old message said =
     (answer : Message) × (word : List ℕ) × ((arrived old message).answer ≡ Some answer) × (answer_word answer ≡ Some word)
-    × (said ≡ verdict_words word (next_number old))
+    × (said ≡ answer_words word (next_number old))
 
 -- what is said of a verdict that arrived: whether the report was dropped
 abbrev pub settled_word : Bool → List ℕ
@@ -116,7 +116,7 @@ abbrev pub DeliversAnswered : ℕ → Deed
 DeliversAnswered number old said new = DoesBoth (DeliversAt number) (DeliversAt (next_number old)) old said new
 
 -- ---- report
--- A computer sends the report of this number, which arrives and is answered.
+-- A computer sends the report of this number, which arrives, and then its answer does.
 abbrev pub ReportsOne : List ℕ → ℕ → Deed
 ReportsOne name seq old said new = DoesBoth (Sends name seq) (DeliversAnswered (next_number old)) old said new
 
@@ -124,14 +124,15 @@ ReportsOne name seq old said new = DoesBoth (Sends name seq) (DeliversAnswered (
 abbrev pub shown_numbers : State → List ℕ
 shown_numbers s = map (λ (report : Report). report.seq) (shown_reports s)
 
--- A computer sends each report that its agent shows as the word begins; each arrives and is answered before the next is sent.
+-- A computer sends each report that its agent shows as the word begins; each arrives, and so does its answer,
+-- before the next one is sent.
 abbrev pub ReportsAll : List ℕ → Deed
 ReportsAll name old said new =
     (computer : PlayedComputer) × (named name old.computers ≡ Some computer)
     × DoesEach (ReportsOne name) (shown_numbers computer.agent) old said new
 
 -- ---- forward
--- A relay sends its queue as the word begins, and each of the new messages arrives and is answered before the next one.
+-- A relay sends its queue as the word begins, and each of the new messages arrives, and then its answer, before the next one.
 abbrev pub Forwards : List ℕ → Deed
 Forwards name old said new =
     (relay : RelayState) × (named name old.relays ≡ Some relay)

@@ -1,4 +1,4 @@
--- The lines that are printed of an office, but for those of turns and commands.
+-- The lines that are printed of an office, but for those of the server's replies, of turns and of commands.
 use Rattle.std.specs.Prelude.{ℕ, List, [], ◌∷◌, ◌++◌, codes, decimal}
 use Rattle.line_forms.specs.FieldLists.{line_of}
 use Rattle.line_forms.specs.Lines.{ended_line}
@@ -6,11 +6,11 @@ use Rattle.report_text.specs.declared.report.Report.{Report}
 use Rattle.report_text.specs.RowLines.{outcome_field}
 use Rattle.desk_keep.specs.declared.result_row.ResultRow.{ResultRow}
 
--- words, with one space between any two
+-- a line of words, with one space between any two
 unfoldable pub words_line : List (List ℕ) → List ℕ
 words_line words = ended_line (line_of words)
 
--- words, a colon, a space, and words that are said of them
+-- a line of words, a colon, a space, and words that are said of them
 unfoldable pub about_line : List (List ℕ) → List (List ℕ) → List ℕ
 about_line words said = ended_line (line_of words ++ codes ": " ++ line_of said)
 
@@ -22,7 +22,7 @@ nothing_line words = about_line words (codes "nothing" ∷ [])
 abbrev pub gathered_line : List ℕ → List ℕ → ℕ → List ℕ
 gathered_line relay name version = about_line (codes "gather" ∷ relay ∷ []) (name ∷ decimal version ∷ [])
 
--- the message of this number is a report that goes to a relay of this name, or to `server`
+-- the message of this number is a report; whereto it goes is the name of a relay, or the word `server`
 abbrev pub sent_line : ℕ → Report → List ℕ → List ℕ
 sent_line number report to =
     about_line (codes "message" ∷ decimal number ∷ [])
@@ -32,9 +32,9 @@ sent_line number report to =
 abbrev pub delivered_line : ℕ → List (List ℕ) → List ℕ
 delivered_line number said = about_line (codes "deliver" ∷ decimal number ∷ []) said
 
--- the verdict on a report that arrived, and the number of the message that brings it back
-abbrev pub verdict_words : List ℕ → ℕ → List (List ℕ)
-verdict_words word answer = (word ++ codes ",") ∷ codes "message" ∷ decimal answer ∷ []
+-- the word for the answer to a report that arrived, and the number of the message that brings it back
+abbrev pub answer_words : List ℕ → ℕ → List (List ℕ)
+answer_words word answer = (word ++ codes ",") ∷ codes "message" ∷ decimal answer ∷ []
 
 -- a result: its computer, its action, the number of the attempt, its outcome, and the number of the report
 abbrev pub result_line : ResultRow → List ℕ

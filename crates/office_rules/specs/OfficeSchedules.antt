@@ -7,7 +7,9 @@ use Rattle.server_core.specs.DeskLimits.{desk_limits}
 use Rattle.office_text.specs.declared.order.Order.{Order}
 use Rattle.office_text.specs.declared.order.Order.TheVariants as order
 use Rattle.delivery.specs.Schedules.{Computer, Deployment, IsSchedule, Network, Step, reached, start}
-use Rattle.office_rules.specs.Offices.{Office, PlayedComputer, carriers_of}
+use Rattle.office_rules.specs.Offices.{Office, PlayedComputer, carriers_of, empty_office}
+use Rattle.office_rules.specs.Plays.{PlaysOrder}
+use Rattle.office_rules.specs.WordSteps.{AreOfEach, AreStepsOf}
 
 -- the relay that an order names, with the most reports that it queues
 abbrev pub named_relay : Order → Option (List ℕ × ℕ)
@@ -27,12 +29,13 @@ deployment_of orders = record {
   computers = filter_map named_computer orders;
 }
 
--- a computer is at the same relay, and what matters of its agent and its pocket is this mail
+-- a computer has the same name and the same relay, and what matters of its agent and its pocket is this mail
 abbrev pub IsComputerOf : List ℕ × Computer → List ℕ × PlayedComputer → Type 0
 IsComputerOf there computer =
     (there.0 ≡ computer.0) × (there.1.relay ≡ computer.1.relay)
     × IsMailOf there.1.mail computer.1.agent (Some computer.1.saved)
 
+-- so is each, in their order
 abbrev pub AreComputersOf : List (List ℕ × Computer) → List (List ℕ × PlayedComputer) → Type 0
 AreComputersOf [] [] = ⊤
 AreComputersOf (there ∷ others) (computer ∷ computers) = IsComputerOf there computer × AreComputersOf others computers
@@ -45,8 +48,9 @@ pub record IsNetworkOf (n : Network) (o : Office) : Type 0 where
   pub relays : n.relays ≡ carriers_of o.relays
   pub computers : AreComputersOf n.computers o.computers
 
--- A schedule, under what the orders give beforehand, reaches what matters of an office.
+-- A schedule, under what the orders give beforehand, is made of the steps of each order, and reaches what matters of an office.
 pub record ReachesOffice (orders : List Order) (o : Office) : Type 0 where
   pub steps : List Step
+  pub are : AreOfEach PlaysOrder AreStepsOf orders empty_office steps
   pub schedule : IsSchedule desk_limits (start (deployment_of orders)) steps
   pub network : IsNetworkOf (reached desk_limits (start (deployment_of orders)) steps) o

@@ -27,10 +27,10 @@ NamesRelay name old said new =
 
 -- ---- gather
 -- what the server replies to a relay that asks for a site, telling the version that it keeps, or 0
-abbrev pub asked_site : List Entry → RelayState → List ℕ → Reply
-asked_site accepted relay site = reply accepted desk_limits (SiteText site (kept_version (site_at site relay.sites)))
+abbrev pub site_reply : List Entry → RelayState → List ℕ → Reply
+site_reply accepted relay site = reply accepted desk_limits (SiteText site (kept_version (site_at site relay.sites)))
 
--- The relay takes the site of this text, and a line says so; without a text nothing is done.
+-- The relay takes the site whose text the reply has, and a line says so. At any other reply nothing is done.
 abbrev pub TakesText : List ℕ → Reply → RelayState → List ℕ → RelayState → Type 0
 TakesText name (told.Site text) old said new =
     (site : Site) × ReadsSite text (Ok site) × KeepsSite old site gathered.New new × (said ≡ gathered_line name site.name site.version)
@@ -40,7 +40,7 @@ TakesText name other old said new = (said ≡ []) × (new ≡ old)
 abbrev pub TakesNewer : List ℕ → List Entry → List SiteVersion → RelayState → List ℕ → RelayState → Type 0
 TakesNewer name accepted [] old said new = (said ≡ []) × (new ≡ old)
 TakesNewer name accepted (site ∷ sites) old said new =
-    (between : RelayState) × (one : List ℕ) × (other : List ℕ) × TakesText name (asked_site accepted old site.name) old one between
+    (between : RelayState) × (one : List ℕ) × (other : List ℕ) × TakesText name (site_reply accepted old site.name) old one between
     × TakesNewer name accepted sites between other new × (said ≡ one ++ other)
 
 -- the lines, or another one where there is none
@@ -58,7 +58,7 @@ abbrev pub Gathers : List ℕ → Deed
 Gathers name old said new = AtRelay name (GathersAt name old) old said new
 
 -- ---- forget
--- A relay begins anew: it queues nothing, knows of no report that the server holds one, and keeps no site.
+-- A relay begins anew: it queues no report, knows of none that the server holds it, and keeps no site.
 abbrev pub ForgetsAt : List ℕ → RelayState → List ℕ → RelayState → Type 0
 ForgetsAt name old said new = (said ≡ words_line (codes "forget" ∷ name ∷ [])) × (new ≡ empty_relay desk_queue)
 

@@ -1,17 +1,22 @@
 // What holds of every office that is played. The body of a law calls the laws that its proof stands on.
-ghost use Rattle.std.specs.Prelude.{◌≡◌, List, ℕ, ℤ};
+ghost use Rattle.std.specs.Prelude.{◌≡◌, All, List, ℕ, ℤ};
 ghost use Rattle.desk_base.specs.Flow.{IsFront};
 ghost use Rattle.bf_machine.specs.Steps.{SameButPolls};
 ghost use Rattle.fix_site.specs.declared.site.Site.{Site};
 ghost use Rattle.server_text.specs.Entries.{Entry};
+ghost use Rattle.delivery.specs.Holdings.{TellsNoConflict};
 ghost use Rattle.office_text.specs.declared.order.Order.{Order};
 ghost use Rattle.office_rules.specs.ComputerWords.{TurnsComputer};
 ghost use Rattle.office_rules.specs.Offices.{Office, PlayedComputer};
+ghost use Rattle.office_rules.specs.OfficeSchedules.{ReachesOffice};
 ghost use Rattle.office_rules.specs.Plays.{IsFrontOfPlay, IsPlayed};
 ghost use Rattle.office_rules.specs.PrintedAnswers.{AreAlike, PrintsAnswers};
 
-use agent_core::{a_turn_acts_step_by_step, devices_go_on_telling, one_change, one_turn};
+use agent_core::{
+    a_turn_acts_step_by_step, devices_go_on_telling, one_change, one_turn, turns_are_steps,
+};
 use bf_machine::commands_are_answered_alike;
+use delivery::what_is_dropped_is_held;
 use fix_site::one_reading;
 use server_text::one_meaning;
 
@@ -49,4 +54,15 @@ pub fn commands_are_printed_as_answered()
 {
     a_turn_acts_step_by_step();
     commands_are_answered_alike();
+}
+
+/// What is played is a schedule of the delivery of reports, under the desk's limits and the relays and computers that the orders name: it
+/// is made of the steps of each order, and reaches what of the office matters for the delivery. So no message that was ever sent, and no
+/// line of one that arrived, tells of a conflict.
+pub fn played_offices_are_schedules()
+    ensures schedule { (orders : List Order) (written : List ℕ) (o : Office) → IsPlayed orders written o → ReachesOffice orders o }
+    ensures agreed { (orders : List Order) (written : List ℕ) (o : Office) → IsPlayed orders written o → All TellsNoConflict o.messages }
+{
+    turns_are_steps();
+    what_is_dropped_is_held();
 }

@@ -3,4 +3,6 @@
 
 mod law;
 
-pub use law::{commands_are_printed_as_answered, fronts_begin_the_play, one_play};
+pub use law::{
+    commands_are_printed_as_answered, fronts_begin_the_play, one_play, played_offices_are_schedules,
+};
