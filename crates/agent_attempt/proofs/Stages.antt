@@ -9,7 +9,7 @@ use Rattle.bf_machine.specs.Views.{MachineView}
 use Rattle.script_run.specs.Asking.{When}
 use Rattle.script_run.specs.RunPlaces.{Stands, WaitsBelow, from, wanted_at}
 use Rattle.agent_attempt.specs.declared.found.Found.{Found}
-use Rattle.agent_attempt.specs.declared.found.Found.TheVariants.{Yes, No}
+use Rattle.agent_attempt.specs.declared.found.Found.TheVariants.{Yes, No, Memory}
 use Rattle.agent_attempt.specs.declared.went.Went.{Went}
 use Rattle.agent_attempt.specs.declared.went.Went.TheVariants as went
 use Rattle.agent_attempt.specs.declared.attempt.Part.{Part}
@@ -19,35 +19,45 @@ use Rattle.agent_attempt.specs.Relevance.{FixletIs, Succeeds}
 use Rattle.agent_attempt.specs.Attempts.{PlainAttempt, Past, StageWaitsBelow, coming, starting, running, judging, issue_date}
 use Rattle.agent_attempt.specs.Going.{held_at, ended, AfterComing, AfterJudging, FromRunning, FromStarting, Through, FromLeft, GoesOn, held_after}
 use Rattle.agent_attempt.specs.Stages.{AttemptState, FirstHasScript, IsRun, IsStage, shown_attempt, shown_stage}
-use Rattle.agent_attempt.specs.AttemptSteps.{MakesStep, StepsBy, StepsTo, with_stage}
+use Rattle.agent_attempt.specs.AttemptSteps.{MakesStep, StepsBy, StepsByFound, StepsTo, with_stage}
 use Rattle.agent_attempt.proofs.Alike.{starting_alike, running_alike, through_alike}
 use Rattle.agent_attempt.proofs.Runs.{run_waits}
 use Rattle.agent_attempt.proofs.Stepping.{ends, held_so, next_steps, steps_at, steps_lead}
 
 -- ---- coming
 -- the component was asked whether it is relevant, and then this step was made
-pub come_steps : (at : When) (s : AttemptState) (part : Part) (left : List Part) (old mid now : MachineView) (found : Found) (result : Option Went) (new : PlainAttempt) →
-    s.left ≡ part ∷ left → FixletIs at part.fixlet old found mid →
-    StepsBy at (AfterComing at (with_stage coming (shown_attempt s)) part left (Through at (with_stage coming (shown_attempt s)) left) found) s.past mid result now new →
-    StepsTo at (with_stage coming (shown_attempt s)) old result now new
-come_steps at s part left old mid now found result new e is h =
+pub come_steps : (at : When) (s : AttemptState) (part : Part) (left : List Part) (old mid : MachineView) (found : Found) (result : Option Went) (new : PlainAttempt) →
+    s.stage ≡ stage.Coming → s.left ≡ part ∷ left → FixletIs at part.fixlet old found mid → StepsByFound at (shown_attempt s) part left found mid result new →
+    StepsTo at (with_stage coming (shown_attempt s)) old result mid new
+come_steps at s part left old mid found result new comes e is h =
     let b = with_stage coming (shown_attempt s) in
-    steps_at at b part left (AfterComing at b part left (Through at b left) found) s.past old mid now result new e (λ answer later after k. (found, mid, is, k)) h
+    let same : shown_attempt s ≡ b = λ i. record (shown_attempt s) { stage = shown_stage (comes i) } in
+    steps_at at b part left (AfterComing at b part left (Through at b left) found) s.past old mid mid result new e (λ answer later after k. (found, mid, is, k))
+    (subst (λ (a : PlainAttempt). StepsByFound at a part left found mid result new) same h)
 
--- a relevant component starts
-pub come_starts : (at : When) (s a : AttemptState) (part : Part) (left : List Part) (machine : MachineView) → a ≡ s → s.left ≡ part ∷ left →
-    StepsBy at (AfterComing at (with_stage coming (shown_attempt s)) part left (Through at (with_stage coming (shown_attempt s)) left) Yes) s.past machine None machine (shown_attempt (record a { stage = stage.Starting }))
-come_starts at s a part left machine is e answer later after k =
-    let b = with_stage coming (shown_attempt s) in
-    let there : GoesOn at (held_at b (part ∷ left) starting s.past) machine answer later after =
-    subst (λ (x : PlainAttempt). GoesOn at x machine answer later after) (held_so coming s a part left stage.Starting starting is e refl) k in
-    starting_alike at b (part ∷ left) starting s.past part left _ _ (through_alike at b (part ∷ left) starting s.past left) s.past machine answer later after there
+module _ (at : When) (part : Part) (left : List Part) (found : Found) (machine : MachineView) where
+  -- what was found
+  found_so : (a : PlainAttempt) (is : Found) (result : Option Went) (new : PlainAttempt) → found ≡ is → StepsByFound at a part left is machine result new → StepsByFound at a part left found machine result new
+  found_so a is result new e h = subst (λ (f : Found). StepsByFound at a part left f machine result new) (sym e) h
 
--- one that isn't relevant is passed over
-pub come_passes : (at : When) (s new : AttemptState) (part : Part) (left : List Part) (machine : MachineView) (result : Option Went) → result ≡ None → new ≡ record s { left = left; stage = stage.Coming } →
-    StepsBy at (AfterComing at (with_stage coming (shown_attempt s)) part left (Through at (with_stage coming (shown_attempt s)) left) No) s.past machine result machine (shown_attempt new)
-come_passes at s new part left machine result none is =
-    next_steps at (with_stage coming (shown_attempt s)) left s.past machine result (shown_attempt new) none (ap shown_attempt is)
+  -- a relevant component starts
+  pub come_starts : (s a : AttemptState) → found ≡ Yes → a ≡ s → s.left ≡ part ∷ left → StepsByFound at (shown_attempt s) part left found machine None (shown_attempt (record a { stage = stage.Starting }))
+  come_starts s a relevant is e =
+      let b = shown_attempt s in
+      let new = shown_attempt (record a { stage = stage.Starting }) in
+      found_so b Yes None new relevant
+      (λ answer later after k.
+      let there : GoesOn at (held_at b (part ∷ left) starting s.past) machine answer later after =
+      subst (λ (x : PlainAttempt). GoesOn at x machine answer later after) (held_so (shown_stage s.stage) s a part left stage.Starting starting is e refl) k in
+      starting_alike at b (part ∷ left) starting s.past part left _ _ (through_alike at b (part ∷ left) starting s.past left) s.past machine answer later after there)
+
+  -- one that isn't relevant is passed over
+  pub come_passes : (s new : AttemptState) (result : Option Went) → found ≡ No → result ≡ None → new ≡ record s { left = left; stage = stage.Coming } → StepsByFound at (shown_attempt s) part left found machine result (shown_attempt new)
+  come_passes s new result isnt none is = found_so (shown_attempt s) No result (shown_attempt new) isnt (next_steps at (shown_attempt s) left s.past machine result (shown_attempt new) none (ap shown_attempt is))
+
+  -- without memory it is asked again
+  pub come_stays : (s : AttemptState) → found ≡ Memory → s.stage ≡ stage.Coming → s.left ≡ part ∷ left → StepsByFound at (shown_attempt s) part left found machine (Some went.Memory) (shown_attempt s)
+  come_stays s memory comes e = found_so (shown_attempt s) Memory (Some went.Memory) (shown_attempt s) memory (refl, refl, (λ i. Some (record (shown_attempt s) { left = e i; stage = shown_stage (comes i) })))
 
 -- ---- starting
 -- the script begins, and stands before its first line, where no file is wanted

@@ -10,12 +10,13 @@ use Rattle.script_run.specs.Walks.{Walk}
 use Rattle.script_run.specs.Asking.{When}
 use Rattle.bf_machine.specs.Views.{MachineView}
 use Rattle.script_run.specs.RunPlaces.{Stands}
+use Rattle.agent_attempt.specs.declared.found.Found.{Found}
 use Rattle.agent_attempt.specs.declared.attempt.Part.{Part}
 use Rattle.agent_attempt.specs.declared.attempt.Stage.{Stage}
 use Rattle.agent_attempt.specs.declared.attempt.Stage.TheVariants as stage
 use Rattle.agent_attempt.specs.declared.went.Went.{Went}
 use Rattle.agent_attempt.specs.Attempts.{PlainAttempt, PlainStage, Past, StageWaitsBelow, coming, starting, running, judging}
-use Rattle.agent_attempt.specs.Going.{Going, AfterRun, Fails, FromLeft, GoesOn, HasNote, SameAttempt, Through, held_after}
+use Rattle.agent_attempt.specs.Going.{Going, AfterComing, AfterRun, Fails, FromLeft, GoesOn, HasNote, SameAttempt, Through, held_after}
 
 -- One step of what goes on so, from what the attempt has come to: it stops with an answer; or however the attempt goes on from there,
 -- this goes on so.
@@ -25,7 +26,11 @@ StepsBy at going past before None now new =
     (answer : Went) (later : MachineView) (after : Option PlainAttempt)
     → GoesOn at new now answer later after → going past before answer later after
 
--- One step of a component that fails so, or whose script went on, came to this and is this walk now.
+-- One step of a component that was found so relevant, that fails so, or whose script went on, came to this and is this walk now.
+abbrev pub StepsByFound : When → PlainAttempt → Part → List Part → Found → MachineView → Option Went → PlainAttempt → Type 0
+StepsByFound at a part left found machine answer new =
+    StepsBy at (AfterComing at a part left (Through at a left) found) a.past machine answer machine new
+
 abbrev pub StepsByFailing : When → PlainAttempt → Part → List Part → ℕ → Cause → Option ℤ → MachineView → Option Went → PlainAttempt
     → Type 0
 StepsByFailing at a part left line cause exit machine answer new =

@@ -5,12 +5,12 @@ ghost use Rattle.script_run.specs.Asking.{When};
 ghost use Rattle.script_run.specs.RunPlaces.{WaitsBelow, from, wanted_at};
 ghost use Rattle.script_run.specs.Advances.{wanted_by};
 ghost use Rattle.agent_attempt.specs.declared.attempt.Part.{Part};
-ghost use Rattle.agent_attempt.specs.Attempts.{PlainStage, coming, issue_date, judging, running, starting};
+ghost use Rattle.agent_attempt.specs.Attempts.{PlainStage, StageWaitsBelow, coming, issue_date, judging, running, starting};
 ghost use Rattle.agent_attempt.specs.Going.{exit_at};
 ghost use Rattle.agent_attempt.specs.ReadTexts.{IsScriptOf};
 ghost use Rattle.agent_attempt.specs.Relevance.{FixletIs, Succeeds};
-ghost use Rattle.agent_attempt.specs.Stages.{FirstHasScript, IsRun, shown_attempt};
-ghost use Rattle.agent_attempt.specs.AttemptSteps.{Leaves, MakesStep, OpensRun, StepsByRan, first_component, stage_behind, with_stage};
+ghost use Rattle.agent_attempt.specs.Stages.{FirstHasScript, IsRun, shown_attempt, shown_stage};
+ghost use Rattle.agent_attempt.specs.AttemptSteps.{Leaves, MakesStep, OpensRun, StepsByFound, StepsByRan, first_component, stage_behind, with_stage};
 
 use crate::attempt::{Attempt, Stage};
 use crate::found::Found;
@@ -26,7 +26,7 @@ use std::alloc::{AllocError, Global};
 use std::mem::drop;
 
 impl Attempt {
-    /// The component at hand is asked whether it is relevant. One that isn't is passed over.
+    /// The component at hand is asked whether it is relevant.
     pub(crate) fn come<M: Machine>(
         &mut self,
         alloc: Global,
@@ -39,7 +39,21 @@ impl Attempt {
             (M.told machine.old) result
             (M.told machine.new) (shown_attempt self.new) }
     {
-        match self.is_relevant(alloc, machine, time) {
+        let found = self.is_relevant(alloc, machine, time);
+        self.after_coming(found)
+    }
+
+    /// What comes of an attempt by whether the component at hand is relevant. One that isn't is passed over.
+    fn after_coming(&mut self, found: Found) -> Option<Went>
+        requires stage { self.old.stage ≡ Stage.Coming }
+        requires some { 0 < length self.old.left }
+        requires script { found ≡ Found.Yes → FirstHasScript self.old.left }
+        ensures steps { (at : When) (machine : MachineView) (part : Part) (left : List Part) → self.old.left ≡ part ∷ left
+            → StepsByFound at (shown_attempt self.old) part left found machine result (shown_attempt self.new) }
+        ensures waits { (started : ℕ) → StageWaitsBelow started (shown_stage self.new.stage) }
+        ensures leaves { Leaves (shown_attempt self.old) (4 * length self.old.left + 3) result (shown_attempt self.new) }
+    {
+        match found {
             Found::Yes => {
                 self.stage = Stage::Starting;
                 None
