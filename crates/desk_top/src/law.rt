@@ -1,8 +1,18 @@
-// What holds of every run of a command, and of every schedule of the delivery of reports.
-ghost use Rattle.std.specs.Prelude.{◌≡◌, ℕ, List};
+// What holds of every run of a command, of every schedule of the delivery of reports, and of every office that is played.
+ghost use Rattle.std.specs.Prelude.{◌≡◌, All, ℕ, ℤ, List};
+ghost use Rattle.desk_base.specs.Flow.{IsFront};
+ghost use Rattle.bf_machine.specs.Steps.{SameButPolls};
 ghost use Rattle.rel_session.specs.Devices.{Devices};
-ghost use Rattle.delivery.specs.Holdings.{IsDelivered};
+ghost use Rattle.fix_site.specs.declared.site.Site.{Site};
+ghost use Rattle.server_text.specs.Entries.{Entry};
+ghost use Rattle.office_text.specs.declared.order.Order.{Order};
+ghost use Rattle.delivery.specs.Holdings.{IsDelivered, TellsNoConflict};
 ghost use Rattle.delivery.specs.Schedules.{Deployment, IsSchedule, Step, reached, start};
+ghost use Rattle.office_rules.specs.ComputerWords.{TurnsComputer};
+ghost use Rattle.office_rules.specs.Offices.{Office, PlayedComputer};
+ghost use Rattle.office_rules.specs.OfficeSchedules.{ReachesOffice};
+ghost use Rattle.office_rules.specs.Plays.{IsFrontOfPlay, IsPlayed};
+ghost use Rattle.office_rules.specs.PrintedAnswers.{AreAlike, PrintsAnswers};
 ghost use Rattle.desk_top.specs.declared.command.DeskCommand.{DeskCommand};
 ghost use Rattle.desk_top.specs.declared.command.DeskCommand.TheVariants.{Qna};
 ghost use Rattle.desk_top.specs.Said.{Did, IsGoodInput, Refuses};
@@ -36,4 +46,41 @@ pub fn what_is_dropped_is_held()
         → IsDelivered (reached given.limits (start given) steps) }
 {
     delivery::what_is_dropped_is_held();
+}
+
+/// Orders print one text and leave one office.
+pub fn one_play()
+    ensures { (orders : List Order) (written other : List ℕ) (one two : Office) → IsPlayed orders written one
+        → IsPlayed orders other two → (written ≡ other) × (one ≡ two) }
+{
+    office_rules::one_play();
+}
+
+/// What is written of orders that are played is a front of their play, and every front of it begins that.
+pub fn fronts_begin_the_play()
+    ensures whole { (orders : List Order) (written : List ℕ) (o : Office) → IsPlayed orders written o → IsFrontOfPlay orders written }
+    ensures fronts { (orders : List Order) (written front : List ℕ) (o : Office) → IsPlayed orders written o
+        → IsFrontOfPlay orders front → IsFront written front }
+{
+    office_rules::fronts_begin_the_play();
+}
+
+/// Both worlds of each computer of an office stay the same but for polls left. So what is printed of a turn's commands is what its machine
+/// answered.
+pub fn commands_are_printed_as_answered()
+    ensures worlds { (orders : List Order) (written : List ℕ) (o : Office) → IsPlayed orders written o → AreAlike o.computers }
+    ensures lines { (name : List ℕ) (moment : ℤ) (accepted : List Entry) (sites : List Site) (old : PlayedComputer) (said : List ℕ)
+        (new : PlayedComputer) → SameButPolls old.world old.again → TurnsComputer name moment accepted sites old said new
+        → PrintsAnswers name moment old said new }
+{
+    office_rules::commands_are_printed_as_answered();
+}
+
+/// An office that is played is a schedule of the delivery of reports, made of the steps of each order. So no message that was ever sent,
+/// and no line of one that arrived, tells of a conflict.
+pub fn played_offices_are_schedules()
+    ensures schedule { (orders : List Order) (written : List ℕ) (o : Office) → IsPlayed orders written o → ReachesOffice orders o }
+    ensures agreed { (orders : List Order) (written : List ℕ) (o : Office) → IsPlayed orders written o → All TellsNoConflict o.messages }
+{
+    office_rules::played_offices_are_schedules();
 }
