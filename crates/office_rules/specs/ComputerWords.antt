@@ -108,7 +108,7 @@ abbrev pub Turns : List ℕ → ℤ → Deed
 Turns name moment old said new = AtComputer name (TurnsAt name moment old) old said new
 
 -- ---- restart
--- An agent is opened again from its pocket, and has what was saved there, no site, and no attempt that is held.
+-- An agent is opened again from its pocket, which doesn't fail, and has what was saved there, no site, and no attempt that is held.
 abbrev pub RestartsAt : List ℕ → PlayedComputer → List ℕ → PlayedComputer → Type 0
 RestartsAt name old said new =
     (agent : AgentState) × OpensAgent name (Some old.saved) (opened.Agent agent) × (said ≡ words_line (codes "restart" ∷ name ∷ []))

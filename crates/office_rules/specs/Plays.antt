@@ -35,7 +35,8 @@ pub record PlaysOrder (order : Order) (old : Office) (said : List ℕ) (new : Of
   pub obeys : Obeys order old said new
   pub sound : IsSoundOffice new
 
--- The orders are played one after another from the beginning, to what is printed of them and an office.
+-- The orders are played one after another from the beginning, to what is printed of them and an office. They may be any: those of an
+-- office text name each relay and each computer once, and before it is used.
 abbrev pub PlaysAll : List Order → List ℕ → Office → Type 0
 PlaysAll orders said new = DoesEach PlaysOrder orders empty_office said new
 

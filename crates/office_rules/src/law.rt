@@ -57,8 +57,8 @@ pub fn commands_are_printed_as_answered()
 }
 
 /// What is played is a schedule of the delivery of reports, under the desk's limits and the relays and computers that the orders name: it
-/// is made of the steps of each order, and reaches what of the office matters for the delivery. So no message that was ever sent, and no
-/// line of one that arrived, tells of a conflict.
+/// is made of the steps of each order, and reaches what of the office matters for the delivery. So no message that was ever sent tells of
+/// a conflict. The word of a `deliver` line is that of a message.
 pub fn played_offices_are_schedules()
     ensures schedule { (orders : List Order) (written : List ℕ) (o : Office) → IsPlayed orders written o → ReachesOffice orders o }
     ensures agreed { (orders : List Order) (written : List ℕ) (o : Office) → IsPlayed orders written o → All TellsNoConflict o.messages }
