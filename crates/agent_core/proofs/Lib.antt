@@ -30,6 +30,7 @@ pub mod Marks
 pub mod Keeping
 pub mod Due
 pub mod Searching
+pub mod Unmarked
 pub mod Starting
 pub mod LastRows
 pub mod Reporting

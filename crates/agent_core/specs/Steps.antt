@@ -1,5 +1,7 @@
 -- What the private functions of a turn do. Only the code's contracts cite these definitions.
-use Rattle.std.specs.Prelude.{◌≡◌, ◌⊎◌, ℕ, ◌+◌, ◌^◌, ◌<◌, ◌≤◌, min, List, [], ◌∷◌, length, map, vec_capacity, IfSome, Bool, true, false, Option, Some, None, Result, Ok, Err}
+use Rattle.std.specs.Prelude.{◌≡◌, ◌⊎◌, ℕ, ◌+◌, ◌^◌, ◌<◌, ◌≤◌, min, List, [], ◌∷◌, length, map, vec_capacity, is_some, IfSome, Bool, true, false, Option, Some, None, Result, Ok, Err}
+use Rattle.std.specs.List.{list_any}
+use Rattle.std.specs.Option.{unwrap_or}
 use Rattle.act_rules.specs.declared.row.Row.{Row}
 use Rattle.line_forms.specs.Numbers.{IsId}
 use Rattle.act_rules.specs.Rows.{HasEnded, last_row}
@@ -58,6 +60,10 @@ stop_of Failed = MachineFault
 stop_of _ = Memory
 
 -- ---- marks
+-- whether the last row of an action has ended and isn't cleared
+abbrev pub may_mark : List PlainHistory → Bool
+may_mark hs = list_any (λ h. may_clear (last_row h.rows)) hs
+
 -- whether an action is marked by what was found of its content
 abbrev pub mark_by : Found → Result Bool Turned
 mark_by Yes = Ok false
@@ -109,6 +115,14 @@ pub record MakesMarks (at : When) (s : State) (actions : List Action) (hs : List
   pub marks : MarksEach at s actions (record { histories = hs; any = false }) old answer now new
   pub marked : AreMarked hs now
   pub good : AreHistories now
+
+-- The marks of these actions are made in a copy of the histories, if there are any; or the turn stops, also where memory runs out before.
+abbrev pub CopiesMarks : When → State → List Action → MachineView → Result (Option (List PlainHistory)) Turned → MachineView → Type 0
+CopiesMarks at s actions old (Ok marked) new =
+    MakesMarks at s actions s.histories old (Ok (is_some marked)) (unwrap_or marked s.histories) new
+CopiesMarks at s actions old (Err stop) new =
+    ((stop ≡ Memory) × (new ≡ old))
+    ⊎ ((hs : List PlainHistory) × MakesMarks at s actions s.histories old (Err stop) hs new)
 
 -- no attempt is held, and these are the histories but for marks
 pub record AreMarksOf (a : KeptState) (hs : List PlainHistory) : Type 0 where

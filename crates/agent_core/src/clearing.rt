@@ -1,13 +1,14 @@
 // Clearing marks.
 ghost use Rattle.std.specs.Prelude.{◌≡◌, ◌∷◌, []};
 ghost use Rattle.std.specs.List.{filter_map};
+ghost use Rattle.std.specs.Option.{unwrap_or};
 ghost use Rattle.act_rules.specs.Rows.{last_row};
 ghost use Rattle.agent_text.specs.Histories.{AreHistories, rows_at};
 ghost use Rattle.agent_attempt.specs.ReadBlocks.{shown_block};
 ghost use Rattle.agent_attempt.specs.ActionContents.{actions_of, as_action};
 ghost use Rattle.agent_core.specs.Inside.{IsSoundKept, state_of};
 ghost use Rattle.agent_state.specs.Lookups.{rows_if};
-ghost use Rattle.agent_core.specs.Steps.{MakesMarks, TestsMark};
+ghost use Rattle.agent_core.specs.Steps.{CopiesMarks, MakesMarks, TestsMark, may_mark};
 ghost use Rattle.agent_core.specs.Turns.{may_clear};
 
 use crate::kept_state::KeptState;
@@ -20,8 +21,40 @@ use bf_machine::Machine;
 use std::alloc::Global;
 
 impl KeptState {
+    /// The histories in which what isn't relevant any more is marked as cleared. None where nothing is marked.
+    pub(crate) fn marks<M: Machine>(
+        &self,
+        alloc: Global,
+        machine: &mut M,
+        time: &Time,
+    ) -> Result<Option<Histories>, Turned>
+        requires { IsSoundKept self.now }
+        ensures { CopiesMarks time.now (state_of self.now) (actions_of self.now.sites) (M.told machine.old) result (M.told machine.new) }
+    {
+        if !self.may_mark() {
+            return Ok(None);
+        }
+        let Ok(mut marked) = self.histories.copy() else {
+            return Err(Turned::Memory);
+        };
+        if self.clear(alloc, machine, time, &mut marked)? {
+            return Ok(Some(marked));
+        }
+        Ok(None)
+    }
+
+    /// Whether the last row of an action has ended and isn't cleared, so that it may have to be marked.
+    fn may_mark(&self) -> bool
+        ensures { result ≡ may_mark self.now.histories }
+    {
+        self.histories
+            .as_slice()
+            .iter()
+            .any(|history| may_clear(Some(&history.rows)))
+    }
+
     /// Marks the last row of each action that has ended, isn't cleared and isn't relevant. Answers whether there is any.
-    pub(crate) fn clear<M: Machine>(
+    fn clear<M: Machine>(
         &self,
         alloc: Global,
         machine: &mut M,
@@ -89,6 +122,16 @@ impl KeptState {
             Found::Failed => Err(Turned::MachineFault),
             Found::Memory => Err(Turned::Memory),
         }
+    }
+}
+
+/// The histories with their marks, or these where nothing is marked.
+pub(crate) fn with_marks<'a>(marked: &'a Option<Histories>, own: &'a Histories) -> &'a Histories
+    ensures { result.now ≡ unwrap_or marked.now own.now }
+{
+    match marked {
+        Some(marked) => marked,
+        None => own,
     }
 }
 

@@ -1,6 +1,7 @@
 // Trying the actions: the first that is due.
-ghost use Rattle.std.specs.Prelude.{◌≡◌, ◌∷◌, [], None, false};
+ghost use Rattle.std.specs.Prelude.{◌≡◌, ◌∷◌, [], None, is_some};
 ghost use Rattle.std.specs.List.{filter_map};
+ghost use Rattle.std.specs.Option.{unwrap_or};
 ghost use Rattle.act_rules.specs.Tallies.{StandsFor};
 ghost use Rattle.bf_machine.specs.Views.{MachineView};
 ghost use Rattle.agent_text.specs.Histories.{rows_at};
@@ -13,6 +14,7 @@ ghost use Rattle.agent_core.specs.Devices.{devices};
 ghost use Rattle.agent_core.specs.Steps.{AreMarked, AreMarksOf, FindsDue, TriesOne};
 ghost use Rattle.agent_core.specs.Turns.{Finishes, Tries};
 
+use crate::clearing::with_marks;
 use crate::kept_state::KeptState;
 use crate::turned::Turned;
 use act_rules::Tally;
@@ -39,16 +41,14 @@ impl KeptState {
             (devices (M.told machine.new) (P.told pocket.new)) }
         ensures sound { AreSoundOn (M.told machine.new).started self.new }
     {
-        let Ok(mut marked) = self.histories.copy() else {
-            return Turned::Memory;
-        };
-        let any = match self.clear(alloc, machine, time, &mut marked) {
-            Ok(any) => any,
+        let marked = match self.marks(alloc, machine, time) {
+            Ok(marked) => marked,
             Err(stop) => return stop,
         };
-        match self.find_due(alloc, machine, time, &marked) {
+        let histories = with_marks(&marked, &self.histories);
+        match self.find_due(alloc, machine, time, histories) {
             Ok(Some(attempt)) => self.begin(alloc, machine, pocket, marked, attempt, time),
-            Ok(None) => self.idle(alloc, pocket, marked, any),
+            Ok(None) => self.idle(alloc, pocket, marked),
             Err(stop) => stop,
         }
     }
@@ -146,24 +146,34 @@ impl KeptState {
         &mut self,
         alloc: Global,
         pocket: &mut P,
-        marked: Histories,
-        any: bool,
+        marked: Option<Histories>,
     ) -> Turned
-        requires marks { AreMarksOf self.old marked }
-        requires same { any ≡ false → marked ≡ self.old.histories }
+        requires { AreMarksOf self.old (unwrap_or marked self.old.histories) }
         ensures finishes { (machine : MachineView) → OrMemory (state_of self.old) (devices machine (P.told pocket.old))
-            (Finishes any Turned.Idle (with_histories marked (state_of self.old)) (devices machine (P.told pocket.old)))
+            (Finishes (is_some marked) Turned.Idle (with_histories (unwrap_or marked self.old.histories) (state_of self.old))
+            (devices machine (P.told pocket.old)))
             result (state_of self.new) (devices machine (P.told pocket.new)) }
         ensures held { (state_of self.new).held ≡ (state_of self.old).held }
         ensures sound { IsSoundKept self.new }
     {
+        let any = marked.is_some();
         if !any && !self.can_report() {
             return Turned::Idle;
         }
         let Ok(spare) = self.take_spare(alloc) else {
             return Turned::Memory;
         };
-        self.histories = marked;
+        self.keep_marks(marked);
         self.finish(pocket, spare, any, Turned::Idle)
+    }
+
+    /// The histories are these with their marks, if anything is marked.
+    fn keep_marks(&mut self, marked: Option<Histories>)
+        ensures { self.new ≡ record self.old { histories = unwrap_or marked self.old.histories } }
+    {
+        let Some(marked) = marked else {
+            return;
+        };
+        self.histories = marked;
     }
 }
