@@ -1,0 +1,3 @@
+pub mod HostCalls
+pub mod ServerCalls
+pub mod RelayCalls
