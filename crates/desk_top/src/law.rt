@@ -6,11 +6,11 @@ ghost use Rattle.rel_session.specs.Devices.{Devices};
 ghost use Rattle.fix_site.specs.declared.site.Site.{Site};
 ghost use Rattle.server_text.specs.Entries.{Entry};
 ghost use Rattle.office_text.specs.declared.order.Order.{Order};
-ghost use Rattle.delivery.specs.Holdings.{IsDelivered, TellsNoConflict};
+ghost use Rattle.delivery.specs.Holdings.{IsDelivered};
 ghost use Rattle.delivery.specs.Schedules.{Deployment, IsSchedule, Step, reached, start};
 ghost use Rattle.office_rules.specs.ComputerWords.{TurnsComputer};
 ghost use Rattle.office_rules.specs.Offices.{Office, PlayedComputer};
-ghost use Rattle.office_rules.specs.OfficeSchedules.{ReachesOffice};
+ghost use Rattle.office_rules.specs.OfficeSchedules.{ReachesOffice, SaysNoConflict};
 ghost use Rattle.office_rules.specs.Plays.{IsFrontOfPlay, IsPlayed};
 ghost use Rattle.office_rules.specs.PrintedAnswers.{AreAlike, PrintsAnswers};
 ghost use Rattle.desk_top.specs.declared.command.DeskCommand.{DeskCommand};
@@ -77,10 +77,10 @@ pub fn commands_are_printed_as_answered()
 }
 
 /// An office that is played is a schedule of the delivery of reports, made of the steps of each order. So no message that was ever sent
-/// tells of a conflict. The word of a `deliver` line is that of a message.
+/// brings back the word `conflict`, and a line of a report that arrived has the word of its answer.
 pub fn played_offices_are_schedules()
     ensures schedule { (orders : List Order) (written : List ℕ) (o : Office) → IsPlayed orders written o → ReachesOffice orders o }
-    ensures agreed { (orders : List Order) (written : List ℕ) (o : Office) → IsPlayed orders written o → All TellsNoConflict o.messages }
+    ensures words { (orders : List Order) (written : List ℕ) (o : Office) → IsPlayed orders written o → All SaysNoConflict o.messages }
 {
     office_rules::played_offices_are_schedules();
 }

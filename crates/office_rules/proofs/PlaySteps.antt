@@ -1,19 +1,24 @@
 -- What is played is a schedule of the delivery of reports.
-use Rattle.std.proofs.Common.{ℕ, ◌+◌, List, [], ◌∷◌, ◌++◌, refl, sym, subst, ◌∙◌, append-nil}
+use Rattle.std.proofs.Common.{◌≡◌, ◌≢◌, ℕ, List, [], ◌∷◌, ◌++◌, Some, refl, sym, subst, ◌∙◌, append-nil}
 use Rattle.std.specs.Prelude.{codes, filter_map, map}
 use Rattle.std.proofs.lemmas.List.Elements.{All-nil}
-use Rattle.report_text.specs.declared.report.Report.{Report}
+use Rattle.report_text.specs.declared.answer.Verdict.{Verdict}
+use Rattle.report_text.specs.declared.answer.Verdict.TheVariants as verdicts
 use Rattle.relay_core.specs.KeptSites.{AreKept}
 use Rattle.relay_core.specs.Relays.{RelayState}
+use Rattle.server_text.specs.declared.reply.Reply.{Reply}
+use Rattle.server_text.specs.declared.reply.Reply.TheVariants as replies
 use Rattle.server_text.specs.declared.request.Request.TheVariants as request
 use Rattle.server_core.specs.DeskLimits.{desk_limits}
 use Rattle.office_text.specs.declared.order.Order.{Order}
 use Rattle.office_text.specs.declared.order.Order.TheVariants as order
-use Rattle.delivery.specs.Messages.{Carrier}
-use Rattle.delivery.specs.Schedules.{Computer, Deliver, Forget, Network, Push, Restart, Send, Step, new_computer, new_relay, reached, start}
+use Rattle.delivery.specs.Holdings.{TellsNoConflict}
+use Rattle.delivery.specs.Messages.{Carrier, Message, ReportToRelay, ReportToServer, VerdictToComputer, ReplyToRelay}
+use Rattle.delivery.specs.Schedules.{Computer, Network, Step, new_computer, new_relay, reached, start}
+use Rattle.turn_lines.specs.VerdictWords.{reply_word, verdict_word}
 use Rattle.office_rules.specs.Deeds.{DoesEach}
 use Rattle.office_rules.specs.Offices.{IsSoundComputer, IsSoundOffice, Office, PlayedComputer, carriers_of, empty_office}
-use Rattle.office_rules.specs.OfficeSchedules.{AreComputersOf, IsNetworkOf, ReachesOffice, deployment_of, named_computer, named_relay}
+use Rattle.office_rules.specs.OfficeSchedules.{AreComputersOf, IsNetworkOf, ReachesOffice, SaysNoConflict, deployment_of, named_computer, named_relay}
 use Rattle.office_rules.specs.Plays.{IsPlayed, PlaysOrder}
 use Rattle.office_rules.specs.WordSteps.{AreOfEach, AreStepsOf}
 use Rattle.office_rules.proofs.Networks.{Ends, FollowsOffice, IsKnown, computers_like, no_steps, reached_both, schedule_both}
@@ -88,3 +93,34 @@ module _ (law : TurnsAreSteps) (reopens : Reopens) where
         known = All-nil (IsKnown []);
       }) p.plays in
       record { steps = all.0; are = all.1; schedule = all.2.schedule; network = network_of _ o all.2.follows }
+
+-- ---- words
+verdict_says : (verdict : Verdict) → ((kept : List ℕ) → verdict ≢ verdicts.Conflict kept) → Some (verdict_word verdict) ≢ Some (codes "conflict")
+verdict_says verdicts.Stored none = λ e. absurd (cc)
+verdict_says verdicts.Carried none = λ e. absurd (cc)
+verdict_says (verdicts.Conflict digest) none = λ e. none digest refl
+verdict_says (verdicts.Full limit) none = λ e. absurd (cc)
+
+reply_says : (answered : Reply) → ((kept : List ℕ) → answered ≢ replies.Conflict kept) → reply_word answered ≢ Some (codes "conflict")
+reply_says replies.Ok none = λ e. absurd (cc)
+reply_says replies.Again none = λ e. absurd (cc)
+reply_says (replies.Conflict digest) none = λ e. none digest refl
+reply_says (replies.Full limit) none = λ e. absurd (cc)
+reply_says (replies.Digest digest) none = λ e. absurd (cc)
+reply_says (replies.Sites sites) none = λ e. absurd (cc)
+reply_says (replies.Site text) none = λ e. absurd (cc)
+reply_says replies.Same none = λ e. absurd (cc)
+reply_says (replies.Content bytes) none = λ e. absurd (cc)
+reply_says (replies.Rows rows) none = λ e. absurd (cc)
+reply_says (replies.BadText line) none = λ e. absurd (cc)
+reply_says replies.NoSuch none = λ e. absurd (cc)
+reply_says (replies.Older version) none = λ e. absurd (cc)
+reply_says replies.KeeperFault none = λ e. absurd (cc)
+reply_says replies.Memory none = λ e. absurd (cc)
+
+-- a message that tells of no conflict has no such word
+pub says_no_conflict : (message : Message) → TellsNoConflict message → SaysNoConflict message
+says_no_conflict (ReportToRelay relay report) tells = λ e. absurd (cc)
+says_no_conflict (ReportToServer relay report) tells = λ e. absurd (cc)
+says_no_conflict (VerdictToComputer computer seq verdict) tells = verdict_says verdict tells
+says_no_conflict (ReplyToRelay relay key digest answered) tells = reply_says answered tells

@@ -1,12 +1,14 @@
 -- Played offices as schedules of the delivery of reports.
-use Rattle.std.specs.Prelude.{◌≡◌, ℕ, List, [], ◌∷◌, filter_map, Some, None, ⊤}
+use Rattle.std.specs.Prelude.{◌≡◌, ◌≢◌, ℕ, List, [], ◌∷◌, filter_map, codes, Some, None, ⊤}
 use Rattle.std.specs.declared.option.Option.{Option}
 use Rattle.agent_core.specs.Schedules.{IsMailOf}
 use Rattle.relay_core.specs.Relays.{desk_queue}
 use Rattle.server_core.specs.DeskLimits.{desk_limits}
 use Rattle.office_text.specs.declared.order.Order.{Order}
 use Rattle.office_text.specs.declared.order.Order.TheVariants as order
+use Rattle.delivery.specs.Messages.{Message}
 use Rattle.delivery.specs.Schedules.{Computer, Deployment, IsSchedule, Network, Step, reached, start}
+use Rattle.office_rules.specs.MessageWords.{answer_word}
 use Rattle.office_rules.specs.Offices.{Office, PlayedComputer, carriers_of, empty_office}
 use Rattle.office_rules.specs.Plays.{PlaysOrder}
 use Rattle.office_rules.specs.WordSteps.{AreOfEach, AreStepsOf}
@@ -54,3 +56,7 @@ pub record ReachesOffice (orders : List Order) (o : Office) : Type 0 where
   pub are : AreOfEach PlaysOrder AreStepsOf orders empty_office steps
   pub schedule : IsSchedule desk_limits (start (deployment_of orders)) steps
   pub network : IsNetworkOf (reached desk_limits (start (deployment_of orders)) steps) o
+
+-- the word for what the message brings back, if it brings something back, isn't `conflict`
+abbrev pub SaysNoConflict : Message → Type 0
+SaysNoConflict message = answer_word message ≢ Some (codes "conflict")

@@ -4,11 +4,10 @@ ghost use Rattle.desk_base.specs.Flow.{IsFront};
 ghost use Rattle.bf_machine.specs.Steps.{SameButPolls};
 ghost use Rattle.fix_site.specs.declared.site.Site.{Site};
 ghost use Rattle.server_text.specs.Entries.{Entry};
-ghost use Rattle.delivery.specs.Holdings.{TellsNoConflict};
 ghost use Rattle.office_text.specs.declared.order.Order.{Order};
 ghost use Rattle.office_rules.specs.ComputerWords.{TurnsComputer};
 ghost use Rattle.office_rules.specs.Offices.{Office, PlayedComputer};
-ghost use Rattle.office_rules.specs.OfficeSchedules.{ReachesOffice};
+ghost use Rattle.office_rules.specs.OfficeSchedules.{ReachesOffice, SaysNoConflict};
 ghost use Rattle.office_rules.specs.Plays.{IsFrontOfPlay, IsPlayed};
 ghost use Rattle.office_rules.specs.PrintedAnswers.{AreAlike, PrintsAnswers};
 
@@ -57,11 +56,11 @@ pub fn commands_are_printed_as_answered()
 }
 
 /// What is played is a schedule of the delivery of reports, under the desk's limits and the relays and computers that the orders name: it
-/// is made of the steps of each order, and reaches what of the office matters for the delivery. So no message that was ever sent tells of
-/// a conflict. The word of a `deliver` line is that of a message.
+/// is made of the steps of each order, and reaches what of the office matters for the delivery. So no message that was ever sent brings
+/// back the word `conflict`, and a line of a report that arrived has the word of its answer.
 pub fn played_offices_are_schedules()
     ensures schedule { (orders : List Order) (written : List ℕ) (o : Office) → IsPlayed orders written o → ReachesOffice orders o }
-    ensures agreed { (orders : List Order) (written : List ℕ) (o : Office) → IsPlayed orders written o → All TellsNoConflict o.messages }
+    ensures words { (orders : List Order) (written : List ℕ) (o : Office) → IsPlayed orders written o → All SaysNoConflict o.messages }
 {
     turns_are_steps();
     what_is_dropped_is_held();
