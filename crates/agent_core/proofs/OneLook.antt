@@ -53,8 +53,8 @@ some_of (Some x) is = (x, refl)
 some_same : {T : Type 0} (a b : T) → Some a ≡ Some b → a ≡ b
 some_same a b e = cc
 
-pub same_view : (x y : MachineView) → x.world ≡ y.world → x.looked ≡ y.looked → x.acted ≡ y.acted → x.polled ≡ y.polled → x.started ≡ y.started → x.faults ≡ y.faults → x ≡ y
-same_view x y w l a p s f = λ j. record { world = w j; looked = l j; acted = a j; polled = p j; started = s j; faults = f j }
+pub same_view : (x y : MachineView) → x.world ≡ y.world → x.looked ≡ y.looked → x.acted ≡ y.acted → x.polled ≡ y.polled → x.started ≡ y.started → x.faults ≡ y.faults → x.holds ≡ y.holds → x ≡ y
+same_view x y w l a p s f h = λ j. record { world = w j; looked = l j; acted = a j; polled = p j; started = s j; faults = f j; holds = h j }
 
 -- a count that stands didn't rise
 pub no_rise : (faults a b : ℕ) → faults < 2 ^ 64 - 1 → a ≡ faults → b ≡ faults → Rose a b → ⊥
@@ -201,7 +201,7 @@ module _ (plan : OnePlan) (faults : ℕ) (low : faults < 2 ^ 64 - 1) where
 
   looks_same : {old : MachineView} (new other : MachineView) → OnlyLooks old new → OnlyLooks old other → SameTold new.looked other.looked → new.faults ≡ faults → other.faults ≡ faults → Calm faults old → SameView new other
   looks_same new other p q looks e e' calm = (
-    same_view new other (p.world ∙ sym q.world) looks.0 (p.acted ∙ sym q.acted) (p.polled ∙ sym q.polled) (p.started ∙ sym q.started) (e ∙ sym e'),
+    same_view new other (p.world ∙ sym q.world) looks.0 (p.acted ∙ sym q.acted) (p.polled ∙ sym q.polled) (p.started ∙ sym q.started) (e ∙ sym e') (p.holds ∙ sym q.holds),
     record { world = subst IsSome (sym p.world) calm.world; looked = looks.1; acted = subst IsSome (sym p.acted) calm.acted; polled = subst IsSome (sym p.polled) calm.polled; count = e },
   )
 
@@ -267,7 +267,7 @@ module _ (plan : OnePlan) (faults : ℕ) (low : faults < 2 ^ 64 - 1) where
       let started = started_once b old.started new.started other.started sound' (subst (CountsStarted old.started new.started) answer p.started) q.started in
       let acted = grown_once old.acted new.acted other.acted _ _ calm.acted (ap (commands_added command) answer) p.acted q.acted in (
         answer,
-        (same_view new other world (p.looked ∙ sym q.looked) acted.0 (p.polled ∙ sym q.polled) started (e ∙ sym e'), record { world = subst IsSome (sym x.1) refl; looked = subst IsSome (sym p.looked) calm.looked; acted = acted.1; polled = subst IsSome (sym p.polled) calm.polled; count = e }),
+        (same_view new other world (p.looked ∙ sym q.looked) acted.0 (p.polled ∙ sym q.polled) started (e ∙ sym e') (p.holds ∙ sym q.holds), record { world = subst IsSome (sym x.1) refl; looked = subst IsSome (sym p.looked) calm.looked; acted = acted.1; polled = subst IsSome (sym p.polled) calm.polled; count = e }),
       )
 
   polled_as : (w v : WorldState) (process : ℕ) (a : Polled) → PollAnswers w v process a → a ≢ of_poll.Failed → poll_of w process ≡ Some (record { answer = a; after = v })
@@ -290,5 +290,5 @@ module _ (plan : OnePlan) (faults : ℕ) (low : faults < 2 ^ 64 - 1) where
       let world : new.world ≡ other.world = x.1 ∙ ap (λ (o : PollOutcome). Some o.after) same ∙ sym y.1 in
       let polled = grown_once old.polled new.polled other.polled _ _ calm.polled (ap (numbers_added process) answer) p.polled q.polled in (
         answer,
-        (same_view new other world (p.looked ∙ sym q.looked) (p.acted ∙ sym q.acted) polled.0 (p.started ∙ sym q.started) (e ∙ sym e'), record { world = subst IsSome (sym x.1) refl; looked = subst IsSome (sym p.looked) calm.looked; acted = subst IsSome (sym p.acted) calm.acted; polled = polled.1; count = e }),
+        (same_view new other world (p.looked ∙ sym q.looked) (p.acted ∙ sym q.acted) polled.0 (p.started ∙ sym q.started) (e ∙ sym e') (p.holds ∙ sym q.holds), record { world = subst IsSome (sym x.1) refl; looked = subst IsSome (sym p.looked) calm.looked; acted = subst IsSome (sym p.acted) calm.acted; polled = polled.1; count = e }),
       )

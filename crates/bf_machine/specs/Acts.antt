@@ -38,3 +38,4 @@ pub record ActsOn (moment : ℤ) (command : Command) (old : MachineView) (answer
   pub started : CountsStarted old.started new.started answer
   pub by_start : StartsByStart command old.started new.started
   pub counts : CountsFaults (answer ≡ of_act.Failed) old.faults new.faults
+  pub holds : new.holds ≡ old.holds

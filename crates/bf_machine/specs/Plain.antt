@@ -48,6 +48,7 @@ plain_view m = record {
   polled = Some m.polled;
   started = length m.world.started;
   faults = faults_of m;
+  holds = [];
 }
 
 -- A look fails exactly where it is listed.

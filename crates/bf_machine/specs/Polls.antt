@@ -26,3 +26,4 @@ pub record PollsOn (number : ℕ) (old : MachineView) (answer : Polled) (new : M
   pub polled : Grows old.polled new.polled (numbers_added number answer)
   pub started : new.started ≡ old.started
   pub counts : CountsFaults (answer ≡ Failed) old.faults new.faults
+  pub holds : new.holds ≡ old.holds

@@ -26,6 +26,7 @@ sure_view m = record {
   polled = Some m.polled;
   started = length m.world.started;
   faults = 0;
+  holds = [];
 }
 
 -- A world that is told has as many programs started as this one, which it is.

@@ -6,7 +6,7 @@ use Rattle.bf_world.specs.declared.command.Command.{Command}
 use Rattle.bf_world.specs.Worlds.{WorldState}
 
 -- its world, the keys of the looks that answered, the commands that were done, started or refused, and the numbers of the programs whose
--- polls answered, where it tells them; how many programs it started, and its count of faults
+-- polls answered, where it tells them; how many programs it started, its count of faults, and the references that it holds
 pub record MachineView : Type 0 where
   pub world : Option WorldState
   pub looked : Option (List Key)
@@ -14,6 +14,7 @@ pub record MachineView : Type 0 where
   pub polled : Option (List ℕ)
   pub started : ℕ
   pub faults : ℕ
+  pub holds : List ℕ
 
 -- Nothing changed but the keys looked up and the count of faults.
 pub record OnlyLooks (old new : MachineView) : Type 0 where
@@ -22,6 +23,7 @@ pub record OnlyLooks (old new : MachineView) : Type 0 where
   pub polled : new.polled ≡ old.polled
   pub started : new.started ≡ old.started
   pub later : old.faults ≤ new.faults
+  pub holds : new.holds ≡ old.holds
 
 -- As many programs or more are started, and as many calls or more have failed.
 pub record IsLater (old new : MachineView) : Type 0 where

@@ -1,4 +1,4 @@
-ghost use Rattle.std.specs.Prelude.{◌≡◌, ◌<◌, ◌∷◌, ◌++◌, [], length, IfOk, OnErr};
+ghost use Rattle.std.specs.Prelude.{◌≡◌, ◌<◌, ◌∷◌, ◌++◌, [], length, All, IfOk, OnErr};
 ghost use Rattle.desk_base.specs.Moments.{IsMoment};
 ghost use Rattle.bf_world.specs.Answers.{HasMoment, IsGoodAnswer, HasAscendingNames};
 ghost use Rattle.bf_world.specs.Shown.{shown};
@@ -77,7 +77,8 @@ impl PlainMachine {
 
     /// The commands that were done, started or refused, in their order.
     pub fn acted(&self) -> &[Command]
-        ensures { result.now ≡ self.now.acted }
+        ensures acted { result.now ≡ self.now.acted }
+        ensures moments { All HasMoment result.now }
     {
         self.machine.acted()
     }

@@ -1,4 +1,4 @@
-ghost use Rattle.std.specs.Prelude.{◌≡◌, ◌≢◌, ◌<◌, ◌∷◌, ◌++◌, [], length, IfOk, OnErr};
+ghost use Rattle.std.specs.Prelude.{◌≡◌, ◌≢◌, ◌<◌, ◌∷◌, ◌++◌, [], length, All, IfOk, OnErr};
 ghost use Rattle.desk_base.specs.Moments.{IsMoment};
 ghost use Rattle.bf_world.specs.Answers.{HasMoment, IsGoodAnswer, HasAscendingNames};
 ghost use Rattle.bf_world.specs.Done.{FitsCommand, StartsByStart};
@@ -25,11 +25,15 @@ pub struct SureMachine {
 }
 
 impl Model for SureMachine {
+    ghost use Rattle.std.specs.Prelude.{All};
+    ghost use Rattle.bf_world.specs.Answers.{HasMoment};
     ghost use Rattle.bf_machine.specs.Sure.{SureState};
 
     ghost Value = { SureState };
 
     ghost view = { λ m. record { world = m.world; looked = m.looked; acted = m.acted.items; polled = m.polled } };
+
+    ghost invariant = { λ m. All HasMoment m.acted.items };
 }
 
 impl SureMachine {
@@ -63,7 +67,8 @@ impl SureMachine {
 
     /// The commands that were done, started or refused, in their order.
     pub fn acted(&self) -> &[Command]
-        ensures { result.now ≡ self.now.acted }
+        ensures acted { result.now ≡ self.now.acted }
+        ensures moments { All HasMoment result.now }
     {
         self.acted.as_slice()
     }

@@ -101,7 +101,8 @@ impl World {
 
     /// Minutes east of UTC, from -840 to 840.
     pub fn offset(&self) -> i64
-        ensures { result ≡ self.now.offset }
+        ensures told { result ≡ self.now.offset }
+        ensures in_range { IsOffset result }
     {
         self.offset
     }

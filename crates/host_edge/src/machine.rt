@@ -1,4 +1,4 @@
-ghost use Rattle.std.specs.Prelude.{◌≡◌, ◌≢◌, None, IfOk};
+ghost use Rattle.std.specs.Prelude.{◌≡◌, ◌≢◌, [], None, IfOk};
 ghost use Rattle.desk_base.specs.Counts.{CountsFaults};
 ghost use Rattle.bf_machine.specs.Acts.{CountsStarted};
 ghost use Rattle.bf_world.specs.declared.command.ProcessNo.{ProcessNo};
@@ -221,6 +221,7 @@ impl<H: Host> Machine for HostMachine<H> {
       polled = None;
       started = m.programs;
       faults = m.faults;
+      holds = [];
     } };
 
     fn open(&mut self, work: &Text) -> Result<(), AllocError> {

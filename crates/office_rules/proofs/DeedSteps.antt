@@ -3,12 +3,9 @@ use Rattle.std.proofs.Common.{◌≡◌, ℕ, ◌+◌, ℤ, List, [], ◌∷◌,
 use Rattle.std.specs.Prelude.{IsSome, bytes_eq}
 use Rattle.std.proofs.lemmas.List.{map-append}
 use Rattle.desk_base.specs.Counts.{Rose}
-use Rattle.report_text.specs.declared.answer.Gathered.TheVariants as gathered
-use Rattle.fix_site.specs.declared.site.Site.{Site}
 use Rattle.relay_core.specs.Relays.{RelayState, desk_queue, empty_relay}
 use Rattle.agent_state.specs.States.{State}
 use Rattle.agent_core.specs.declared.opening.Opened.TheVariants as opening
-use Rattle.agent_core.specs.declared.turned.Turned.TheVariants.{Memory}
 use Rattle.agent_core.specs.Agents.{AgentState, shown_state}
 use Rattle.agent_core.specs.Opens.{OpensAgent}
 use Rattle.agent_core.specs.Schedules.{IsMailOf, Mail, restarted}

@@ -1,5 +1,5 @@
 -- What is played is a schedule of the delivery of reports.
-use Rattle.std.proofs.Common.{◌≡◌, ◌≢◌, ℕ, List, [], ◌∷◌, ◌++◌, Some, refl, sym, subst, ◌∙◌, append-nil}
+use Rattle.std.proofs.Common.{◌≢◌, ℕ, List, [], ◌∷◌, ◌++◌, Some, refl, sym, subst, ◌∙◌, append-nil}
 use Rattle.std.specs.Prelude.{codes, filter_map, map}
 use Rattle.std.proofs.lemmas.List.Elements.{All-nil}
 use Rattle.report_text.specs.declared.answer.Verdict.{Verdict}

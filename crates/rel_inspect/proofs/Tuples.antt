@@ -1,4 +1,4 @@
--- What a tuple of the code shows.
+-- The parts of a tuple of the code, and that they are sound.
 use Rattle.std.proofs.Common.{◌≡◌, ℕ, ◌<◌, ◌≤◌, ℤ, pos, negsuc, true, false, nat_lt, nat_abs, int_lt, length, get_or, List, [], ◌∷◌, ◌++◌, map, All, IfSome, Bor, Some, None, refl, sym, ap, subst, ◌∙◌, append_assoc, arith}
 use Rattle.std.specs.declared.option.Option.{Option}
 use Rattle.std.specs.Option.{option_map, option_copied}
@@ -7,10 +7,8 @@ use Rattle.std.proofs.lemmas.Bool.Decides.{nat_tests}
 use Rattle.std.proofs.lemmas.List.Elements.{All-nil, All-cons, All-head, All-tail, All-append}
 use Rattle.std.proofs.lemmas.List.{append-nil}
 use Rattle.rel_value.specs.declared.value.Value.{Value}
-use Rattle.rel_value.specs.declared.value.Value.TheVariants.{Tuple, rolls-Tuple}
-use Rattle.rel_value.specs.declared.value.Value.TheOpen as layer
 use Rattle.rel_value.specs.declared.value.Values.{Values}
-use Rattle.rel_value.specs.declared.value.Value.TheFolds.{fold-roll-Value, fold_out-Values}
+use Rattle.rel_value.specs.declared.value.Value.TheFolds.{fold_out-Values}
 use Rattle.rel_value.specs.Plain.{Plain, tuple, Parts, no_parts, more_parts}
 use Rattle.rel_value.specs.Views.{value_step, values_step, shown, shown_parts, value_items, parted}
 use Rattle.rel_value.specs.Operands.{IsSound, AreSound}
@@ -27,9 +25,6 @@ list-parted ps (v ∷ vs) = list-parted (more_parts ps v) vs ∙ append_assoc (p
 -- the parts of a tuple, from the first
 pub parts-are : (l : Values) → part_list (shown_parts l) ≡ map shown (value_items l)
 parts-are l = ap part_list (fold_out-Values Plain Parts value_step values_step l) ∙ list-parted no_parts (map shown (value_items l))
-
-pub shown-tuple : (l : Values) → shown (Tuple l) ≡ tuple (shown_parts l)
-shown-tuple l = ap shown (sym (rolls-Tuple l)) ∙ fold-roll-Value Plain Parts value_step values_step (layer.Tuple l)
 
 -- ---- soundness
 

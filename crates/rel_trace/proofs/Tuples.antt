@@ -3,11 +3,9 @@ use Rattle.std.proofs.Common.{◌≡◌, ℕ, ◌+◌, ◌<◌, ◌≤◌, List,
 use Rattle.std.proofs.lemmas.List.{map-append, take_all, take_more}
 use Rattle.rel_value.specs.declared.value.Value.{Value}
 use Rattle.rel_value.specs.declared.value.Values.{Values}
-use Rattle.rel_value.specs.declared.value.Value.TheVariants.{Tuple, rolls-Tuple}
-use Rattle.rel_value.specs.declared.value.Value.TheOpen as layer
-use Rattle.rel_value.specs.declared.value.Value.TheFolds.{fold-roll-Value, fold_out-Values}
+use Rattle.rel_value.specs.declared.value.Value.TheFolds.{fold_out-Values}
 use Rattle.rel_value.specs.Operands.{AreSound}
-use Rattle.rel_value.specs.Plain.{Plain, tuple, Parts, no_parts, more_parts}
+use Rattle.rel_value.specs.Plain.{Plain, Parts, no_parts, more_parts}
 use Rattle.rel_value.specs.Views.{parted, shown, shown_parts, value_items, value_step, values_step}
 use Rattle.rel_trace.specs.Joins.{parts_then}
 
@@ -18,10 +16,6 @@ parted-push ps (y ∷ ys) x = parted-push (more_parts ps y) ys x
 then-parted : (ps qs : Parts) (xs : List Plain) → parts_then ps (parted qs xs) ≡ parted (parts_then ps qs) xs
 then-parted ps qs [] = refl
 then-parted ps qs (x ∷ xs) = then-parted ps (more_parts qs x) xs
-
--- a tuple of the code shows its parts
-pub shown-tuple : (l : Values) → shown (Tuple l) ≡ tuple (shown_parts l)
-shown-tuple l = ap shown (sym (rolls-Tuple l)) ∙ fold-roll-Value Plain Parts value_step values_step (layer.Tuple l)
 
 -- one value more
 pub parted-more : (old new ps : Parts) (xs : List Value) (i : ℕ) (x y : Value) → old ≡ parted ps (map shown (take i xs)) → i < length xs → x ≡ get_or xs i x → shown y ≡ shown x → new ≡ more_parts old (shown y)

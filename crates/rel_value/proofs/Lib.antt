@@ -11,3 +11,4 @@ mod Spelled
 mod Calendars
 pub mod TimeReads
 mod OneMoment
+pub mod Tuples

@@ -42,6 +42,12 @@ unfolding IsDistinct
 rest_distinct eq [] k ys h = h.1
 rest_distinct eq (x ∷ xs) k ys h = (all_rest (λ y. eq x y ≡ false) xs k ys h.0, rest_distinct eq xs k ys h.1)
 
+-- the later ones
+pub later_distinct : {K : Type 0} (eq : K → K → Bool) (xs ys : List K) → IsDistinct eq (xs ++ ys) → IsDistinct eq ys
+unfolding IsDistinct
+later_distinct eq [] ys h = h
+later_distinct eq (x ∷ xs) ys h = later_distinct eq xs ys h.1
+
 option_or-none : {X : Type 0} (o : Option X) → option_or o None ≡ o
 option_or-none None = refl
 option_or-none (Some x) = refl

@@ -23,10 +23,10 @@ use Rattle.report_text.specs.Reports.{IsReport}
 use Rattle.relay_core.specs.declared.key.Key.{Key}
 use Rattle.relay_core.specs.declared.report_queue.KeyState.{KeyState}
 use Rattle.relay_core.specs.declared.report_queue.KeyState.TheVariants.{Queued, Held}
-use Rattle.relay_core.specs.ReportKeys.{ReportKey, key_of, same_key, report_digest, digested, held_digest, queued_digest}
+use Rattle.relay_core.specs.ReportKeys.{HasDistinctKeys, ReportKey, key_of, same_key, report_digest, digested, held_digest, queued_digest}
 use Rattle.relay_core.specs.ReportsUp.{without}
 use Rattle.relay_core.specs.Indexes.{QueueState, shown_key, key_cmp, all_keys, states_by, key_states, state_of, IsState, FindsState, Writes}
-use Rattle.relay_core.proofs.KeyLists.{lookup-append, all_later, lookup-push, lookup-rest, lookup-moved, lookup-later, apart_from_entries, entries_distinct, moved_distinct}
+use Rattle.relay_core.proofs.KeyLists.{lookup-append, all_later, lookup-push, lookup-rest, lookup-moved, lookup-later, apart_from_entries, entries_distinct, later_distinct, moved_distinct}
 
 -- ---- keys
 
@@ -55,6 +55,17 @@ pub at_is_same : (key other : Key) → is_at (key_cmp key) other ≡ same_key (s
 at_is_same key other =
     and_turned (slice_cmp nat_cmp key.computer.bytes other.computer.bytes) (nat_cmp key.seq other.seq)
     ∙ (λ i. sym (unsigned_ties key.seq other.seq) i && sym (texts_ties key.computer.bytes other.computer.bytes) i)
+
+keys_digested : (queue : List Report) → keys_of (map digested queue) ≡ map key_of queue
+keys_digested [] = refl
+keys_digested (report ∷ queue) = ap (λ keys. key_of report ∷ keys) (keys_digested queue)
+
+-- the keys of the queue are distinct as those of the held and the queued ones are
+pub queue_distinct : (reports : QueueState) → IsDistinct same_key (keys_of (all_keys reports)) → HasDistinctKeys reports.queue
+queue_distinct reports distinct =
+    subst (IsDistinct same_key) (keys_digested reports.queue)
+    (later_distinct same_key (keys_of reports.held) (keys_of (map digested reports.queue))
+    (subst (IsDistinct same_key) (map-append (λ e. e.0) reports.held (map digested reports.queue)) distinct))
 
 -- ---- the states of a queue
 

@@ -2,6 +2,7 @@
 use Rattle.std.specs.Prelude.{ℕ, nat_eq, Bool, ◌&&◌, List, map}
 use Rattle.std.specs.declared.option.Option.{Option}
 use Rattle.std.specs.Cmp.Lexicographic.{pointwise}
+use Rattle.std.specs.List.{IsDistinct}
 use Rattle.std.specs.Map.{lookup}
 use Rattle.sha2.specs.Sha256.{sha256}
 use Rattle.report_text.specs.declared.report.Report.{Report}
@@ -18,6 +19,10 @@ key_of report = record { computer = report.computer; seq = report.seq }
 -- whether two keys are the same
 abbrev pub same_key : ReportKey → ReportKey → Bool
 same_key key other = nat_eq key.seq other.seq && pointwise nat_eq key.computer other.computer
+
+-- No two of these reports have one computer and number.
+abbrev pub HasDistinctKeys : List Report → Type 0
+HasDistinctKeys reports = IsDistinct same_key (map key_of reports)
 
 -- the digest of a report: SHA-256 of its text
 abbrev pub report_digest : Report → List ℕ

@@ -1,6 +1,7 @@
 ghost use Rattle.std.specs.Prelude.{◌≡◌, ◌≤◌, length, All, IfOk, OnOk, OnErr};
 ghost use Rattle.report_text.specs.Reports.{IsReport};
 ghost use Rattle.fix_site.specs.Sites.{IsSite};
+ghost use Rattle.relay_core.specs.ReportKeys.{HasDistinctKeys};
 ghost use Rattle.relay_core.specs.Relays.{desk_queue, empty_relay};
 ghost use Rattle.relay_core.specs.ReportsUp.{AnswersUp, up_verdict, after_up, is_queued, after_sent};
 ghost use Rattle.relay_core.specs.ReportsUp as verdict;
@@ -114,6 +115,7 @@ impl Relay {
     pub fn queue(&self) -> &[Report]
         ensures queue { result.now ≡ self.now.queue }
         ensures good { All IsReport result.now }
+        ensures distinct { HasDistinctKeys result.now }
         ensures short { length result.now ≤ self.now.limit }
     {
         self.reports.reports()

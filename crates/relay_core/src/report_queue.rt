@@ -1,6 +1,6 @@
 ghost use Rattle.std.specs.Prelude.{◌≡◌, ◌++◌, ◌∷◌, [], ◌<◌, ◌-◌, length, None, Some, MatchOption, All, OnOk, OnErr, take, position};
 ghost use Rattle.report_text.specs.Reports.{IsReport};
-ghost use Rattle.relay_core.specs.ReportKeys.{key_of, same_key, report_digest, queued_digest};
+ghost use Rattle.relay_core.specs.ReportKeys.{HasDistinctKeys, key_of, same_key, report_digest, queued_digest};
 ghost use Rattle.relay_core.specs.ReportsUp.{without, with_held};
 ghost use Rattle.relay_core.specs.Indexes.{shown_key, FindsState, IsNewKey, IsQueued, HasState, Writes};
 
@@ -67,6 +67,7 @@ impl ReportQueue {
     pub(crate) fn reports(&self) -> &[Report]
         ensures queue { result.now ≡ self.now.queue }
         ensures good { All IsReport result.now }
+        ensures distinct { HasDistinctKeys result.now }
     {
         self.reports.as_slice()
     }

@@ -36,8 +36,8 @@ use Rattle.script_run.specs.OneStep.{StepsTo, Falls, Rests, Steps, Again, StepsF
 use Rattle.script_run.proofs.Chains.{reach_none, reach_one, reach_then, reach_same, starve_here}
 
 -- ---- a machine that did nothing
-same_view : (a b : MachineView) → a.world ≡ b.world → a.looked ≡ b.looked → a.acted ≡ b.acted → a.polled ≡ b.polled → a.started ≡ b.started → a.faults ≡ b.faults → a ≡ b
-same_view a b world looked done polls started faults = λ i. record { world = world i; looked = looked i; acted = done i; polled = polls i; started = started i; faults = faults i }
+same_view : (a b : MachineView) → a.world ≡ b.world → a.looked ≡ b.looked → a.acted ≡ b.acted → a.polled ≡ b.polled → a.started ≡ b.started → a.faults ≡ b.faults → a.holds ≡ b.holds → a ≡ b
+same_view a b world looked done polls started faults holds = λ i. record { world = world i; looked = looked i; acted = done i; polled = polls i; started = started i; faults = faults i; holds = holds i }
 
 told_same : (a b : Option WorldState) → Told a b (λ before now. now ≡ before) → b ≡ a
 told_same None b h = h
@@ -52,7 +52,7 @@ grows_same (Some before) (Some now) h = ap Some (h ∙ append-nil before)
 -- without memory an act leaves all as it was
 pub act_without_memory : (moment : ℤ) (command : Command) (old new : MachineView) → ActsOn moment command old of_act.Memory new → new ≡ old
 act_without_memory moment command old new h =
-    same_view new old (told_same old.world new.world h.world) h.looked (grows_same old.acted new.acted h.acted) h.polled h.started (h.counts.steady (λ e. absurd (cc)))
+    same_view new old (told_same old.world new.world h.world) h.looked (grows_same old.acted new.acted h.acted) h.polled h.started (h.counts.steady (λ e. absurd (cc))) h.holds
 
 -- the same act at a moment that was passed as a word
 pub acts_at : (moment : ℤ) (command : Command) (old : MachineView) (answer : Acted) (new : MachineView) → SFits w64 moment →

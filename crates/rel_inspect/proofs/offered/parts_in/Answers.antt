@@ -1,9 +1,10 @@
 use Rattle.std.proofs.Common.{◌≡◌, map, Some, sym, ap, ◌∙◌}
 use Rattle.rel_value.specs.Plain.{tuple}
 use Rattle.rel_value.specs.Views.{shown, shown_parts}
+use Rattle.rel_value.proofs.Tuples.{shown-tuple}
 use Rattle.rel_inspect.specs.Facets.{offered}
 use Rattle.rel_inspect.specs.Offered.{parts_in}
-use Rattle.rel_inspect.proofs.Tuples.{parts-are, shown-tuple}
+use Rattle.rel_inspect.proofs.Tuples.{parts-are}
 use Rattle.rel_inspect.proofs.offered.parts_in.Goals as goal
 
 pub returns-in-Tuple : goal.returns-in-Tuple

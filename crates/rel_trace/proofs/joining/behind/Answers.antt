@@ -1,9 +1,9 @@
 use Rattle.std.proofs.Common.{◌≡◌, ap, subst, sym, ◌∙◌}
 use Rattle.rel_value.specs.Plain.{Plain, tuple}
 use Rattle.rel_value.specs.Views.{shown, shown_parts}
+use Rattle.rel_value.proofs.Tuples.{shown-tuple}
 use Rattle.rel_trace.specs.Joins.{appended, parts_then}
 use Rattle.rel_trace.specs.Works.{Works}
-use Rattle.rel_trace.proofs.Tuples.{shown-tuple}
 use Rattle.rel_trace.proofs.joining.behind.Goals as goal
 
 pub returns-in-Tuple : goal.returns-in-Tuple

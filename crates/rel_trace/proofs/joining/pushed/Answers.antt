@@ -1,10 +1,10 @@
 use Rattle.std.proofs.Common.{◌≡◌, ap, subst, sym, ◌∙◌}
 use Rattle.rel_value.specs.Plain.{Parts, Plain, more_parts, tuple}
 use Rattle.rel_value.specs.Views.{shown, shown_parts}
+use Rattle.rel_value.proofs.Tuples.{shown-tuple}
 use Rattle.rel_trace.specs.declared.joining.Joining.TheVariants.{Push}
 use Rattle.rel_trace.specs.Joins.{tied}
 use Rattle.rel_trace.specs.Works.{Works}
-use Rattle.rel_trace.proofs.Tuples.{shown-tuple}
 use Rattle.rel_trace.proofs.joining.pushed.Goals as goal
 
 pub returns-in-Tuple : goal.returns-in-Tuple
