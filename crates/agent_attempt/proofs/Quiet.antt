@@ -13,11 +13,11 @@ use Rattle.rel_eval.specs.declared.told.Truth.TheVariants as truth
 use Rattle.rel_eval.specs.Singles.{truth_has_failed}
 use Rattle.script_run.specs.Asking.{When}
 use Rattle.bf_machine.proofs.Looking.{OnlyLooks-refl, OnlyLooks-trans}
-use Rattle.bf_machine.specs.Views.{MachineView, OnlyLooks}
+use Rattle.bf_machine.specs.Views.{MachineView}
 use Rattle.agent_attempt.specs.declared.found.Found.{Found}
 use Rattle.agent_attempt.specs.declared.found.Found.TheVariants.{Yes, No, Failed, Memory}
 use Rattle.agent_attempt.specs.ActionContents.{Content, single, group}
-use Rattle.agent_attempt.specs.Relevance.{HasAsked, AllAre, Asking, Asks, ContentIs, FixletIs, IsDue, SomeIs, Succeeds, Targets, and_then, finds, found_of, opposite, or_else}
+use Rattle.agent_attempt.specs.Relevance.{HasAsked, AllAre, Asking, Asks, AsksThen, ContentIs, FixletIs, IsDue, SomeIs, Succeeds, Targets, and_then, finds, found_of, opposite, or_else}
 
 -- nothing was asked
 pub still_quiet : (f : Found) (v : MachineView) → f ≢ Failed → HasAsked v f v
@@ -86,11 +86,14 @@ targets_quiet at computer (target.Computers names) old answer new (inl h) = find
 targets_quiet at computer (target.Computers names) old answer new (inr h) = finds_quiet No old answer new (λ e. absurd (cc)) h.1
 targets_quiet at computer (target.Where question) old answer new h = asks_quiet at question old answer new h
 
+pub wanted_quiet : (at : When) (computer : List ℕ) (target : Target) (content : Option Content) (old : MachineView) (answer : Found) (new : MachineView)
+    → AsksThen (Targets at computer target) (λ found. and_then found (ContentIs at content)) old answer new → HasAsked old answer new
+wanted_quiet at computer target content old answer new a =
+    then_quiet a.0 (ContentIs at content) old a.1 answer new (targets_quiet at computer target old a.0 a.1 a.2) (λ q. content_quiet at content a.1 answer new q) a.3
+
 pub due_quiet : (at : When) (computer : List ℕ) (action : Action) (content : Option Content) (rows : List Row) (old : MachineView) (answer : Found) (new : MachineView)
     → IsDue at computer action content rows old answer new → HasAsked old answer new
-due_quiet at computer action content rows old answer new (inl h) =
-    let a = h.1 in
-    then_quiet a.0 (ContentIs at content) old a.1 answer new (targets_quiet at computer action.target old a.0 a.1 a.2) (λ q. content_quiet at content a.1 answer new q) a.3
+due_quiet at computer action content rows old answer new (inl h) = wanted_quiet at computer action.target content old answer new h.1
 due_quiet at computer action content rows old answer new (inr h) = finds_quiet No old answer new (λ e. absurd (cc)) h.1
 
 -- ---- success

@@ -20,6 +20,6 @@ pub use found::Found;
 pub use read_block::{ReadAction, ReadBaseline, ReadBlock};
 pub use read_fixlet::ReadFixlet;
 pub use read_site::{Content, ReadSite, SiteBaseline};
-pub use relevance::{due, relevant};
+pub use relevance::{may_begin, relevant, wanted};
 pub use time::Time;
 pub use went::{Fail, Went, copy_fail};

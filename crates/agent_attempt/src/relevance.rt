@@ -2,7 +2,7 @@ ghost use Rattle.std.specs.Prelude.{IsTrue, ◌↔◌, ◌∷◌, [], Some};
 ghost use Rattle.act_rules.specs.Rows.{IsRows};
 ghost use Rattle.act_rules.specs.Tallies.{StandsFor};
 ghost use Rattle.agent_attempt.specs.ActionContents.{fixlets_at, group};
-ghost use Rattle.agent_attempt.specs.Relevance.{AsksThen, ContentIs, HasAsked, IsDue, MayBegin, SomeIs, Targets, and_then};
+ghost use Rattle.agent_attempt.specs.Relevance.{AsksThen, ContentIs, HasAsked, MayBegin, SomeIs, Targets, and_then};
 ghost use Rattle.agent_attempt.specs.FoundContents.{shown_content, shown_if};
 
 use crate::found::Found;
@@ -103,52 +103,8 @@ fn one_relevant<M: Machine>(
     }
 }
 
-/// Whether an action is due on this computer, by its rows, for which the tally stands, and its content.
-pub fn due<M: Machine>(
-    alloc: Global,
-    computer: &Text,
-    action: &ReadAction,
-    content: Option<Content<'_>>,
-    rows: &[Row],
-    tally: &Tally,
-    machine: &mut M,
-    time: &Time,
-) -> Found
-    requires rows { IsRows rows.now }
-    requires tally { StandsFor tally.now action.now.rules.retries rows.now }
-    ensures due { IsDue time.now computer.now action.now (shown_if content.entry) rows.now
-        (M.told machine.old) result
-        (M.told machine.new) }
-    ensures asked { HasAsked (M.told machine.old) result (M.told machine.new) }
-{
-    if may_begin(action, rows, tally, time) {
-        return wanted(alloc, computer, action, content, machine, time);
-    }
-    Found::No
-}
-
-/// Whether an action targets this computer and its content is relevant.
-fn wanted<M: Machine>(
-    alloc: Global,
-    computer: &Text,
-    action: &ReadAction,
-    content: Option<Content<'_>>,
-    machine: &mut M,
-    time: &Time,
-) -> Found
-    ensures { AsksThen (Targets time.now computer.now action.now.target)
-        (λ found. and_then found (ContentIs time.now (shown_if content.entry)))
-        (M.told machine.old) result
-        (M.told machine.new) }
-{
-    match action.targets(alloc, computer, machine, time) {
-        Found::Yes => relevant(alloc, content, machine, time),
-        found => found,
-    }
-}
-
-/// Whether an action may begin, as far as that can be said without a look.
-fn may_begin(action: &ReadAction, rows: &[Row], tally: &Tally, time: &Time) -> bool
+/// Whether an action may begin, by its rows, for which the tally stands: what can be said without a look.
+pub fn may_begin(action: &ReadAction, rows: &[Row], tally: &Tally, time: &Time) -> bool
     requires rows { IsRows rows.now }
     requires tally { StandsFor tally.now action.now.rules.retries rows.now }
     ensures { IsTrue result ↔ MayBegin time.now action.now rows.now }
@@ -164,4 +120,25 @@ fn may_begin(action: &ReadAction, rows: &[Row], tally: &Tally, time: &Time) -> b
         return false;
     }
     tally.owed(rules, rows.last(), time.moment())
+}
+
+/// Whether an action that may begin is due: whether it targets this computer and its content is relevant.
+pub fn wanted<M: Machine>(
+    alloc: Global,
+    computer: &Text,
+    action: &ReadAction,
+    content: Option<Content<'_>>,
+    machine: &mut M,
+    time: &Time,
+) -> Found
+    ensures wanted { AsksThen (Targets time.now computer.now action.now.target)
+        (λ found. and_then found (ContentIs time.now (shown_if content.entry)))
+        (M.told machine.old) result
+        (M.told machine.new) }
+    ensures asked { HasAsked (M.told machine.old) result (M.told machine.new) }
+{
+    match action.targets(alloc, computer, machine, time) {
+        Found::Yes => relevant(alloc, content, machine, time),
+        found => found,
+    }
 }

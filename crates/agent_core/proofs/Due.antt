@@ -1,13 +1,14 @@
 -- Actions that are due: they may begin, and have relevant content.
-use Rattle.std.proofs.Common.{ℕ, ◌≡◌, ℤ, List, inl, inr, refl, sym, subst}
+use Rattle.std.proofs.Common.{ℕ, ◌≡◌, ℤ, Bool, true, false, List, inl, inr, refl, sym, ◌∙◌, subst}
 use Rattle.std.specs.declared.option.Option.{Option}
-use Rattle.std.specs.Prelude.{IfSome, IsSome, IsSomeAnd, None, Some}
+use Rattle.std.specs.Prelude.{IfSome, IsTrue, IsSome, IsSomeAnd, None, Some}
 use Rattle.line_forms.specs.Numbers.{IsId}
 use Rattle.act_rules.specs.declared.row.Row.{Row}
 use Rattle.act_rules.specs.declared.rule.Rules.{Rules}
 use Rattle.act_rules.specs.Owed.{IsOwed}
 use Rattle.act_rules.specs.Rows.{HasEnded, last_row}
 use Rattle.fix_site.specs.declared.action.Action.{Action}
+use Rattle.fix_site.specs.declared.action.Target.{Target}
 use Rattle.fix_site.specs.declared.fixlet.Fixlet.{Fixlet}
 use Rattle.script_run.specs.Asking.{When}
 use Rattle.bf_machine.specs.Views.{MachineView}
@@ -16,12 +17,16 @@ use Rattle.agent_attempt.specs.declared.found.Found.{Found}
 use Rattle.agent_attempt.specs.declared.found.Found.TheVariants.{Yes, No, Failed, Memory}
 use Rattle.agent_attempt.specs.Attempts.{PlainAttempt, StageWaitsBelow, first_stage}
 use Rattle.agent_attempt.specs.ActionContents.{Content, single, group}
-use Rattle.agent_attempt.specs.Relevance.{ContentIs, HasScript, FixletIs, IsDue, MayBegin, and_then}
+use Rattle.agent_attempt.specs.Relevance.{AsksThen, ContentIs, HasScript, FixletIs, IsDue, MayBegin, Targets, and_then}
 use Rattle.agent_state.specs.States.{State, with_histories}
 use Rattle.agent_core.specs.Steps.{CanBegin}
 use Rattle.agent_core.specs.Turns.{beginning}
 
 -- ---- it may begin
+-- what is said not to hold doesn't
+pub said_not : (may : Bool) (May : Type 0) → may ≡ false → (May → IsTrue may) → ¬ May
+said_not may May isnt says holds = let both : false ≡ true = sym isnt ∙ says holds in absurd (cc)
+
 pub due_may : (at : When) (computer : List ℕ) (action : Action) (content : Option Content) (rows : List Row) (old new : MachineView) → IsDue at computer action content rows old Yes new → MayBegin at action rows
 due_may at computer action content rows old new (inl h) = h.0
 due_may at computer action content rows old new (inr h) = let e = h.1.0 in absurd (cc)
@@ -47,24 +52,26 @@ then_relevant at content No between new h = let e = h.0 in absurd (cc)
 then_relevant at content Failed between new h = let e = h.0 in absurd (cc)
 then_relevant at content Memory between new h = let e = h.0 in absurd (cc)
 
-due_relevant : (at : When) (computer : List ℕ) (action : Action) (content : Option Content) (rows : List Row) (old new : MachineView) → IsDue at computer action content rows old Yes new
+wanted_relevant : (at : When) (computer : List ℕ) (target : Target) (content : Option Content) (old new : MachineView)
+    → AsksThen (Targets at computer target) (λ found. and_then found (ContentIs at content)) old Yes new
     → (between : MachineView) × ContentIs at content between Yes new
-due_relevant at computer action content rows old new (inl h) = (h.1.1, then_relevant at content h.1.0 h.1.1 new h.1.3)
-due_relevant at computer action content rows old new (inr h) = let e = h.1.0 in absurd (cc)
+wanted_relevant at computer target content old new h = (h.1, then_relevant at content h.0 h.1 new h.3)
 
 script_of : (at : When) (fixlet : Fixlet) (old new : MachineView) → FixletIs at fixlet old Yes new → HasScript fixlet.script
 script_of at fixlet old new (inl h) = h.0
 script_of at fixlet old new (inr h) = let e = h.1.0 in absurd (cc)
 
-pub due_script : (at : When) (computer : List ℕ) (action : Action) (content : Option Content) (rows : List Row) (old new : MachineView) (fixlet : Fixlet) → content ≡ Some (single fixlet) → IsDue at computer action content rows old Yes new
+pub wanted_script : (at : When) (computer : List ℕ) (target : Target) (content : Option Content) (old new : MachineView) (fixlet : Fixlet) → content ≡ Some (single fixlet)
+    → AsksThen (Targets at computer target) (λ found. and_then found (ContentIs at content)) old Yes new
     → HasScript fixlet.script
-due_script at computer action content rows old new fixlet is h =
-    let there = due_relevant at computer action content rows old new h in
+wanted_script at computer target content old new fixlet is h =
+    let there = wanted_relevant at computer target content old new h in
     script_of at fixlet there.0 new (subst (λ o. ContentIs at o there.0 Yes new) is there.1)
 
-pub due_gathered : (at : When) (computer : List ℕ) (action : Action) (content : Option Content) (rows : List Row) (old new : MachineView) → content ≡ None → IsDue at computer action content rows old Yes new → ⊥
-due_gathered at computer action content rows old new none h =
-    let there = due_relevant at computer action content rows old new h in
+pub wanted_gathered : (at : When) (computer : List ℕ) (target : Target) (content : Option Content) (old new : MachineView) → content ≡ None
+    → AsksThen (Targets at computer target) (λ found. and_then found (ContentIs at content)) old Yes new → ⊥
+wanted_gathered at computer target content old new none h =
+    let there = wanted_relevant at computer target content old new h in
     let asked : ContentIs at None there.0 Yes new = subst (λ o. ContentIs at o there.0 Yes new) none there.1 in
     let e = asked.0 in cc
 

@@ -13,18 +13,13 @@ use Rattle.agent_core.specs.declared.turned.Turned.{Turned}
 use Rattle.agent_core.specs.declared.turned.Turned.TheVariants.{Memory}
 use Rattle.agent_core.specs.Saving.{OrMemory}
 use Rattle.agent_text.specs.Pockets.{PocketView, SavesTo}
-use Rattle.agent_state.specs.States.{HeldRuns, State, as_saved, new_row, text_of, with_beginning, with_histories}
+use Rattle.agent_state.specs.States.{HeldRuns, State, as_saved, new_row, text_of, with_beginning}
 use Rattle.agent_core.specs.Devices.{Devices}
-use Rattle.agent_core.specs.Steps.{BeginsAs, CanBegin, StopsBeginning, after_save}
+use Rattle.agent_core.specs.Steps.{BeginsAs, StopsBeginning, after_save}
 use Rattle.agent_core.specs.Turns.{TurnGoesOn}
 use Rattle.agent_core.proofs.Flowing.{no_save}
 use Rattle.agent_state.proofs.RowsAt.{rows_here}
 use Rattle.agent_core.proofs.TurnPoints.{with_pocket}
-
--- the histories with the row of the attempt are those of the beginning
-pub begun_is : (hs : List PlainHistory) (attempt : PlainAttempt) (at : When) (begun : List PlainHistory) (s : State) → CanBegin attempt hs → begun ≡ with_begun attempt.action.id (new_row attempt.row at.moment) hs
-    → with_histories begun s ≡ with_beginning attempt.action.id at.moment (with_histories hs s)
-begun_is hs attempt at begun s can is = ap (λ x. with_histories x s) (is ∙ ap (λ n. with_begun attempt.action.id (new_row n at.moment) hs) can.number)
 
 pub begins_done : (at : When) (s marked now : State) (d : Devices) (attempt : PlainAttempt) (pocket : PocketView) (a : Turned) (s2 : State) (d2 : Devices) → SavesTo (text_of (with_beginning attempt.action.id at.moment marked)) d.pocket save.Done pocket
     → now ≡ as_saved (with_beginning attempt.action.id at.moment marked) → TurnGoesOn at true attempt now (with_pocket pocket d) a s2 d2 → BeginsAs at s marked attempt d a s2 d2

@@ -18,7 +18,7 @@ use crate::clearing::with_marks;
 use crate::kept_state::KeptState;
 use crate::turned::Turned;
 use act_rules::Tally;
-use agent_attempt::{Attempt, Found, ReadAction, ReadBlock, Time, due};
+use agent_attempt::{Attempt, Found, ReadAction, ReadBlock, Time, may_begin, wanted};
 use agent_state::rows_of;
 use agent_text::{Histories, Pocket};
 use bf_machine::Machine;
@@ -108,13 +108,13 @@ impl KeptState {
         ensures { TriesOne time.now (state_of self.now) marked.now action.now
             (M.told machine.old) result (M.told machine.new) }
     {
-        let content = self.sites.content(action.action());
         let rows = rows_of(marked.rows(action.action().id));
         let tally = self.tally_for(alloc, action, marked);
-        let found = due(
-            alloc, &self.name, action, content, rows, &tally, machine, time,
-        );
-        match found {
+        if !may_begin(action, rows, &tally, time) {
+            return Ok(None);
+        }
+        let content = self.sites.content(action.action());
+        match wanted(alloc, &self.name, action, content, machine, time) {
             Found::Yes => {}
             Found::No => return Ok(None),
             Found::Failed => return Err(Turned::MachineFault),

@@ -5,7 +5,8 @@ ghost use Rattle.agent_attempt.specs.Stages.{shown_stage};
 
 use act_rules::{Rows, Tally};
 use agent_attempt::{
-    Attempt, Content, Fail, Found, ReadAction, ReadBlock, ReadSite, Time, Went, due, relevant,
+    Attempt, Content, Fail, Found, ReadAction, ReadBlock, ReadSite, Time, Went, may_begin,
+    relevant, wanted,
 };
 use bf_machine::{PlainMachine, read_world};
 use desk_base::Bytes;
@@ -121,16 +122,11 @@ fn ask(
     let rows = Rows::new(alloc);
     let tally = Tally::of(action.action().rules.retries, &rows);
     let name = Text::from_str(alloc, "pc1").ok()?;
-    let found = due(
-        alloc,
-        &name,
-        action,
-        Some(content),
-        rows.as_slice(),
-        &tally,
-        machine,
-        time,
-    );
+    let found = if may_begin(action, rows.as_slice(), &tally, time) {
+        wanted(alloc, &name, action, Some(content), machine, time)
+    } else {
+        Found::No
+    };
     said.push(word(found)).ok()
 }
 
