@@ -1,5 +1,5 @@
 -- What was heard, by what was read.
-use Rattle.std.proofs.Common.{◌≡◌, ℕ, ◌≤◌, ◌<◌, ◌+◌, ◌-◌, ◌^◌, ◌⊎◌, max, min, nat_lt, nat_le, is_some, Bool, true, false, List, [], ◌++◌, Option, None, Some, unwrap_or, Result, Ok, IfOk, length, length-append, length-take-le, length-drop, drop, take, map, refl, sym, ap, ◌∙◌, subst, arith, inl, inr, append-nil, append_assoc}
+use Rattle.std.proofs.Common.{◌≡◌, ℕ, ◌≤◌, ◌<◌, ◌+◌, ◌-◌, ◌⊎◌, max, nat_lt, nat_le, is_some, Bool, true, false, List, [], ◌++◌, Option, None, Some, unwrap_or, Result, Ok, IfOk, length, length-append, length-take-le, length-drop, drop, take, map, refl, sym, ap, ◌∙◌, subst, arith, inl, inr, append-nil, append_assoc}
 use Rattle.std.specs.List.{slice_range}
 use Rattle.std.specs.Io.KnownBytes.{Consumes, IsAtEnd}
 use Rattle.std.proofs.KnownBytes.{Consumes-trans}
@@ -20,7 +20,7 @@ use Rattle.route_rules.specs.Routes.{FindsRoute, row_of}
 use Rattle.desk_http.specs.declared.request.Refusal.TheVariants.{BadRequest, NoSuch, TooLong}
 use Rattle.desk_http.specs.Fields.{request_length}
 use Rattle.desk_http.specs.Heard.{Heard, Call, Refused, IsHead, HasNoHead, heard_behind, length_of, most_behind, Hears, no_head, bad_fields, good_head}
-use Rattle.desk_http.specs.Conversing.{Says, IsWhole, SaysWhole, IsHeard, IsBegun, in_head, in_body, Allows, for_head, for_body, TakesFew}
+use Rattle.desk_http.specs.Conversing.{Says, IsWhole, SaysWhole, IsHeard, IsBegun, in_body, for_head, for_body, TakesFew}
 use Rattle.desk_http.specs.Reading.{Grew, IsClamped, NeverHasHead, TakesAtMost}
 
 abbrev pub rest_of : Option (List ℕ) → List ℕ

@@ -15,10 +15,10 @@ use Rattle.desk_http.specs.declared.request.Taken.{Taken}
 use Rattle.desk_http.specs.declared.request.Taken.TheVariants as taken
 use Rattle.desk_http.specs.declared.talk.Met.{Met}
 use Rattle.desk_http.specs.declared.talk.Met.TheVariants as met
-use Rattle.desk_http.specs.Conversing.{Answers, BreaksOff, ClosesUnsaid, Converses, IsDue, IsHeard, OnlyTalks, Responds, RunsOut, TakesFew, WasCalled, Writes}
+use Rattle.desk_http.specs.Conversing.{Answers, BreaksOff, ClosesUnsaid, Converses, IsHeard, OnlyTalks, Responds, RunsOut, TakesFew, WasCalled, Writes}
 use Rattle.desk_http.specs.Heard.{Heard, Call, Refused}
 use Rattle.desk_http.specs.Reading.{OnlyReads, TakesRequest, is_whole}
-use Rattle.desk_http.specs.Replying.{AnswersCall, Talks, WritesMemory, met_of}
+use Rattle.desk_http.specs.Replying.{AnswersCall, Talks, met_of}
 use Rattle.desk_http.specs.Spoken.{spoken, status_of, text_of, memory_text}
 
 -- what a write did where it was read before and closed afterwards

@@ -1,5 +1,5 @@
 -- What the steps of reading a request do. Only private functions cite these definitions.
-use Rattle.std.specs.Prelude.{◌≡◌, ℕ, ◌+◌, ◌-◌, ◌<◌, ◌≤◌, ◌^◌, ◌⊎◌, Bool, true, false, min, max, List, [], ◌∷◌, ◌++◌, length, MatchOption, None, Some, ⊤}
+use Rattle.std.specs.Prelude.{◌≡◌, ℕ, ◌+◌, ◌-◌, ◌<◌, ◌≤◌, ◌^◌, ◌⊎◌, Bool, true, false, min, max, List, [], ◌∷◌, ◌++◌, length, codes, MatchOption, None, Some, ⊤}
 use Rattle.std.specs.declared.option.Option.{Option}
 use Rattle.std.specs.Io.KnownBytes.{Consumes, Keeps, IsAtEnd}
 use Rattle.httparse.specs.Grammar.{RequestHead}
@@ -8,6 +8,7 @@ use Rattle.httparse.specs.declared.spans.HeaderSpan.{HeaderSpan}
 use Rattle.desk_base.specs.Counts.{CountsFaults}
 use Rattle.desk_door.specs.Doors.{DoorView}
 use Rattle.route_rules.specs.declared.route.Routes.{Routes}
+use Rattle.desk_http.specs.declared.fields.Framing.{Framing}
 use Rattle.desk_http.specs.declared.fields.Named.{Named}
 use Rattle.desk_http.specs.declared.fields.Named.TheVariants as of_name
 use Rattle.desk_http.specs.declared.reading.Head.{Head}
@@ -18,6 +19,7 @@ use Rattle.desk_http.specs.declared.reading.Step.{Step}
 use Rattle.desk_http.specs.declared.reading.Step.TheVariants as step
 use Rattle.desk_http.specs.declared.request.Taken.{Taken}
 use Rattle.desk_http.specs.declared.request.Taken.TheVariants as taken
+use Rattle.desk_http.specs.Fields.{named}
 use Rattle.desk_http.specs.Heard.{Call, Refused, HasNoHead}
 use Rattle.desk_http.specs.Conversing.{IsBegun, IsHeard, TakesFew}
 
@@ -26,6 +28,12 @@ abbrev pub IsNamed : List ℕ → List (List ℕ) → Named → Type 0
 IsNamed buf values of_name.Nothing = values ≡ []
 IsNamed buf values (of_name.One span) = IsWithin (length buf) span × (values ≡ span_bytes buf span ∷ [])
 IsNamed buf values of_name.More = 2 ≤ length values
+
+-- what the fields say of how long the body is
+pub record IsFraming (buf : List ℕ) (fields : List (List ℕ × List ℕ)) (framing : Framing) : Type 0 where
+  pub coding : IsNamed buf (named (codes "transfer-encoding") fields) framing.coding
+  pub host : IsNamed buf (named (codes "host") fields) framing.host
+  pub size : IsNamed buf (named (codes "content-length") fields) framing.size
 
 -- a number as a u64, which stops at the greatest
 abbrev pub IsClamped : Option ℕ → Option ℕ → Type 0

@@ -1,8 +1,8 @@
 // The fields of a head that say how long the body is.
-ghost use Rattle.std.specs.Prelude.{◌≡◌, length, map, All};
+ghost use Rattle.std.specs.Prelude.{◌≡◌, ℕ, List, [], ◌∷◌, ◌++◌, length, map, All};
 ghost use Rattle.httparse.specs.Spans.{IsHeaderWithin, header_bytes};
 ghost use Rattle.desk_http.specs.Fields.{has_leading_zero, named, number_in, request_length, reply_length};
-ghost use Rattle.desk_http.specs.Reading.{IsNamed, IsClamped};
+ghost use Rattle.desk_http.specs.Reading.{IsNamed, IsFraming, IsClamped};
 
 use httparse::spans::{HeaderSpan, Span};
 
@@ -15,24 +15,48 @@ enum Named {
     More,
 }
 
-/// The field with this name.
-fn find(buf: &[u8], fields: &[HeaderSpan], name: &[u8]) -> Named
-    requires { All (IsHeaderWithin (length buf.now)) fields.now }
-    ensures { IsNamed buf.now (named name.now (map (header_bytes buf.now) fields.now)) result }
-{
-    let mut found = Named::Nothing;
-    let mut rest = fields;
-    while let [field, after @ ..] = rest {
-        rest = after;
-        if field.name.of(buf).eq_ignore_ascii_case(name) {
-            match found {
-                Named::Nothing => found = Named::One(field.value),
-                Named::One(_) => return Named::More,
-                Named::More => return Named::More,
-            }
+impl Named {
+    /// After this field, where it has the name.
+    fn after(self, buf: &[u8], field: &HeaderSpan, name: &[u8]) -> Named
+        requires { IsHeaderWithin (length buf.now) field.now }
+        ensures { (fields : List (List ℕ × List ℕ)) → IsNamed buf.now (named name.now fields) self
+            → IsNamed buf.now (named name.now (fields ++ header_bytes buf.now field.now ∷ [])) result }
+    {
+        if !field.name.of(buf).eq_ignore_ascii_case(name) {
+            return self;
+        }
+        match self {
+            Named::Nothing => Named::One(field.value),
+            Named::One(_) => Named::More,
+            Named::More => Named::More,
         }
     }
-    found
+}
+
+/// What was found of the names that say how long the body is.
+#[derive(Clone, Copy)]
+struct Framing {
+    coding: Named,
+    host: Named,
+    size: Named,
+}
+
+/// What these fields say of how long the body is.
+fn find_framing(buf: &[u8], fields: &[HeaderSpan]) -> Framing
+    requires { All (IsHeaderWithin (length buf.now)) fields.now }
+    ensures { IsFraming buf.now (map (header_bytes buf.now) fields.now) result }
+{
+    let mut coding = Named::Nothing;
+    let mut host = Named::Nothing;
+    let mut size = Named::Nothing;
+    let mut rest = fields;
+    while let [field, others @ ..] = rest {
+        rest = others;
+        coding = coding.after(buf, field, b"transfer-encoding");
+        host = host.after(buf, field, b"host");
+        size = size.after(buf, field, b"content-length");
+    }
+    Framing { coding, host, size }
 }
 
 /// A number in decimal digits without leading zeros, the greatest u64 where it is greater.
@@ -70,11 +94,12 @@ pub(crate) fn request_length(minor: u8, buf: &[u8], fields: &[HeaderSpan]) -> Op
     requires { All (IsHeaderWithin (length buf.now)) fields.now }
     ensures { IsClamped (request_length minor (map (header_bytes buf.now) fields.now)) result }
 {
-    match find(buf, fields, b"transfer-encoding") {
+    let found = find_framing(buf, fields);
+    match found.coding {
         Named::Nothing => {}
         Named::One(_) | Named::More => return None,
     }
-    match find(buf, fields, b"host") {
+    match found.host {
         Named::Nothing => {
             if minor == 1 {
                 return None;
@@ -83,7 +108,7 @@ pub(crate) fn request_length(minor: u8, buf: &[u8], fields: &[HeaderSpan]) -> Op
         Named::One(_) => {}
         Named::More => return None,
     }
-    match find(buf, fields, b"content-length") {
+    match found.size {
         Named::Nothing => Some(0),
         Named::One(value) => clamped_number(value.of(buf)),
         Named::More => None,
@@ -95,7 +120,7 @@ pub(crate) fn reply_length(buf: &[u8], fields: &[HeaderSpan]) -> Option<u64>
     requires { All (IsHeaderWithin (length buf.now)) fields.now }
     ensures { IsClamped (reply_length (map (header_bytes buf.now) fields.now)) result }
 {
-    match find(buf, fields, b"content-length") {
+    match find_framing(buf, fields).size {
         Named::One(value) => clamped_number(value.of(buf)),
         Named::Nothing | Named::More => None,
     }

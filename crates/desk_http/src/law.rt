@@ -23,8 +23,9 @@ pub fn what_is_heard_is_one_thing()
 /// A request of an open route's path, with a body within its limit, is heard as that call.
 pub fn what_is_asked_is_heard()
     ensures { (routes : Routes) (route : Route) (body : List ℕ) → HasForms route → is_open routes (row_of route).relay ≡ true
-        → length body ≤ (row_of route).most → (most : ℕ)
-        × Hears routes (ask_text (row_of route).asking (row_of route).path body) (Call (row_of route).asking (row_of route).path body) most }
+        → length body ≤ (row_of route).most
+        → (most : ℕ) × Hears routes (ask_text (row_of route).asking (row_of route).path body)
+        (Call (row_of route).asking (row_of route).path body) most }
 {}
 
 /// The response of a status and a body is read as these.

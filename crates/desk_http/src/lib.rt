@@ -20,5 +20,5 @@ pub use law::{
 };
 pub use reply::{ReadReply, read_reply};
 pub use request::Refusal;
-pub use route_rules::{Asking, Route, Routes, find_route};
+pub use route_rules::{Asking, Paths, Route, Routes, find_route};
 pub use talk::{Met, converse};

@@ -2,10 +2,11 @@
 ghost use Rattle.std.specs.Prelude.{◌≡◌, ◌<◌, [], length};
 ghost use Rattle.desk_http.specs.Reading.{OnlyReads, ReadsHead, ReadsRest, TakesSome};
 
-use desk_base::Bytes;
+use desk_base::{Bytes, Room};
 use desk_door::{Door, DoorGot};
 use httparse::Status;
 use httparse::spans::{HeaderSpan, RequestSpans, parse_request};
+use std::alloc::{AllocError, Global};
 
 /// The most bytes of a head.
 pub(crate) const HEAD_LIMIT: usize = 16_384;
@@ -95,8 +96,22 @@ pub(crate) enum Rest {
     Memory,
 }
 
-/// Reads until there are so many bytes in all.
+/// Makes room for so many bytes in all.
+fn make_room(alloc: Global, buf: &mut Bytes, size: usize) -> Result<(), AllocError>
+    ensures { buf.new ≡ buf.old }
+{
+    if size <= buf.as_slice().len() {
+        return Ok(());
+    }
+    let mut roomy = Room::with_capacity(alloc, size)?;
+    roomy.extend(buf.as_slice());
+    *buf = roomy.into_bytes();
+    Ok(())
+}
+
+/// Reads until there are so many bytes in all. The room for them is made once, before the first is read.
 pub(crate) fn read_rest<D: Door>(
+    alloc: Global,
     door: &mut D,
     room: &mut [u8],
     buf: &mut Bytes,
@@ -106,6 +121,9 @@ pub(crate) fn read_rest<D: Door>(
     ensures reads { ReadsRest (D.told door.old).left (D.told door.new).left buf.old buf.new upto result }
     ensures only { OnlyReads (result ≡ Rest.Failed) (D.told door.old) (D.told door.new) }
 {
+    if make_room(alloc, buf, upto).is_err() {
+        return Rest::Memory;
+    }
     'pieces: while buf.as_slice().len() < upto {
         let most = upto - buf.as_slice().len();
         match take(door, room, buf, most) {

@@ -6,7 +6,7 @@ use crate::reading::{Head, Rest, read_head, read_rest};
 use desk_base::Bytes;
 use desk_door::Door;
 use httparse::spans::{EMPTY_HEADER_SPAN, Span};
-use route_rules::{Asking, Routes, find_route};
+use route_rules::{Asking, Paths, Routes, find_route};
 use std::alloc::Global;
 
 /// The most fields of a head.
@@ -70,6 +70,7 @@ pub(crate) fn read_request<D: Door>(
     alloc: Global,
     door: &mut D,
     buf: &mut Bytes,
+    paths: &Paths,
     routes: Routes,
 ) -> Taken
     requires { buf.old ≡ [] }
@@ -91,7 +92,7 @@ pub(crate) fn read_request<D: Door>(
     let method = head.method.of(buf.as_slice());
     let path = head.path.of(buf.as_slice());
     let whole = length <= (buf.as_slice().len() - head.len) as u64;
-    let (asking, most) = match find_route(alloc, routes, method, path) {
+    let (asking, most) = match find_route(alloc, paths, routes, method, path) {
         Ok(Some(route)) => (route.asking(), route.most()),
         Ok(None) => {
             return Taken::Refused {
@@ -108,7 +109,7 @@ pub(crate) fn read_request<D: Door>(
         };
     }
     let end = head.len + length as usize;
-    match read_rest(door, &mut room, buf, end) {
+    match read_rest(alloc, door, &mut room, buf, end) {
         Rest::Whole => Taken::Call(CallSpans {
             asking,
             path: head.path,

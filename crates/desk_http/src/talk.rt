@@ -12,7 +12,7 @@ use crate::response::{head_of, memory_response};
 use desk_base::{Bytes, Put};
 use desk_door::Door;
 use http::StatusCode;
-use route_rules::Routes;
+use route_rules::{Paths, Routes};
 use std::alloc::Global;
 
 /// The most bytes of a body that is written together with its head.
@@ -32,13 +32,19 @@ pub enum Met {
 }
 
 /// Reads one request, calls the host where it is a call, writes the response, and closes.
-pub fn converse<D: Door, H: Site2>(alloc: Global, door: &mut D, host: &mut H, routes: Routes) -> Met
+pub fn converse<D: Door, H: Site2>(
+    alloc: Global,
+    door: &mut D,
+    host: &mut H,
+    paths: &Paths,
+    routes: Routes,
+) -> Met
     ensures talks { Converses H.calls routes (D.told door.old) (H.told host.old) result (D.told door.new) (H.told host.new) }
     ensures only { OnlyTalks (D.told door.old) (D.told door.new) }
     ensures holds { H.holds host.new ≡ H.holds host.old }
 {
     let mut buf = Bytes::new(alloc);
-    let taken = read_request(alloc, door, &mut buf, routes);
+    let taken = read_request(alloc, door, &mut buf, paths, routes);
     let met = respond(alloc, door, host, buf.as_slice(), taken);
     door.close(taken.is_whole());
     met

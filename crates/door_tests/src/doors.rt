@@ -1,6 +1,7 @@
 use desk_base::{Bytes, Put};
 use desk_door::{Door, DoorGot, MemoryDoor};
 use std::alloc::Global;
+use std::mem::drop;
 use std::test::Fail;
 
 /// A call of a door. Those that are numbered have their numbers beside them below.
@@ -11,7 +12,7 @@ enum Call {
     /// Into a room of three bytes.
     Read,
     Write(&'static str),
-    Close,
+    Close(bool),
 }
 
 /// What the peers say.
@@ -31,7 +32,7 @@ const ROWS: [(Call, &str); 20] = [
     (Call::Read, "de"), // 7
     (Call::Read, "end"), // 8
     (Call::Write("one"), "done"), // 9
-    (Call::Close, "closed"),
+    (Call::Close(true), "closed"),
     (Call::Write("lost"), "failed"), // 10
     (Call::Write(" two"), "done"), // 11
     (Call::Next, "done"), // 12
@@ -71,8 +72,8 @@ fn answers<D: Door>(door: &mut D, call: Call, answer: &str) -> bool {
         Call::Next => word(door.next()) == answer,
         Call::Read => reads(door, answer),
         Call::Write(piece) => word(door.write(piece.as_bytes())) == answer,
-        Call::Close => {
-            door.close(true);
+        Call::Close(whole) => {
+            door.close(whole);
             answer == "closed"
         }
     }
@@ -86,16 +87,63 @@ fn door(alloc: Global) -> Result<MemoryDoor, Fail> {
     Ok(MemoryDoor::new(alloc, conversations, FAILS.to_vec(alloc)?))
 }
 
+/// Whether a door tells what a close was told, also in the next conversation.
+fn keeps_end(door: &mut MemoryDoor, whole: bool) -> bool {
+    door.close(whole);
+    let is_kept = door.ended() == Some(whole);
+    door.next();
+    is_kept && door.ended() == Some(whole)
+}
+
+/// Whether a door tells so of one close after another, and nothing before the first.
+fn keeps_ends(door: &mut MemoryDoor) -> bool {
+    let mut are_kept = door.ended() == None;
+    for whole in [false, true, true, false] {
+        are_kept = keeps_end(door, whole) && are_kept;
+    }
+    are_kept
+}
+
+#[test]
+fn a_door_keeps_what_the_last_close_was_told(rt: HostRuntime) -> Result<(), Fail> {
+    let mut door = door(rt.alloc())?;
+    let are_kept = keeps_ends(&mut door);
+    drop(door);
+    assert!(rt; are_kept);
+    Ok(())
+}
+
+/// How many calls before the first that isn't answered so.
+fn first_unanswered(door: &mut MemoryDoor) -> Option<usize> {
+    for (before, (call, answer)) in ROWS.iter().enumerate() {
+        if !answers(door, *call, answer) {
+            return Some(before);
+        }
+    }
+    None
+}
+
+/// Whether these were written in the conversations of a door.
+fn is_written(door: &MemoryDoor, wanted: &[&str]) -> bool {
+    let written = door.written();
+    if written.len() != wanted.len() {
+        return false;
+    }
+    for (text, bytes) in written.iter().zip(wanted) {
+        if text.as_slice() != bytes.as_bytes() {
+            return false;
+        }
+    }
+    true
+}
+
 #[test]
 fn calls_are_answered_in_order(rt: HostRuntime) -> Result<(), Fail> {
     let mut door = door(rt.alloc())?;
-    for (call, answer) in ROWS {
-        assert!(rt; answers(&mut door, call, answer), "{answer}");
-    }
-    let written = door.written();
-    assert_eq!(rt; written.len(), WRITTEN.len());
-    for (text, wanted) in written.iter().zip(WRITTEN) {
-        assert!(rt; text.as_slice() == wanted.as_bytes(), "{wanted}");
-    }
+    let unanswered = first_unanswered(&mut door);
+    let is_written = is_written(&door, &WRITTEN);
+    drop(door);
+    assert_eq!(rt; unanswered, None);
+    assert!(rt; is_written);
     Ok(())
 }

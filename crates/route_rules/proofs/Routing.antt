@@ -1,5 +1,5 @@
 -- What a router finds is the endpoint of a method and a path, and what they ask for is one route.
-use Rattle.std.proofs.Common.{◌≡◌, ◌≢◌, ℕ, ◌≤◌, inl, inr, Bool, true, false, cond, ◌==◌, ◌&&◌, nat_lt, List, [], ◌∷◌, ◌++◌, get_or, Option, None, Some, Result, Ok, Err, IfOk, is_some, refl, sym, ap, subst, ◌∙◌, arith, Fits, w8}
+use Rattle.std.proofs.Common.{◌≡◌, ℕ, ◌≤◌, inl, inr, Bool, true, false, cond, ◌==◌, ◌&&◌, nat_lt, List, [], ◌∷◌, ◌++◌, get_or, Option, None, Some, Result, Ok, Err, IfOk, is_some, refl, sym, ap, subst, ◌∙◌, arith, Fits, w8}
 use Rattle.std.specs.Prelude.{codes, decimal}
 use Rattle.std.specs.Str.{IsUtf8}
 use Rattle.std.proofs.lemmas.Bool.{and_parts, false≢true}

@@ -6,6 +6,7 @@ ghost use Rattle.route_rules.specs.Finding.{FindsEndpoint};
 use crate::method::Asking;
 use matchit::{InsertError, Router};
 use std::alloc::{AllocError, Global};
+use std::marker::Model;
 
 /// A route without the values in its path.
 #[derive(Clone, Copy)]
@@ -21,18 +22,63 @@ pub(crate) enum Endpoint {
     Results,
 }
 
-/// The endpoint of a path.
-pub(crate) fn find_endpoint(
-    alloc: Global,
-    asking: Asking,
-    path: &str,
-) -> Result<Option<Endpoint>, AllocError>
-    ensures { IfOk result (λ found. FindsEndpoint asking path.now found) }
-{
+/// The paths of all routes, for finding. They are made once and lent to each finding.
+#[derive(Drop)]
+pub struct Paths {
+    /// None where memory ran out: each finding tells so.
+    routers: Option<Routers>,
+}
+
+impl Paths {
+    /// Makes them. Where memory runs out in it, each finding by them answers so.
+    pub fn new(alloc: Global) -> Paths {
+        Paths {
+            routers: Routers::new(alloc).ok(),
+        }
+    }
+
+    /// The endpoint of a path.
+    pub(crate) fn find(&self, asking: Asking, path: &str) -> Result<Option<Endpoint>, AllocError>
+        ensures { IfOk result (λ found. FindsEndpoint asking path.now found) }
+    {
+        match &self.routers {
+            Some(routers) => Ok(routers.find(asking, path)),
+            None => Err(AllocError),
+        }
+    }
+}
+
+/// A router for each method.
+#[derive(Drop)]
+struct Routers {
+    asked: Router<Endpoint>,
+    posted: Router<Endpoint>,
+}
+
+impl Model for Routers {
+    ghost Value = { Unit {0} };
+
+    ghost view = { λ _. tt };
+
+    ghost invariant = { λ r. (r.asked ≡ asked_rows) × (r.posted ≡ posted_rows) };
+}
+
+impl Routers {
     // No two endpoints of a method have the same path: only memory can lack.
-    match router_of(alloc, asking) {
-        Ok(router) => Ok(endpoint_at(&router, asking, path)),
-        Err(_) => Err(AllocError),
+    fn new(alloc: Global) -> Result<Routers, InsertError> {
+        Ok(Routers {
+            asked: asked(alloc)?,
+            posted: posted(alloc)?,
+        })
+    }
+
+    fn find(&self, asking: Asking, path: &str) -> Option<Endpoint>
+        ensures { FindsEndpoint asking path.now result }
+    {
+        match asking {
+            Asking::Get => endpoint_at(&self.asked, asking, path),
+            Asking::Post => endpoint_at(&self.posted, asking, path),
+        }
     }
 }
 
@@ -43,15 +89,6 @@ fn endpoint_at(router: &Router<Endpoint>, asking: Asking, path: &str) -> Option<
     match router.at(path) {
         Ok(found) => Some(*found.value),
         Err(_) => None,
-    }
-}
-
-fn router_of(alloc: Global, asking: Asking) -> Result<Router<Endpoint>, InsertError>
-    ensures { IfOk result (λ router. router ≡ rows_of asking) }
-{
-    match asking {
-        Asking::Get => asked(alloc),
-        Asking::Post => posted(alloc),
     }
 }
 

@@ -7,6 +7,7 @@ mod method;
 mod path;
 mod route;
 
+pub use endpoint::Paths;
 pub use law::one_route;
 pub use method::Asking;
 pub use route::{Route, Routes, find_route};

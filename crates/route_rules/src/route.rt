@@ -3,7 +3,7 @@ ghost use Rattle.route_rules.specs.Routes.{FindsRoute, row_of};
 ghost use Rattle.route_rules.specs.Endpoints.{Matches, opens, pattern_of};
 ghost use Rattle.route_rules.specs.Finding.{ReadsRoute};
 
-use crate::endpoint::{Endpoint, find_endpoint};
+use crate::endpoint::{Endpoint, Paths};
 use crate::method::{Asking, read_method};
 use crate::path::{computer_in, digest_in, id_in, site_in};
 use rel_lexer::Text;
@@ -68,6 +68,7 @@ impl Route {
 /// The route of a method and a path. The error is want of memory, here and below.
 pub fn find_route(
     alloc: Global,
+    paths: &Paths,
     routes: Routes,
     method: &[u8],
     path: &[u8],
@@ -80,7 +81,7 @@ pub fn find_route(
     let Ok(text) = str::from_utf8(path) else {
         return Ok(None);
     };
-    let Some(endpoint) = find_endpoint(alloc, asking, text)? else {
+    let Some(endpoint) = paths.find(asking, text)? else {
         return Ok(None);
     };
     if !is_open(routes, endpoint) {
