@@ -3,7 +3,7 @@ ghost use Rattle.desk_hosts.specs.RelayCalls.{CarriesReport, IsPathOf, RelayAnsw
 
 use crate::file::ask_upstream;
 use crate::site_list::versions_of;
-use desk_http::{Asking, Called, Link, Route, Routes, Site2, find_route};
+use desk_http::{Asking, Called, Link, Paths, Route, Routes, Site2, find_route};
 use fix_site::write_site;
 use http_replies::Answer;
 use rel_lexer::Text;
@@ -15,6 +15,7 @@ use std::alloc::Global;
 #[derive(Drop)]
 pub struct RelayHost<'a, L: Link> {
     pub alloc: Global,
+    pub paths: &'a Paths,
     pub relay: &'a mut Relay,
     pub link: &'a mut L,
 }
@@ -32,7 +33,13 @@ impl<'a, L: Link> Site2 for RelayHost<'a, L> {
     ghost calls = { RelayCalls };
 
     fn call(&mut self, asking: Asking, path: &[u8], body: &[u8]) -> Called {
-        match find_route(self.alloc, Routes::Relay, asking.word().as_bytes(), path) {
+        match find_route(
+            self.alloc,
+            self.paths,
+            Routes::Relay,
+            asking.word().as_bytes(),
+            path,
+        ) {
             Ok(route) => {
                 answer(self.alloc, self.relay, self.link, route, path, body).called(self.alloc)
             }

@@ -2,7 +2,7 @@ ghost use Rattle.std.specs.Prelude.{◌≡◌, IfOk};
 ghost use Rattle.desk_hosts.specs.ServerCalls.{RepliesTo, ServerAnswers, request_of};
 
 use desk_base::Bytes;
-use desk_http::{Asking, Called, Route, Routes, Site2, find_route};
+use desk_http::{Asking, Called, Paths, Route, Routes, Site2, find_route};
 use desk_keep::Keeper;
 use http_replies::Answer;
 use server_core::Server;
@@ -13,6 +13,7 @@ use std::alloc::{AllocError, Global};
 #[derive(Drop)]
 pub struct ServerHost<'a, K: Keeper> {
     pub alloc: Global,
+    pub paths: &'a Paths,
     pub server: &'a Server,
     pub keeper: &'a mut K,
 }
@@ -30,7 +31,13 @@ impl<'a, K: Keeper> Site2 for ServerHost<'a, K> {
     ghost calls = { ServerCalls };
 
     fn call(&mut self, asking: Asking, path: &[u8], body: &[u8]) -> Called {
-        match find_route(self.alloc, Routes::Server, asking.word().as_bytes(), path) {
+        match find_route(
+            self.alloc,
+            self.paths,
+            Routes::Server,
+            asking.word().as_bytes(),
+            path,
+        ) {
             Ok(route) => {
                 answer(self.alloc, self.server, self.keeper, route, body).called(self.alloc)
             }

@@ -1,0 +1,3 @@
+pub mod Serving
+mod Counting
+mod Once

@@ -1,0 +1,5 @@
+pub mod TalkLines
+pub mod ServeSteps
+pub mod ServeRuns
+pub mod ServeCounts
+pub mod OneServing
