@@ -1,0 +1,13 @@
+pub mod Requests
+pub mod Judgements
+pub mod Replies
+pub mod Asking
+pub mod Listing
+pub mod Lines
+pub mod Parts
+pub mod Clients
+pub mod Gathering
+pub mod Posting
+pub mod Files
+pub mod RelayRounds
+pub mod AgentRounds

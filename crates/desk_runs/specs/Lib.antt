@@ -1,0 +1,5 @@
+pub mod RelaySteps
+pub mod RelayRuns
+pub mod AgentSteps
+pub mod AgentRuns
+pub mod Counting
