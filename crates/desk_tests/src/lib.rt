@@ -4,4 +4,10 @@
 #[cfg(test)]
 mod devices;
 #[cfg(test)]
+mod rounds;
+#[cfg(test)]
+mod runs;
+#[cfg(test)]
+mod serving;
+#[cfg(test)]
 mod top;

@@ -1,13 +1,10 @@
 //! What no command of the program can show: a run whose source, sink or clock fails, and the words of the help and of no command.
-use bf_machine::{PlainMachine, read_world};
-use desk_base::{Bytes, MemorySink, MemorySource, StepClock};
-use desk_top::desk;
-use rel_lexer::Text;
+use crate::runs::run;
+use desk_base::{Bytes, MemorySink, MemorySource};
+use desk_door::MemoryDoor;
+use desk_keep::MemoryKeeper;
 use std::alloc::Global;
 use std::mem::drop;
-
-/// A machine with nothing on it.
-const BARE: &[u8] = b"world\nname pc1\nsystem 12.4 Debian\noffset 0\nmoment 0\nend\n";
 
 /// A run, the number of the status with which it ends, and what it writes. Reads and writes that fail are counted from 1.
 struct Row {
@@ -35,7 +32,7 @@ const ROWS: [Row; 8] = [
         reads: &[1],
         writes: &[],
         status: 0,
-        wanted: b"desk qna\ndesk qna --world\ndesk check\ndesk make N\ndesk --help\n",
+        wanted: b"desk qna\ndesk qna --world\ndesk check\ndesk make N\ndesk serve PORT KEEP N\ndesk relay PORT UPSTREAM N\ndesk agent UPSTREAM POCKET WORK NAME OFFSET N\ndesk --help\n",
     },
     Row {
         words: &["qna", "qna"],
@@ -87,39 +84,22 @@ const ROWS: [Row; 8] = [
     },
 ];
 
-fn texts(alloc: Global, words: &[&str]) -> Option<Vec<Text>> {
-    let mut texts = Vec::new(alloc);
-    for word in words {
-        let text = Text::from_str(alloc, word).ok()?;
-        texts.push(text).ok()?;
-    }
-    Some(texts)
-}
-
 fn source(alloc: Global, row: &Row) -> Option<MemorySource> {
     let reads = row.reads.to_vec(alloc).ok()?;
     let bytes = Bytes::from_slice(alloc, row.input).ok()?;
     Some(MemorySource::new(alloc, bytes, reads))
 }
 
-fn bare_machine(alloc: Global) -> Option<PlainMachine> {
-    let world = read_world(alloc, BARE).ok()?;
-    let none = || Vec::new(alloc);
-    Some(PlainMachine::new(alloc, world, none(), none(), none()))
-}
-
-/// The number of the status of a row's run, over a machine with nothing on it and a clock without a moment.
+/// The number of the status of a row's run, to which nobody comes.
 fn status(alloc: Global, row: &Row, sink: &mut MemorySink) -> Option<u8> {
-    let words = texts(alloc, row.words)?;
     let mut source = source(alloc, row)?;
-    let mut machine = bare_machine(alloc)?;
-    let mut clock = StepClock::new(alloc, Vec::new(alloc), Vec::new(alloc));
-    let status = desk(alloc, &words, &mut source, sink, &mut machine, &mut clock).number();
-    drop(words);
+    let mut keeper = MemoryKeeper::new(alloc, Vec::new(alloc), Vec::new(alloc));
+    let mut door = MemoryDoor::new(alloc, Vec::new(alloc), Vec::new(alloc));
+    let status = run(alloc, row.words, &mut source, sink, &mut keeper, &mut door);
     drop(source);
-    drop(machine);
-    drop(clock);
-    Some(status)
+    drop(keeper);
+    drop(door);
+    status
 }
 
 /// Whether a row's run ends and writes as it says.

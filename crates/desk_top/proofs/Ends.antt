@@ -11,7 +11,7 @@ use Rattle.line_forms.specs.LineStates as states
 use Rattle.world_text.specs.Fronts.{Splits}
 use Rattle.world_text.specs.Texts.{Describes, ReadsWorld}
 use Rattle.desk_top.specs.declared.command.DeskCommand.{DeskCommand}
-use Rattle.desk_top.specs.declared.command.DeskCommand.TheVariants.{Qna, QnaWorld, Check, Make, Help}
+use Rattle.desk_top.specs.declared.command.DeskCommand.TheVariants.{Qna, QnaWorld, Check, Make, Serve, Relay, Agent, Help}
 use Rattle.desk_top.specs.declared.status.Status.{Status}
 use Rattle.desk_top.specs.declared.status.Status.TheVariants.{Done, Usage, Refused, Source, Sink, Clock, Pocket, Keeper, Door, Memory, InputTooLong}
 use Rattle.site_check.specs.declared.finding.Finding.{Finding}
@@ -60,6 +60,9 @@ good_not_refused one front is_read Qna input line good refused = refused
 good_not_refused one front is_read QnaWorld input line good (number, bad, is) = good_not_bad front is_read input number good bad
 good_not_refused one front is_read Check input line (fixlets, baselines, good) (f, found, refusal, is) = refusal_not_good one input f fixlets baselines found refusal good
 good_not_refused one front is_read (Make number) input line good refused = refused
+good_not_refused one front is_read (Serve asked) input line good refused = refused
+good_not_refused one front is_read (Relay asked) input line good refused = refused
+good_not_refused one front is_read (Agent asked) input line good refused = refused
 good_not_refused one front is_read Help input line good refused = refused
 
 checked_refused : OneFinding → (input : List ℕ) (f : Finding) (status : Status) (old new : SinkView) (Unwritten : Type 0) → IsRefusal f → status ≡ Refused → Finds input f

@@ -22,11 +22,12 @@ use Rattle.rel_session.specs.Devices.{Devices, DidAll}
 use Rattle.rel_session.specs.Lines.{lines_of}
 use Rattle.rel_session.specs.Sessions.{Answers, Asks, Run, Runs, Session, begins_with_colon, fresh}
 use Rattle.desk_top.specs.declared.command.DeskCommand.{DeskCommand}
-use Rattle.desk_top.specs.declared.command.DeskCommand.TheVariants.{Qna, QnaWorld, Check, Make, Help}
+use Rattle.desk_top.specs.declared.command.DeskCommand.TheVariants.{Qna, QnaWorld, Check, Make, Serve, Relay, Agent, Help}
 use Rattle.site_check.specs.declared.finding.Finding.TheVariants.{Good}
 use Rattle.site_check.specs.Lines.{finding_line}
 use Rattle.desk_top.proofs.Ends.{OneFinding, OneFront, refusal_known}
-use Rattle.desk_top.specs.Commands.{help_text}
+use Rattle.desk_top.specs.AllDevices.{AllDevices, asking}
+use Rattle.desk_top.specs.Commands.{AsksUpstream, HoldsTalks, help_text}
 use Rattle.desk_top.specs.Said.{Did, DidDescribed, Refuses}
 use Rattle.desk_top.specs.Tellings.{RanAlike, TellsAll}
 use Rattle.desk_top.specs.WorldInputs.{IsBadInput, IsWorldInput, bad_line}
@@ -77,7 +78,7 @@ none_failed : (n old new : ℕ) → old < 2 ^ 64 - 1 → new ≡ old → RoseBy 
 none_failed n old new below same rose = let Rises : ℕ → Type 0 = λ x. RoseBy n old x in no_faults n old below (subst Rises same rose)
 
 -- what known bytes, keys or moments grow to is fixed by what they grow by
-bytes_fixed : (old one other : Option (List ℕ)) (held bs cs : List ℕ) → old ≡ Some held → bs ≡ cs → Appends old one bs → Appends old other cs → one ≡ other
+pub bytes_fixed : (old one other : Option (List ℕ)) (held bs cs : List ℕ) → old ≡ Some held → bs ≡ cs → Appends old one bs → Appends old other cs → one ≡ other
 bytes_fixed None one other held bs cs holds same p q = absurd (cc)
 bytes_fixed (Some xs) None other held bs cs holds same p q = absurd p
 bytes_fixed (Some xs) (Some ys) None held bs cs holds same p q = absurd q
@@ -143,22 +144,25 @@ world_once one_run front input held old one other holds w rest is did w' rest' i
     let OfRest : List ℕ → Type 0 = λ l. DidDescribed w l old other in
     described_once one_run w rest held old one other holds did (subst OfRest same.1 (subst InWorld same.0 did'))
 
-pub bytes_once : OneRun → OneFinding → OneFront → (command : DeskCommand) (input : List ℕ) (old one other : Devices) → TellsAll old → RanAlike old one other
-    → Did command input old one → Did command input old other → one.sink.held ≡ other.sink.held
-bytes_once one_run finding front Qna input old one other tells alike did did' = (qna_once one_run input old one other tells alike did did').0
-bytes_once one_run finding front QnaWorld input old one other tells alike (v, rest, is, did) (v', rest', is', did') =
+pub bytes_once : OneRun → OneFinding → OneFront → (command : DeskCommand) (input : List ℕ) (old one other : AllDevices) → (HoldsTalks command → ⊥) → (AsksUpstream command → ⊥) → TellsAll (asking old)
+    → RanAlike (asking old) (asking one) (asking other) → Did command input old one → Did command input old other → one.sink.held ≡ other.sink.held
+bytes_once one_run finding front Qna input old one other no_talks no_link tells alike did did' = (qna_once one_run input (asking old) (asking one) (asking other) tells alike did did').0
+bytes_once one_run finding front QnaWorld input old one other no_talks no_link tells alike (v, rest, is, did) (v', rest', is', did') =
     world_once one_run front input tells.held old.sink one.sink other.sink tells.holds v rest is did v' rest' is' did'
-bytes_once one_run finding front Check input old one other tells alike (fixlets, baselines, found, is) (fixlets', baselines', found', is') =
+bytes_once one_run finding front Check input old one other no_talks no_link tells alike (fixlets, baselines, found, is) (fixlets', baselines', found', is') =
     let same = finding input (Good fixlets baselines) (Good fixlets' baselines') found found' (λ e. cc) (λ e. cc) in
     bytes_fixed old.sink.held one.sink.held other.sink.held tells.held (finding_line (Good fixlets baselines)) (finding_line (Good fixlets' baselines')) tells.holds (ap finding_line same) is is'
-bytes_once one_run finding front (Make number) input old one other tells alike did did' =
+bytes_once one_run finding front (Make number) input old one other no_talks no_link tells alike did did' =
     bytes_fixed old.sink.held one.sink.held other.sink.held tells.held (office_of number) (office_of number) tells.holds refl did did'
-bytes_once one_run finding front Help input old one other tells alike did did' =
+bytes_once one_run finding front (Serve asked) input old one other no_talks no_link tells alike did did' = absurd (no_talks tt)
+bytes_once one_run finding front (Relay asked) input old one other no_talks no_link tells alike did did' = absurd (no_talks tt)
+bytes_once one_run finding front (Agent asked) input old one other no_talks no_link tells alike did did' = absurd (no_link tt)
+bytes_once one_run finding front Help input old one other no_talks no_link tells alike did did' =
     bytes_fixed old.sink.held one.sink.held other.sink.held tells.held help_text help_text tells.holds refl did did'
 
-pub looks_once : OneRun → (input : List ℕ) (old one other : Devices) → TellsAll old → RanAlike old one other
+pub looks_once : OneRun → (input : List ℕ) (old one other : AllDevices) → TellsAll (asking old) → RanAlike (asking old) (asking one) (asking other)
     → Did Qna input old one → Did Qna input old other → one.machine.looked ≡ other.machine.looked
-looks_once one_run input old one other tells alike did did' = (qna_once one_run input old one other tells alike did did').1
+looks_once one_run input old one other tells alike did did' = (qna_once one_run input (asking old) (asking one) (asking other) tells alike did did').1
 
 -- an input has one first bad line
 one_bad_line : OneFront → (input : List ℕ) (m n : ℕ) → IsBadInput input m → IsBadInput input n → m ≡ n
@@ -175,4 +179,7 @@ refusal_once one front QnaWorld input a b (m, bad, is) (n, bad', is') = is ∙ a
 refusal_once one front Check input a b (f, found, refusal, is) (g, found', refusal', is') =
     is ∙ ap finding_line (one input f g found found' (refusal_known f refusal) (refusal_known g refusal')) ∙ sym is'
 refusal_once one front (Make number) input a b x y = absurd x
+refusal_once one front (Serve asked) input a b x y = absurd x
+refusal_once one front (Relay asked) input a b x y = absurd x
+refusal_once one front (Agent asked) input a b x y = absurd x
 refusal_once one front Help input a b x y = absurd x

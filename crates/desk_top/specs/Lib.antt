@@ -1,5 +1,10 @@
 pub mod Commands
 pub mod WorldInputs
+pub mod Counted
+pub mod Relayed
+pub mod Rounded
+pub mod AllDevices
+pub mod Served
 pub mod Said
 pub mod Statuses
 pub mod Runs

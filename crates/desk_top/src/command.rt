@@ -1,16 +1,52 @@
 // The table of commands: how words ask for one, and the help, which has a line for each.
-ghost use Rattle.std.specs.Prelude.{◌≡◌, ◌↔◌, ℕ, map, IsTrue, MatchOption};
-ghost use Rattle.desk_top.specs.Commands.{Asks, IsNoCommand, help_text};
+ghost use Rattle.std.specs.Prelude.{◌≡◌, MatchOption};
+ghost use Rattle.desk_top.specs.Commands.{AskNoDevices, Asks, IsNoCommand, help_text};
 
-use line_forms::read_number;
+use crate::words::{are_spelled, number_to_make, what_to_relay, what_to_round, what_to_serve};
 use rel_lexer::Text;
 
-/// The most computers that `make` makes.
-const MOST_COMPUTERS: u64 = 2_000;
+/// What stands behind `serve`.
+#[derive(Clone, Copy)]
+pub struct ServeWords<'a> {
+    /// The port of the door, from 1 to 65,535.
+    pub port: u16,
+    /// Where the keeper keeps its tables.
+    pub keep: &'a Text,
+    /// How many conversations are held, from 1 to 1,000,000.
+    pub count: u32,
+}
+
+/// What stands behind `relay`.
+#[derive(Clone, Copy)]
+pub struct RelayWords<'a> {
+    /// The port of the door, from 1 to 65,535.
+    pub port: u16,
+    /// Where the upstream is.
+    pub upstream: &'a Text,
+    /// How many conversations are held, from 1 to 1,000,000.
+    pub count: u32,
+}
+
+/// What stands behind `agent`.
+#[derive(Clone, Copy)]
+pub struct AgentWords<'a> {
+    /// Where the upstream is.
+    pub upstream: &'a Text,
+    /// Where the pocket keeps its text.
+    pub pocket: &'a Text,
+    /// The work folder of the machine.
+    pub work: &'a Text,
+    /// The name of the computer.
+    pub name: &'a Text,
+    /// In minutes east of UTC, from -840 to 840.
+    pub offset: i64,
+    /// How many rounds are made, from 1 to 1,000,000.
+    pub count: u32,
+}
 
 /// What the words of the command line can ask for.
 #[derive(Clone, Copy)]
-pub enum DeskCommand {
+pub enum DeskCommand<'a> {
     /// Questions to this machine: each line of the source is one, or a command that begins with `:`.
     Qna,
     /// The same of a described world, whose text the source begins with.
@@ -19,12 +55,19 @@ pub enum DeskCommand {
     Check,
     /// The text of an office with so many computers, from 1 to 2,000.
     Make(u32),
+    /// Conversations over the door, which a server answers from the keeper.
+    Serve(ServeWords<'a>),
+    /// Conversations over the door, which a relay answers, and rounds over the link to its upstream.
+    Relay(RelayWords<'a>),
+    /// Rounds of an agent over the machine, with an upstream.
+    Agent(AgentWords<'a>),
     /// The words of each command.
     Help,
 }
 
 /// The command that has these words.
-pub(crate) fn command_of(words: &[Text]) -> Option<DeskCommand>
+#[tactic(auto, using(crate::proofs::WordsOfServe::no_command))]
+pub(crate) fn command_of<'a>(words: &'a [Text]) -> Option<DeskCommand<'a>>
     ensures { MatchOption result (IsNoCommand words.now) (Asks words.now) }
 {
     if are_spelled(words, &["qna"]) {
@@ -40,53 +83,31 @@ pub(crate) fn command_of(words: &[Text]) -> Option<DeskCommand>
         return Some(DeskCommand::Help);
     }
     let Some(number) = number_to_make(words) else {
-        return None;
+        return command_with_devices(words);
     };
     Some(DeskCommand::Make(number))
 }
 
-fn are_spelled(words: &[Text], spelled: &[&str]) -> bool
-    ensures { IsTrue result ↔ (words.now ≡ map (λ word. word.now) spelled.now) }
+/// The command over the door or the link that has these words.
+fn command_with_devices<'a>(words: &'a [Text]) -> Option<DeskCommand<'a>>
+    ensures { MatchOption result (AskNoDevices words.now) (Asks words.now) }
 {
-    match (words.split_first(), spelled.split_first()) {
-        (None, None) => true,
-        (Some((word, words)), Some((first, spelled))) => {
-            word.as_str() == *first && are_spelled(words, spelled)
-        }
-        _ => false,
+    if let Some(asked) = what_to_serve(words) {
+        return Some(DeskCommand::Serve(asked));
+    }
+    if let Some(asked) = what_to_relay(words) {
+        return Some(DeskCommand::Relay(asked));
+    }
+    match what_to_round(words) {
+        Some(asked) => Some(DeskCommand::Agent(asked)),
+        None => None,
     }
 }
 
-/// How many computers the words ask `make` for.
-fn number_to_make(words: &[Text]) -> Option<u32>
-    ensures { MatchOption result ((number : ℕ) → ¬ Asks words.now (DeskCommand.Make number))
-        (λ number. Asks words.now (DeskCommand.Make number)) }
-{
-    let Some((word, words)) = words.split_first() else {
-        return None;
-    };
-    let Some((number, words)) = words.split_first() else {
-        return None;
-    };
-    if !words.is_empty() {
-        return None;
-    }
-    if word.as_str() != "make" {
-        return None;
-    }
-    let Some(number) = read_number(number.as_str().as_bytes(), MOST_COMPUTERS) else {
-        return None;
-    };
-    if number == 0 {
-        return None;
-    }
-    Some(number as u32)
-}
-
-/// A line for each command. N stands for a number.
+/// A line for each command. Words in capitals stand for its numbers and texts.
 #[tactic(auto, unfolding(crate::specs::Commands::help_text))]
 pub(crate) fn help() -> &'static [u8]
     ensures { result.now ≡ help_text }
 {
-    b"desk qna\ndesk qna --world\ndesk check\ndesk make N\ndesk --help\n"
+    b"desk qna\ndesk qna --world\ndesk check\ndesk make N\ndesk serve PORT KEEP N\ndesk relay PORT UPSTREAM N\ndesk agent UPSTREAM POCKET WORK NAME OFFSET N\ndesk --help\n"
 }

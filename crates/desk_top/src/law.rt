@@ -1,8 +1,7 @@
 // What holds of every run of a command, of every schedule of the delivery of reports, and of every office that is played.
-ghost use Rattle.std.specs.Prelude.{◌≡◌, All, ℕ, ℤ, List};
+ghost use Rattle.std.specs.Prelude.{◌≡◌, [], All, ℕ, ℤ, List, Some};
 ghost use Rattle.desk_base.specs.Flow.{IsFront};
 ghost use Rattle.bf_machine.specs.Steps.{SameButPolls};
-ghost use Rattle.rel_session.specs.Devices.{Devices};
 ghost use Rattle.fix_site.specs.declared.site.Site.{Site};
 ghost use Rattle.server_text.specs.Entries.{Entry};
 ghost use Rattle.office_text.specs.declared.order.Order.{Order};
@@ -14,26 +13,41 @@ ghost use Rattle.office_rules.specs.OfficeSchedules.{ReachesOffice, SaysNoConfli
 ghost use Rattle.office_rules.specs.Plays.{IsFrontOfPlay, IsPlayed};
 ghost use Rattle.office_rules.specs.PrintedAnswers.{AreAlike, PrintsAnswers};
 ghost use Rattle.desk_top.specs.declared.command.DeskCommand.{DeskCommand};
-ghost use Rattle.desk_top.specs.declared.command.DeskCommand.TheVariants.{Qna};
+ghost use Rattle.desk_serve.specs.OneServing.{IsSteady, LeaveAlike, TellsScene};
+ghost use Rattle.desk_top.specs.declared.command.DeskCommand.TheVariants.{Qna, Serve};
+ghost use Rattle.desk_top.specs.declared.command.ServeWords.{ServeWords};
+ghost use Rattle.desk_top.specs.AllDevices.{AllDevices, asking, serving};
+ghost use Rattle.desk_top.specs.Commands.{AsksUpstream, HoldsTalks};
 ghost use Rattle.desk_top.specs.Said.{Did, IsGoodInput, Refuses};
 ghost use Rattle.desk_top.specs.Tellings.{RanAlike, TellsAll};
 
+use desk_serve::one_serving;
 use rel_session::{PlainReader, one_run};
 use site_check::one_finding;
 use world_text::{a_world_is_read, one_front};
 
-/// A command says one thing: where no look fails, what is written is fixed by the input, the machine's world and the moments that the
-/// clock gives. So are the keys that `qna` looks up. An input is refused in one way, and none that a command takes is refused.
+/// A command that isn't `relay` or `agent` says one thing: where no look fails, what is written is fixed by the input, the machine's world
+/// and the moments that the clock gives, or where no keeper and no door fails, by what is kept and what the peers say. So are the keys that
+/// `qna` looks up, what is written to peers, and what is kept then. Of any command, an input is refused in one way, and none that it takes
+/// is refused.
 pub fn one_said()
-    ensures bytes { (command : DeskCommand) (input : List ℕ) (old one other : Devices) → TellsAll old → RanAlike old one other
+    ensures bytes { (command : DeskCommand) (input : List ℕ) (old one other : AllDevices) → ¬ HoldsTalks command
+        → ¬ AsksUpstream command → TellsAll (asking old) → RanAlike (asking old) (asking one) (asking other)
         → Did command input old one → Did command input old other → one.sink.held ≡ other.sink.held }
-    ensures looks { (input : List ℕ) (old one other : Devices) → TellsAll old → RanAlike old one other
-        → Did Qna input old one → Did Qna input old other → one.machine.looked ≡ other.machine.looked }
+    ensures looks { (input : List ℕ) (old one other : AllDevices) → TellsAll (asking old)
+        → RanAlike (asking old) (asking one) (asking other) → Did Qna input old one → Did Qna input old other
+        → one.machine.looked ≡ other.machine.looked }
+    ensures served { (asked : ServeWords) (held : List ℕ) (coming written : List (List ℕ)) (accepted : List Entry)
+        (old one other : AllDevices) → old.sink.held ≡ Some held → TellsScene coming written accepted (serving old)
+        → Did (Serve asked) [] old one → Did (Serve asked) [] old other → IsSteady (serving old) (serving one)
+        → IsSteady (serving old) (serving other)
+        → (one.sink.held ≡ other.sink.held) × LeaveAlike (serving one) (serving other) }
     ensures refusals { (command : DeskCommand) (input a b : List ℕ) → Refuses command input a → Refuses command input b → a ≡ b }
     ensures apart { (command : DeskCommand) (input line : List ℕ) → IsGoodInput command input → ¬ Refuses command input line }
 {
     // Proof: this is made of the laws of the parts.
     one_run::<PlainReader>();
+    one_serving();
     one_finding();
     one_front();
     a_world_is_read();

@@ -6,10 +6,14 @@ mod command;
 mod described;
 mod law;
 mod questions;
+mod relayed;
+mod rounded;
+mod served;
 mod status;
 mod top;
+mod words;
 
-pub use command::DeskCommand;
+pub use command::{AgentWords, DeskCommand, RelayWords, ServeWords};
 pub use law::{
     commands_are_printed_as_answered, fronts_begin_the_play, one_play, one_said,
     played_offices_are_schedules, what_is_dropped_is_held,

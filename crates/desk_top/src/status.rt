@@ -1,6 +1,10 @@
 ghost use Rattle.std.specs.Prelude.{◌≡◌};
+ghost use Rattle.desk_top.specs.Rounded.{status_of_rounds};
+ghost use Rattle.desk_top.specs.Served.{status_of_stop};
 ghost use Rattle.desk_top.specs.Statuses.{status_number, status_of};
 
+use desk_runs::AgentStop;
+use desk_serve::Stop;
 use rel_session::Halt;
 
 /// How a run ended. The program exits with its number, 0 to 10 in this order.
@@ -39,6 +43,29 @@ impl Status {
             Halt::Sink => Status::Sink,
             Halt::Clock => Status::Clock,
             Halt::Memory => Status::Memory,
+        }
+    }
+
+    /// The status of a run of conversations that was cut.
+    pub(crate) fn of_stop(stop: Stop) -> Status
+        ensures { result ≡ status_of_stop stop }
+    {
+        match stop {
+            Stop::Door => Status::Door,
+            Stop::Sink => Status::Sink,
+            Stop::Memory => Status::Memory,
+        }
+    }
+
+    /// The status of rounds that were cut.
+    pub(crate) fn of_rounds(stop: AgentStop) -> Status
+        ensures { result ≡ status_of_rounds stop }
+    {
+        match stop {
+            AgentStop::Clock => Status::Clock,
+            AgentStop::Pocket => Status::Pocket,
+            AgentStop::Sink => Status::Sink,
+            AgentStop::Memory => Status::Memory,
         }
     }
 

@@ -3,8 +3,9 @@ ghost use Rattle.std.specs.Io.KnownBytes.{Appends};
 ghost use Rattle.desk_base.specs.Counts.{CountsAtMost, CountsFaults};
 ghost use Rattle.desk_base.specs.Flow.{AppendsSome, IsFront};
 ghost use Rattle.bf_machine.specs.Views.{OnlyLooks};
-ghost use Rattle.desk_top.specs.Commands.{AsksSome, IsCommand, ReadsSource};
-ghost use Rattle.desk_top.specs.Endings.{CountsByStatus, Comes, Ended, all_devices};
+ghost use Rattle.desk_top.specs.AllDevices.{all_devices};
+ghost use Rattle.desk_top.specs.Commands.{AsksSome, AsksUpstream, HoldsTalks, IsAgents, IsCommand, ReadsSource, UsesKeeper};
+ghost use Rattle.desk_top.specs.Endings.{CountsByStatus, Comes, Ended};
 ghost use Rattle.office_text.specs.Made.{office_of};
 ghost use Rattle.desk_top.specs.Runs.{input_limit, ReadsInput};
 ghost use Rattle.desk_top.specs.Said.{AsksDevices};
@@ -12,9 +13,16 @@ ghost use Rattle.desk_top.specs.Said.{AsksDevices};
 use crate::checks::check_input;
 use crate::command::{DeskCommand, command_of, help};
 use crate::questions::{ask_machine, ask_world};
+use crate::relayed::relay_asked;
+use crate::rounded::agent_asked;
+use crate::served::serve_asked;
 use crate::status::Status;
+use agent_text::Pocket;
 use bf_machine::Machine;
 use desk_base::{Bytes, Clock, Put, Sink, Source, Whole, read_all};
+use desk_door::{Door, Link};
+use desk_keep::Keeper;
+use line_forms::lines_are_read_again;
 use office_text::make;
 use rel_lexer::Text;
 use rel_session::{Halt, put};
@@ -23,31 +31,49 @@ use std::alloc::Global;
 /// The most bytes that a source may give.
 const INPUT_LIMIT: usize = 8_388_608;
 
-/// Runs the words, without the program's name, and answers how that ended: Done, Usage, Refused, Source, Sink, Clock, Memory or
-/// InputTooLong. A command that reads the source reads it whole, up to 8,388,608 bytes, before anything is written.
-pub fn desk<S: Source, W: Sink, M: Machine, C: Clock>(
+/// Runs the words, without the program's name, and answers how that ended. A command that reads the source reads it whole, up to 8,388,608
+/// bytes, before anything is written.
+pub fn desk<S: Source, W: Sink, M: Machine, P: Pocket, K: Keeper, D: Door, L: Link, C: Clock>(
     alloc: Global,
     words: &[Text],
     source: &mut S,
     sink: &mut W,
     machine: &mut M,
+    pocket: &mut P,
+    keeper: &mut K,
+    door: &mut D,
+    link: &mut L,
     clock: &mut C,
 ) -> Status
     // What was done, by the status; and which status must come.
     ensures ended { Ended result words.now
-        (all_devices (S.told source.old) (W.told sink.old) (M.told machine.old) (C.told clock.old))
-        (all_devices (S.told source.new) (W.told sink.new) (M.told machine.new) (C.told clock.new))
-        ((sink.new ≡ sink.old) × (machine.new ≡ machine.old) × (clock.new ≡ clock.old)) }
-    ensures comes { Comes words.now (S.told source.old).left result }
+        (all_devices (S.told source.old) (W.told sink.old) (M.told machine.old) (P.told pocket.old)
+        (K.told keeper.old) (D.told door.old) (L.told link.old) (C.told clock.old))
+        (all_devices (S.told source.new) (W.told sink.new) (M.told machine.new) (P.told pocket.new)
+        (K.told keeper.new) (D.told door.new) (L.told link.new) (C.told clock.new))
+        (record {
+          sink = sink.new ≡ sink.old;
+          machine = machine.new ≡ machine.old;
+          clock = clock.new ≡ clock.old;
+          door = door.new ≡ door.old;
+        }) }
+    ensures comes { Comes words.now (S.told source.old).left (P.told pocket.old).saved result }
 
-    // No count of faults falls, and none rises but for the fault that ended the run, and the machine's.
+    // No count of faults falls. None rises but for the fault that ended the run, the machine's, and those of conversations and of links.
     ensures counts { CountsByStatus result
-        (all_devices (S.told source.old) (W.told sink.old) (M.told machine.old) (C.told clock.old))
-        (all_devices (S.told source.new) (W.told sink.new) (M.told machine.new) (C.told clock.new)) }
+        (all_devices (S.told source.old) (W.told sink.old) (M.told machine.old) (P.told pocket.old)
+        (K.told keeper.old) (D.told door.old) (L.told link.old) (C.told clock.old))
+        (all_devices (S.told source.new) (W.told sink.new) (M.told machine.new) (P.told pocket.new)
+        (K.told keeper.new) (D.told door.new) (L.told link.new) (C.told clock.new)) }
 
-    // Questions only look, and only `qna` asks the machine and the clock.
-    ensures looks { OnlyLooks (M.told machine.old) (M.told machine.new) }
+    // Only `agent` does more with the machine than to look, and only `agent` uses the pocket. No other command than `qna` and `agent` asks
+    // the machine and the clock, than `serve` the keeper, than `serve` and `relay` the door, than `relay` and `agent` the link.
+    ensures looks { ¬ AsksSome words.now IsAgents → OnlyLooks (M.told machine.old) (M.told machine.new) }
+    ensures unsaved { ¬ AsksSome words.now IsAgents → pocket.new ≡ pocket.old }
     ensures unasked { ¬ AsksSome words.now AsksDevices → (machine.new ≡ machine.old) × (clock.new ≡ clock.old) }
+    ensures unkept { ¬ AsksSome words.now UsesKeeper → keeper.new ≡ keeper.old }
+    ensures unserved { ¬ AsksSome words.now HoldsTalks → door.new ≡ door.old }
+    ensures unlinked { ¬ AsksSome words.now AsksUpstream → link.new ≡ link.old }
 
     // The source is read at most so often, and is as it was where it isn't read.
     ensures reads { CountsAtMost (S.told source.old).reads (S.told source.new).reads (input_limit + 1) }
@@ -68,6 +94,13 @@ pub fn desk<S: Source, W: Sink, M: Machine, C: Clock>(
             Ok(()) => Status::Done,
             Err(halt) => Status::of_halt(halt),
         },
+        DeskCommand::Serve(asked) => serve_asked(alloc, asked, keeper, door, sink),
+        DeskCommand::Relay(asked) => relay_asked(alloc, asked, door, link, sink),
+        DeskCommand::Agent(asked) => {
+            // Proof: so that a text that a pocket's reader refuses is none that it reads.
+            lines_are_read_again();
+            agent_asked(alloc, asked, machine, pocket, link, clock, sink)
+        }
         DeskCommand::Qna => match read_input(alloc, source) {
             Ok(input) => ask_machine(alloc, input.as_slice(), sink, machine, clock),
             Err(status) => status,

@@ -1,11 +1,7 @@
-use Rattle.std.proofs.Common.{rules, ◌≡◌, ◌≤◌, List, [], ◌∷◌, arith, sym, ap, ◌∙◌, length, refl}
+use Rattle.std.proofs.Common.{rules, ◌≡◌, ◌≤◌, [], ◌∷◌, arith, sym, ap, ◌∙◌, length}
 use Rattle.std.specs.Prelude.{codes, decimal}
-use Rattle.desk_top.proofs.command.number_to_make.Goals as goal
-
--- a list without items
-none_more : {A : Type 0} (xs : List A) → length xs ≡ 0 → xs ≡ []
-none_more [] h = refl
-none_more (x ∷ xs) h = absurd (omega arith)
+use Rattle.desk_top.proofs.WordsOfServe.{none_more}
+use Rattle.desk_top.proofs.words.number_to_make.Goals as goal
 
 pub returns : goal.returns
 returns c =

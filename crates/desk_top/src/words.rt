@@ -1,0 +1,262 @@
+// What the words of the command line spell.
+ghost use Rattle.std.specs.Prelude.{◌≡◌, ◌≢◌, ◌↔◌, ℕ, ◌<◌, List, [], ◌∷◌, length, decimal, map, IsTrue, MatchOption};
+ghost use Rattle.std.specs.Fmt.{signed_decimal};
+ghost use Rattle.line_forms.specs.Numbers.{IsOffset};
+ghost use Rattle.desk_top.specs.declared.command.AgentWords.{AgentWords};
+ghost use Rattle.desk_top.specs.declared.command.RelayWords.{RelayWords};
+ghost use Rattle.desk_top.specs.declared.command.ServeWords.{ServeWords};
+ghost use Rattle.desk_top.specs.Commands.{Asks, IsOneTo, NamesPlaces, agent_words, with_three};
+
+use crate::command::{AgentWords, DeskCommand, RelayWords, ServeWords};
+use line_forms::{read_name, read_number, read_offset};
+use rel_lexer::Text;
+
+/// The most computers that `make` makes.
+const MOST_COMPUTERS: u64 = 2_000;
+
+/// The last port.
+const LAST_PORT: u64 = 65_535;
+
+/// The most conversations that `serve` and `relay` hold, and the most rounds that `agent` makes.
+const MOST_STEPS: u64 = 1_000_000;
+
+pub(crate) fn are_spelled(words: &[Text], spelled: &[&str]) -> bool
+    ensures { IsTrue result ↔ (words.now ≡ map (λ word. word.now) spelled.now) }
+{
+    match (words.split_first(), spelled.split_first()) {
+        (None, None) => true,
+        (Some((word, words)), Some((first, spelled))) => {
+            word.as_str() == *first && are_spelled(words, spelled)
+        }
+        _ => false,
+    }
+}
+
+/// How many computers the words ask `make` for.
+pub(crate) fn number_to_make(words: &[Text]) -> Option<u32>
+    ensures { MatchOption result ((number : ℕ) → ¬ Asks words.now (DeskCommand.Make number))
+        (λ number. Asks words.now (DeskCommand.Make number)) }
+{
+    let Some((word, words)) = words.split_first() else {
+        return None;
+    };
+    let Some((number, words)) = words.split_first() else {
+        return None;
+    };
+    if !words.is_empty() {
+        return None;
+    }
+    if word.as_str() != "make" {
+        return None;
+    }
+    let Some(number) = read_number(number.as_str().as_bytes(), MOST_COMPUTERS) else {
+        return None;
+    };
+    if number == 0 {
+        return None;
+    }
+    Some(number as u32)
+}
+
+/// Three words, and the others behind them.
+#[derive(Clone, Copy)]
+struct FirstThree<'a> {
+    first: &'a Text,
+    second: &'a Text,
+    third: &'a Text,
+    others: &'a [Text],
+}
+
+fn first_three<'a>(words: &'a [Text]) -> Option<FirstThree<'a>>
+    ensures { MatchOption result (length words.now < 3)
+        (λ three. words.now ≡ three.first.now ∷ three.second.now ∷ three.third.now ∷ three.others.now) }
+{
+    let Some((first, words)) = words.split_first() else {
+        return None;
+    };
+    let Some((second, words)) = words.split_first() else {
+        return None;
+    };
+    let Some((third, others)) = words.split_first() else {
+        return None;
+    };
+    Some(FirstThree {
+        first,
+        second,
+        third,
+        others,
+    })
+}
+
+/// The words behind the first one, where that is this one.
+fn behind<'a>(words: &'a [Text], command: &str) -> Option<&'a [Text]>
+    ensures { MatchOption result ((others : List (List ℕ)) → words.now ≢ command.now ∷ others)
+        (λ others. words.now ≡ command.now ∷ others.now) }
+{
+    let Some((word, others)) = words.split_first() else {
+        return None;
+    };
+    if word.as_str() != command {
+        return None;
+    }
+    Some(others)
+}
+
+/// What stands behind a command, where that is the first of four words.
+fn three_behind<'a>(words: &'a [Text], command: &str) -> Option<FirstThree<'a>>
+    ensures { MatchOption result
+        ((first second third : List ℕ) → words.now ≢ with_three command.now first second third)
+        (λ three. words.now ≡ with_three command.now three.first.now three.second.now three.third.now) }
+{
+    let Some(words) = behind(words, command) else {
+        return None;
+    };
+    let Some(three) = first_three(words) else {
+        return None;
+    };
+    if !three.others.is_empty() {
+        return None;
+    }
+    Some(three)
+}
+
+/// The six words behind `agent`.
+#[derive(Clone, Copy)]
+struct BehindAgent<'a> {
+    upstream: &'a Text,
+    pocket: &'a Text,
+    work: &'a Text,
+    name: &'a Text,
+    offset: &'a Text,
+    count: &'a Text,
+}
+
+/// What stands behind `agent`, where that is the first of seven words.
+fn behind_agent<'a>(words: &'a [Text]) -> Option<BehindAgent<'a>>
+    ensures { MatchOption result
+        ((upstream pocket work name offset count : List ℕ) → words.now ≢ agent_words upstream pocket work name offset count)
+        (λ it. words.now ≡ agent_words it.upstream.now it.pocket.now it.work.now it.name.now it.offset.now it.count.now) }
+{
+    let Some(words) = behind(words, "agent") else {
+        return None;
+    };
+    let Some(places) = first_three(words) else {
+        return None;
+    };
+    let Some(values) = first_three(places.others) else {
+        return None;
+    };
+    if !values.others.is_empty() {
+        return None;
+    }
+    Some(BehindAgent {
+        upstream: places.first,
+        pocket: places.second,
+        work: places.third,
+        name: values.first,
+        offset: values.second,
+        count: values.third,
+    })
+}
+
+/// What the words ask `serve` for.
+#[tactic(auto, using(crate::proofs::WordsOfServe::no_words, crate::proofs::WordsOfServe::no_port, crate::proofs::WordsOfServe::no_count, crate::proofs::WordsOfServe::no_keep, crate::proofs::WordsOfServe::asks_serve))]
+pub(crate) fn what_to_serve<'a>(words: &'a [Text]) -> Option<ServeWords<'a>>
+    ensures { MatchOption result ((asked : ServeWords) → ¬ Asks words.now (DeskCommand.Serve asked))
+        (λ asked. Asks words.now (DeskCommand.Serve asked)) }
+{
+    let Some(behind) = three_behind(words, "serve") else {
+        return None;
+    };
+    let Some(port) = number_up_to(behind.first, LAST_PORT) else {
+        return None;
+    };
+    let Some(count) = number_up_to(behind.third, MOST_STEPS) else {
+        return None;
+    };
+    if behind.second.as_str().is_empty() {
+        return None;
+    }
+    Some(ServeWords {
+        port: port as u16,
+        keep: behind.second,
+        count: count as u32,
+    })
+}
+
+/// What the words ask `relay` for.
+#[tactic(auto, using(crate::proofs::WordsOfRelay::no_words, crate::proofs::WordsOfRelay::no_port, crate::proofs::WordsOfRelay::no_count, crate::proofs::WordsOfRelay::no_upstream, crate::proofs::WordsOfRelay::asks_relay))]
+pub(crate) fn what_to_relay<'a>(words: &'a [Text]) -> Option<RelayWords<'a>>
+    ensures { MatchOption result ((asked : RelayWords) → ¬ Asks words.now (DeskCommand.Relay asked))
+        (λ asked. Asks words.now (DeskCommand.Relay asked)) }
+{
+    let Some(behind) = three_behind(words, "relay") else {
+        return None;
+    };
+    let Some(port) = number_up_to(behind.first, LAST_PORT) else {
+        return None;
+    };
+    let Some(count) = number_up_to(behind.third, MOST_STEPS) else {
+        return None;
+    };
+    if behind.second.as_str().is_empty() {
+        return None;
+    }
+    Some(RelayWords {
+        port: port as u16,
+        upstream: behind.second,
+        count: count as u32,
+    })
+}
+
+/// What the words ask `agent` for.
+#[tactic(auto, using(crate::proofs::WordsOfAgent::no_words, crate::proofs::WordsOfAgent::no_count, crate::proofs::WordsOfAgent::no_offset, crate::proofs::WordsOfAgent::no_places, crate::proofs::WordsOfAgent::asks_agent))]
+pub(crate) fn what_to_round<'a>(words: &'a [Text]) -> Option<AgentWords<'a>>
+    ensures { MatchOption result ((asked : AgentWords) → ¬ Asks words.now (DeskCommand.Agent asked))
+        (λ asked. Asks words.now (DeskCommand.Agent asked)) }
+{
+    let Some(behind) = behind_agent(words) else {
+        return None;
+    };
+    let Some(count) = number_up_to(behind.count, MOST_STEPS) else {
+        return None;
+    };
+    let Some(offset) = read_offset(behind.offset.as_str().as_bytes()) else {
+        return None;
+    };
+    if !names_places(&behind) {
+        return None;
+    }
+    Some(AgentWords {
+        upstream: behind.upstream,
+        pocket: behind.pocket,
+        work: behind.work,
+        name: behind.name,
+        offset,
+        count: count as u32,
+    })
+}
+
+/// Whether the places are named and the name is that of a computer.
+fn names_places(behind: &BehindAgent) -> bool
+    ensures { IsTrue result ↔ NamesPlaces behind.now.upstream.now behind.now.pocket.now behind.now.work.now behind.now.name.now }
+{
+    !behind.upstream.as_str().is_empty()
+        && !behind.pocket.as_str().is_empty()
+        && !behind.work.as_str().is_empty()
+        && read_name(behind.name.as_str().as_bytes()).is_some()
+}
+
+/// The number from 1 to `most` that a word spells.
+fn number_up_to(word: &Text, most: u64) -> Option<u64>
+    ensures { MatchOption result ((number : ℕ) → IsOneTo most number → word.now ≢ decimal number)
+        (λ number. IsOneTo most number × (word.now ≡ decimal number)) }
+{
+    let Some(number) = read_number(word.as_str().as_bytes(), most) else {
+        return None;
+    };
+    if number == 0 {
+        return None;
+    }
+    Some(number)
+}
