@@ -1,0 +1,3 @@
+pub mod CachedFiles
+pub mod FileRequests
+pub mod Lending
