@@ -53,6 +53,36 @@ def crate(room, name, program, stands_on, taken=(), with_libraries=False):
     return folder
 
 
+def step(name, words, folder):
+    """A step of making a program, which has to end well."""
+    run = subprocess.run(words, cwd=folder, capture_output=True, text=True, check=False)
+    if run.returncode:
+        sys.exit(f"bench/{NAME}: {name}: the program isn't made\n{run.stdout[-2000:]}{run.stderr[-2000:]}")
+
+
+def proved(folder, libraries):
+    """What the program of a folder writes, proved over the libraries of the crates in a folder (NAME.rlib) and compiled as the gate
+    compiles."""
+    kit = os.path.dirname(os.path.dirname(os.path.realpath(shutil.which("rt") or "/opt/rattle/bin/rt")))
+    libraries = os.path.abspath(libraries)
+    name = os.path.basename(folder)
+    with open(os.path.join(folder, "..", "..", "crates.txt"), encoding="utf-8") as file:
+        stands_on = re.search(rf"^{name}:(.*)$", file.read(), re.M)[1].split()
+    words = ["--crate-name", name, "src/main.rt"]
+    for library in dict.fromkeys(["core", "std", *stands_on]):
+        found = [path for path in (f"{libraries}/{library}.rlib", f"{kit}/rlibs/{library}.rlib") if os.path.isdir(path)]
+        if not found:
+            sys.exit(f"bench/{NAME}: there is no {library}.rlib in {libraries}")
+        words += ["--extern", f"{library}={found[0]}"]
+    words += ["-L", f"dependency={kit}/rlibs", "-L", f"dependency={libraries}", "--logic-built", f"{kit}/logic_built"]
+    words += ["--antt-project", f"{kit}/rattle/logic/antt-project.json", "--links", f"{name}=", "--toolchain", f"{kit}/toolchain"]
+    binary = os.path.join(folder, name)
+    step("build", [f"{kit}/bin/rattle", "build", *words, "--backend", "llvm", "-o", f"{binary}.o"], folder)
+    target = ["--target", "x86_64-unknown-linux-gnu", "--toolchain", f"{kit}/toolchain"]
+    step("link", [f"{kit}/bin/rattle-link", *target, "-o", binary, f"{binary}.o", f"{kit}/c/libos_c.a", f"{kit}/c/liblibc_c.a"], folder)
+    return subprocess.run([binary], capture_output=True, text=True, check=False).stdout
+
+
 def unproved(folder):
     """What the program of a folder writes, unproved."""
     run = subprocess.run(["rt", "try", "--seconds", "600"], cwd=folder, capture_output=True, text=True)
