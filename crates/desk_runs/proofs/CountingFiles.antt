@@ -24,10 +24,10 @@ use Rattle.desk_hosts.specs.RelayCalls.{AnswersExchange, AsksUpstream, RelayAnsw
 not_200 : ◌≡◌ {A = ℕ} 502 200 → ⊥
 not_200 h = omega (arith, h)
 
-not_400 : ◌≡◌ {A = ℕ} 502 400 → ⊥
+pub not_400 : ◌≡◌ {A = ℕ} 502 400 → ⊥
 not_400 h = omega (arith, h)
 
-not_404 : ◌≡◌ {A = ℕ} 502 404 → ⊥
+pub not_404 : ◌≡◌ {A = ℕ} 502 404 → ⊥
 not_404 h = omega (arith, h)
 
 not_409 : ◌≡◌ {A = ℕ} 502 409 → ⊥

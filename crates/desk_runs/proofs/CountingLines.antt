@@ -1,5 +1,5 @@
 -- What the lines of a relay's whole steps tell of the counts of faults.
-use Rattle.std.proofs.Common.{◌≤◌, ℕ, ◌+◌, List, arith}
+use Rattle.std.proofs.Common.{◌≤◌, ℕ, ◌+◌, List, refl, arith}
 use Rattle.std.specs.Prelude.{if◌then◌else◌}
 use Rattle.desk_base.specs.declared.sink.Put.TheVariants as put
 use Rattle.bf_machine.specs.Rises.{RoseBy}
@@ -7,10 +7,11 @@ use Rattle.bf_machine.proofs.Telling.{RoseBy-later, RoseBy-more, RoseBy-none}
 use Rattle.desk_http.specs.declared.talk.Met.{Met}
 use Rattle.desk_http.specs.declared.talk.Met.TheVariants as met
 use Rattle.desk_rounds.specs.Lines.{Line}
+use Rattle.desk_serve.specs.declared.step.Stop.TheVariants as stop
 use Rattle.desk_serve.specs.ServeCounts.{is_door_fault}
 use Rattle.desk_runs.specs.Counting.{CountsSteps, door_faults, no_answer_told, told_of_relay}
 use Rattle.desk_runs.specs.RelayRuns.{Begun, RelayRun, Runs, Then}
-use Rattle.desk_runs.specs.RelaySteps.{RelayScene, Talks, host_of}
+use Rattle.desk_runs.specs.RelaySteps.{BreaksTalk, RelayScene, Talks, host_of}
 use Rattle.desk_runs.proofs.CountingRelays.{NoneFalls, door_fault, lines_rise, talk_falls, told_falls}
 use Rattle.desk_runs.proofs.CountingRounds.{fewer, unanswered}
 
@@ -42,3 +43,8 @@ steps_counted old new (Then run ended lines) (mid, runs, (between, talk, round))
       door = RoseBy-more (door_faults run) (if is_door_fault ended then 1 else 0) old.door.faults mid.door.faults new.door.faults before.door
           (then_later (if is_door_fault ended then 1 else 0) mid.door.faults between.door.faults new.door.faults (talk_door mid between ended talk.talks) rounded.door);
     }
+
+-- and the door had no next one
+pub broken_counted : (old mid new : RelayScene) (run : RelayRun) → Runs old run mid → BreaksTalk mid stop.Door new → RoseBy (door_faults run + 1) old.door.faults new.door.faults
+broken_counted old mid new run runs none =
+    RoseBy-more (door_faults run) 1 old.door.faults mid.door.faults new.door.faults (steps_counted old mid run runs).door (none.begins.counts.rose refl)

@@ -58,7 +58,7 @@ pub record IsLater (old new : DoorView) (host host' : RelayTells) : Type 0 where
   pub door : old.faults ≤ new.faults
   pub link : host.link.faults ≤ host'.link.faults
 
-talk_later : (old new : DoorView) (host host' : RelayTells) (ended : Met) → Converses RelayCalls of_routes.Relay old host ended new host' → IsLater old new host host'
+pub talk_later : (old new : DoorView) (host host' : RelayTells) (ended : Met) → Converses RelayCalls of_routes.Relay old host ended new host' → IsLater old new host host'
 talk_later old new host host' (met.Answered status) (text, due, writes) =
     record { door = writes.counts.later; link = answer_later host host' due.heard due.whole status text due.responds }
 talk_later old new host host' met.Closed (closes, same) = let e = closes.faults in record { door = omega (arith, e); link = same_later host host' same }
@@ -79,7 +79,7 @@ pub record NoneFalls (old new : RelayScene) : Type 0 where
   pub door : old.door.faults ≤ new.door.faults
   pub link : old.link.faults ≤ new.link.faults
 
-none_fall : (a b c : RelayScene) → NoneFalls a b → NoneFalls b c → NoneFalls a c
+pub none_fall : (a b c : RelayScene) → NoneFalls a b → NoneFalls b c → NoneFalls a c
 none_fall a b c p q =
     let door_first = p.door in
     let door_then = q.door in
@@ -126,7 +126,7 @@ round_whole old new lines tells = record { falls = round_falls old new tells.the
 talk_whole : (old new : RelayScene) (ended : Met) → TellsTalk old put.Done ended new → CountsWhole old new
 talk_whole old new ended tells = record { falls = talk_falls old new ended tells.talks; sink = tells.writes.counts.steady failed_not_done }
 
-runs_whole : (old new : RelayScene) (run : RelayRun) → Runs old run new → CountsWhole old new
+pub runs_whole : (old new : RelayScene) (run : RelayRun) → Runs old run new → CountsWhole old new
 runs_whole old new (Begun lines) tells = round_whole old new lines tells
 runs_whole old new (Then run ended lines) (mid, runs, (between, talk, round)) =
     whole_both old mid new (runs_whole old mid run runs) (whole_both mid between new (talk_whole mid between ended talk) (round_whole between new lines round))

@@ -118,7 +118,7 @@ module _ (told : Line → ℕ) (miss : Miss → ℕ) (count : LinkView → ℕ) 
   asks_where false name old then lines new (goes, same) =
       none_told told lines (count old.link) (count new.link) goes.quiet (same_count old.link new.link (ap (λ (s : At K). s.link) same))
 
-  gathers_one : (site : SiteVersion) → Counts told (of_link count) (GathersOne c site)
+  pub gathers_one : (site : SiteVersion) → Counts told (of_link count) (GathersOne c site)
   gathers_one site old then lines new it = asks_where (nat_lt (version_at c old.client site.name) site.version) site.name old then lines new it
 
   gathers_listed : (came : Result (List SiteVersion) Miss) (link : LinkView) (old : At K) (then : Next) (lines : List Line) (new : At K)
@@ -142,7 +142,7 @@ module _ (told : Line → ℕ) (miss : Miss → ℕ) (count : LinkView → ℕ) 
   settles_told report (Ok judged) old then lines new (inr (goes, same)) = let e = ap (told_in told) goes.quiet in omega (arith, e)
   settles_told report (Err why) old then lines new (by, same) = missed_told why then lines by
 
-  posts_one : (report : Report) → Counts told (of_link count) (PostsOne c report)
+  pub posts_one : (report : Report) → Counts told (of_link count) (PostsOne c report)
   posts_one report old then lines new (came, asks, settles) =
       fewer (told_in told lines) (missed_of miss came) (count old.link) (count new.link) (settles_told report came old.client then lines new.client settles)
       (raises Judged (report_request report) (JudgesReport c.asker) old.link came new.link asks)
@@ -189,7 +189,7 @@ relay_round_counts =
 
 -- ---- looks that failed before an attempt began
 -- no line of these parts says so
-abbrev no_one : Miss → ℕ
+abbrev pub no_one : Miss → ℕ
 no_one why = 0
 
 abbrev pub no_count : LinkView → ℕ
@@ -200,7 +200,7 @@ miss_quiet miss.NoAnswer = omega arith
 miss_quiet miss.BadAnswer = omega arith
 miss_quiet miss.Memory = omega arith
 
-asked_quiet : RaisesBy no_count no_one
+pub asked_quiet : RaisesBy no_count no_one
 asked_quiet V request means old (Ok value) new asks = RoseBy-none 0 0 (omega arith)
 asked_quiet V request means old (Err why) new asks = RoseBy-none 0 0 (omega arith)
 

@@ -39,7 +39,7 @@ told_counts : (rounder : Rounder) (old : AgentScene) (answer : Put) (lines : Lis
     → CountsPart old.point end.Done lines new.point
 told_counts rounder old answer lines new tells = round_counted rounder old.point end.Done lines new.point tells.round
 
-whole_counted : (rounder : Rounder) (old new : AgentScene) (run : AgentRun) → Runs rounder old run new → CountsWhole old new
+pub whole_counted : (rounder : Rounder) (old new : AgentScene) (run : AgentRun) → Runs rounder old run new → CountsWhole old new
 whole_counted rounder old new Begun same =
     let machine_is = ap (λ (s : AgentScene). s.point.devices.machine.faults) same in
     let link_is = ap (λ (s : AgentScene). s.point.at.link.faults) same in record {

@@ -6,3 +6,13 @@ mod CountingRuns
 mod CountingRelays
 mod CountingLines
 mod CountingFiles
+mod CountingAnswers
+mod ShownTurns
+mod CountingFaults
+mod OneReplies
+mod OneExchanges
+mod OneParts
+mod OneRelays
+mod OneRelayRuns
+mod OneTurns
+mod OneRounds

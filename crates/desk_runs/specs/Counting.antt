@@ -1,8 +1,17 @@
 -- What runs of relays and agents do to the counts of faults.
-use Rattle.std.specs.Prelude.{ℕ, ◌+◌, ◌≤◌, List, [], ◌∷◌, if◌then◌else◌, IsErrOf}
+use Rattle.std.specs.Prelude.{◌≡◌, ◌⊎◌, ℕ, ◌+◌, ◌≤◌, List, [], ◌∷◌, Option, codes, if◌then◌else◌, IsErrOf}
 use Rattle.std.specs.declared.result.Result.{Result}
 use Rattle.desk_base.specs.Counts.{CountsFaults, Rose}
+use Rattle.desk_base.specs.declared.sink.Put.TheVariants as put
+use Rattle.desk_door.specs.Doors.{DoorView, BeginsNext}
 use Rattle.bf_machine.specs.Rises.{RoseBy}
+use Rattle.route_rules.specs.declared.route.Routes.TheVariants as routes
+use Rattle.desk_http.specs.Conversing.{IsDue}
+use Rattle.desk_hosts.specs.RelayCalls.{RelayCalls}
+use Rattle.agent_core.specs.Agents.{AgentState, shown_state}
+use Rattle.agent_core.specs.Opens.{OpensAgent}
+use Rattle.agent_core.specs.ToldFaults.{fault_told}
+use Rattle.agent_core.specs.declared.opening.Opened.TheVariants as opened
 use Rattle.agent_core.specs.declared.turned.Turned.TheVariants as turn
 use Rattle.desk_rounds.specs.Lines.{Line, no_answer, bad_answer, turned}
 use Rattle.desk_serve.specs.declared.step.Stop.{Stop}
@@ -12,7 +21,7 @@ use Rattle.desk_runs.specs.AgentRuns as agent
 use Rattle.desk_runs.specs.AgentRuns.{AgentRun}
 use Rattle.desk_runs.specs.RelayRuns as relay
 use Rattle.desk_runs.specs.RelayRuns.{RelayRun}
-use Rattle.desk_runs.specs.RelaySteps.{RelayScene}
+use Rattle.desk_runs.specs.RelaySteps.{RelayScene, TellsRound, TellsTalk, host_of}
 use Rattle.desk_runs.specs.AgentSteps.{AgentScene}
 use Rattle.desk_runs.specs.declared.rounding.AgentStop.{AgentStop}
 use Rattle.desk_runs.specs.declared.rounding.AgentStop.TheVariants as cut
@@ -46,6 +55,11 @@ abbrev pub machine_fault_told : Line → ℕ
 machine_fault_told (turned computer moment turn.MachineFault) = 1
 machine_fault_told line = 0
 
+-- one where a turn says that a look failed before an attempt began, or that an attempt ended by a fault of the machine
+abbrev pub turn_fault_told : Line → ℕ
+turn_fault_told (turned computer moment answer) = fault_told answer
+turn_fault_told line = 0
+
 -- how many lines tell so
 abbrev pub told_in : (Line → ℕ) → List Line → ℕ
 told_in told [] = 0
@@ -76,3 +90,25 @@ pub record CountsSteps (old : RelayScene) (run : RelayRun) (new : RelayScene) : 
 pub record CountsLines (old : AgentScene) (run : AgentRun) (new : AgentScene) : Type 0 where
   pub link : RoseBy (told_of_rounds no_answer_told run) old.point.at.link.faults new.point.at.link.faults
   pub machine : RoseBy (told_of_rounds machine_fault_told run) old.point.devices.machine.faults new.point.devices.machine.faults
+
+-- ---- conversations in which a relay told a fault of its link
+-- a conversation was answered `link fault`
+pub record ToldLinkFault (old new : RelayScene) : Type 0 where
+  pub begun : DoorView
+  pub begins : BeginsNext old.door put.Done begun
+  pub due : IsDue RelayCalls routes.Relay begun (host_of old) 502 (codes "link fault\n") new.door (host_of new)
+
+-- The steps of a run were whole, and at least so many of its conversations were answered so.
+abbrev pub ToldLinkFaults : RelayScene → RelayRun → ℕ → RelayScene → Type 0
+ToldLinkFaults old (relay.Begun lines) count new = (count ≡ 0) × TellsRound old put.Done lines new
+ToldLinkFaults old (relay.Then run ended lines) count new =
+    (before : ℕ) × (mid between : RelayScene) × ToldLinkFaults old run before mid × TellsTalk mid put.Done ended between
+    × TellsRound between put.Done lines new × ((count ≡ before) ⊎ ((count ≡ before + 1) × ToldLinkFault mid between))
+
+-- ---- rounds of an agent that was opened
+-- the agent was opened as this computer's, from a pocket that told this
+pub record WasOpened (computer : List ℕ) (scene : AgentScene) : Type 0 where
+  pub told : Option (Option (List ℕ))
+  pub agent : AgentState
+  pub opens : OpensAgent computer told (opened.Agent agent)
+  pub state : scene.point.at.client ≡ shown_state agent

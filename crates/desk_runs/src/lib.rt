@@ -6,8 +6,8 @@ mod relaying;
 mod rounding;
 
 pub use law::{
-    a_link_fault_was_counted, faults_of_steps_were_counted, what_ends_a_relay_was_counted,
-    what_ends_rounds_was_counted,
+    a_link_fault_was_counted, faults_of_steps_were_counted, one_relaying, one_rounding,
+    what_ends_a_relay_was_counted, what_ends_rounds_was_counted,
 };
 pub use relaying::relay_all;
 pub use rounding::{AgentStop, make_rounds};
