@@ -1,4 +1,4 @@
--- What the turns of a computer are to the delivery of reports.
+-- What the turns of a computer are to the delivery of reports. Other crates may cite these lemmas.
 use Rattle.std.proofs.Common.{◌≡◌, ◌≢◌, ◌⊎◌, ℕ, ◌+◌, Bool, true, false, cond, List, [], ◌∷◌, ◌++◌, inl, inr, Option, Some, refl, sym, ap, subst, ◌∙◌}
 use Rattle.std.specs.Prelude.{All, bytes_eq, nat_lt}
 use Rattle.std.specs.Map.{set_value}

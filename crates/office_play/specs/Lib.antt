@@ -1,0 +1,12 @@
+pub mod Words
+pub mod Shown
+pub mod Kept
+pub mod States
+pub mod Links
+pub mod Played
+pub mod Files
+pub mod Gathering
+pub mod Turning
+pub mod Messages
+pub mod Ending
+pub mod Plays

@@ -1,0 +1,25 @@
+//! Plays offices: a server, relays, computers and messages in memory, word by word, in the order of the words.
+#![tactic(auto)]
+
+mod asking;
+mod computer;
+mod delivering;
+mod ending;
+mod forgetting;
+mod forwarding;
+mod gathering;
+mod line;
+mod message;
+mod naming;
+mod obeying;
+mod office;
+mod play;
+mod pushing;
+mod relay;
+mod reporting;
+mod restarting;
+mod sending;
+mod served;
+mod turning;
+
+pub use play::{PlayEnd, play_office};
