@@ -17,7 +17,7 @@ struct Row {
 }
 
 /// Worked out by hand from the table of statuses.
-const ROWS: [Row; 8] = [
+const ROWS: [Row; 10] = [
     Row {
         words: &["qna", "--world"],
         input: b"world\nname pc1\nsystem 12.4 Debian\noffset 0\nmoment 0\nend\n1 + 1\n",
@@ -32,7 +32,7 @@ const ROWS: [Row; 8] = [
         reads: &[1],
         writes: &[],
         status: 0,
-        wanted: b"desk qna\ndesk qna --world\ndesk check\ndesk make N\ndesk serve PORT KEEP N\ndesk relay PORT UPSTREAM N\ndesk agent UPSTREAM POCKET WORK NAME OFFSET N\ndesk --help\n",
+        wanted: b"desk qna\ndesk qna --world\ndesk check\ndesk office\ndesk make N\ndesk serve PORT KEEP N\ndesk relay PORT UPSTREAM N\ndesk agent UPSTREAM POCKET WORK NAME OFFSET N\ndesk --help\n",
     },
     Row {
         words: &["qna", "qna"],
@@ -81,6 +81,22 @@ const ROWS: [Row; 8] = [
         writes: &[],
         status: 5,
         wanted: b"Q: :more\nE: Nothing is paused.\n",
+    },
+    Row {
+        words: &["office"],
+        input: b"office\nend\n",
+        reads: &[],
+        writes: &[],
+        status: 0,
+        wanted: b"computers 0\nreports 0\nsum fixed 0 failed 0 running 0 interrupted 0\n",
+    },
+    Row {
+        words: &["office"],
+        input: b"office\nrelay r1\nforget r1\nforget r1\nend\n",
+        reads: &[],
+        writes: &[3],
+        status: 4,
+        wanted: b"forget r1\n",
     },
 ];
 

@@ -32,7 +32,7 @@ use Rattle.desk_runs.specs.AgentSteps.{AgentScene}
 use Rattle.desk_runs.specs.Counting.{CountsRounds}
 use Rattle.desk_top.specs.declared.command.AgentWords.{AgentWords}
 use Rattle.desk_top.specs.declared.command.DeskCommand.{DeskCommand}
-use Rattle.desk_top.specs.declared.command.DeskCommand.TheVariants.{Qna, QnaWorld, Check, Make, Serve, Relay, Agent, Help}
+use Rattle.desk_top.specs.declared.command.DeskCommand.TheVariants.{Qna, QnaWorld, Check, Office, Make, Serve, Relay, Agent, Help}
 use Rattle.desk_top.specs.declared.command.RelayWords.{RelayWords}
 use Rattle.desk_top.specs.declared.command.ServeWords.{ServeWords}
 use Rattle.desk_top.specs.declared.status.Status.{Status}
@@ -274,6 +274,7 @@ reads_none : (words : List (List ℕ)) (asked : AgentWords) (command : DeskComma
 reads_none words asked Qna asks other reads = let e : ◌≡◌ {A = ℕ} 97 113 = first_letters words (Agent asked) Qna asks other in omega (arith, e)
 reads_none words asked QnaWorld asks other reads = let e : ◌≡◌ {A = ℕ} 97 113 = first_letters words (Agent asked) QnaWorld asks other in omega (arith, e)
 reads_none words asked Check asks other reads = let e : ◌≡◌ {A = ℕ} 97 99 = first_letters words (Agent asked) Check asks other in omega (arith, e)
+reads_none words asked Office asks other reads = let e : ◌≡◌ {A = ℕ} 97 111 = first_letters words (Agent asked) Office asks other in omega (arith, e)
 reads_none words asked (Make number) asks other reads = reads
 reads_none words asked (Serve again) asks other reads = reads
 reads_none words asked (Relay again) asks other reads = reads
@@ -284,6 +285,7 @@ is_agents : (words : List (List ℕ)) (asked : AgentWords) (command : DeskComman
 is_agents words asked Qna asks other none = let e : ◌≡◌ {A = ℕ} 97 113 = first_letters words (Agent asked) Qna asks other in omega (arith, e)
 is_agents words asked QnaWorld asks other none = let e : ◌≡◌ {A = ℕ} 97 113 = first_letters words (Agent asked) QnaWorld asks other in omega (arith, e)
 is_agents words asked Check asks other none = let e : ◌≡◌ {A = ℕ} 97 99 = first_letters words (Agent asked) Check asks other in omega (arith, e)
+is_agents words asked Office asks other none = let e : ◌≡◌ {A = ℕ} 97 111 = first_letters words (Agent asked) Office asks other in omega (arith, e)
 is_agents words asked (Make number) asks other none = let e : ◌≡◌ {A = ℕ} 97 109 = first_letters words (Agent asked) (Make number) asks other in omega (arith, e)
 is_agents words asked (Serve again) asks other none = let e : ◌≡◌ {A = ℕ} 97 115 = first_letters words (Agent asked) (Serve again) asks other in omega (arith, e)
 is_agents words asked (Relay again) asks other none = let e : ◌≡◌ {A = ℕ} 97 114 = first_letters words (Agent asked) (Relay again) asks other in omega (arith, e)

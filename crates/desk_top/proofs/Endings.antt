@@ -5,7 +5,7 @@ use Rattle.std.specs.Io.KnownBytes.{Appends, Consumes, IsAtEnd}
 use Rattle.std.specs.declared.option.Option.{Option}
 use Rattle.desk_base.specs.Views.{SinkView}
 use Rattle.desk_top.specs.declared.command.DeskCommand.{DeskCommand}
-use Rattle.desk_top.specs.declared.command.DeskCommand.TheVariants.{Qna, QnaWorld, Check, Make, Serve, Relay, Agent, Help}
+use Rattle.desk_top.specs.declared.command.DeskCommand.TheVariants.{Qna, QnaWorld, Check, Office, Make, Serve, Relay, Agent, Help}
 use Rattle.desk_top.specs.declared.status.Status.{Status}
 use Rattle.desk_top.specs.declared.status.Status.TheVariants.{Done, Usage, Refused, Source, Sink, Clock, Pocket, Keeper, Door, Memory, InputTooLong}
 use Rattle.desk_top.specs.AllDevices.{AllDevices}
@@ -32,6 +32,7 @@ taken_is_left (Some xs) (Some ys) taken P takes ends left = subst P (takes ∙ a
 abbrev pub IsTextCommand : DeskCommand → Type 0
 IsTextCommand QnaWorld = ⊤
 IsTextCommand Check = ⊤
+IsTextCommand Office = ⊤
 IsTextCommand _ = ⊥
 
 took : (k : DeskCommand) → IsTextCommand k → (old new : Option (List ℕ)) (taken input : List ℕ) (P : List ℕ → Type 0) → input ≡ taken → TakesAll old new taken
@@ -39,6 +40,7 @@ took : (k : DeskCommand) → IsTextCommand k → (old new : Option (List ℕ)) (
 took Qna text old new taken input P is all holds = absurd text
 took QnaWorld text old new taken input P is all holds = (taken, all.takes, all.ends, (all.short, subst P is holds))
 took Check text old new taken input P is all holds = (taken, all.takes, all.ends, (all.short, subst P is holds))
+took Office text old new taken input P is all holds = (taken, all.takes, all.ends, (all.short, subst P is holds))
 took (Make number) text old new taken input P is all holds = absurd text
 took (Serve asked) text old new taken input P is all holds = absurd text
 took (Relay asked) text old new taken input P is all holds = absurd text
@@ -50,6 +52,7 @@ did_as : (k : DeskCommand) → IsTextCommand k → (input : List ℕ) (old new :
 did_as Qna text input old new did = absurd text
 did_as QnaWorld text input old new did = did
 did_as Check text input old new did = did
+did_as Office text input old new did = did
 did_as (Make number) text input old new did = absurd text
 did_as (Serve asked) text input old new did = absurd text
 did_as (Relay asked) text input old new did = absurd text
@@ -60,6 +63,7 @@ began_as : (status : Status) (k : DeskCommand) → IsTextCommand k → (input : 
 began_as status Qna text input old new began = absurd text
 began_as status QnaWorld text input old new began = began
 began_as status Check text input old new began = began
+began_as status Office text input old new began = began
 began_as status (Make number) text input old new began = absurd text
 began_as status (Serve asked) text input old new began = absurd text
 began_as status (Relay asked) text input old new began = absurd text
@@ -71,6 +75,7 @@ opens_none : (k : DeskCommand) → IsTextCommand k → (old new : AllDevices) (s
 opens_none Qna text old new same kept unasked = absurd text
 opens_none QnaWorld text old new same kept unasked = (kept, unasked)
 opens_none Check text old new same kept unasked = (kept, unasked)
+opens_none Office text old new same kept unasked = (kept, unasked)
 opens_none (Make number) text old new same kept unasked = absurd text
 opens_none (Serve asked) text old new same kept unasked = absurd text
 opens_none (Relay asked) text old new same kept unasked = absurd text
@@ -81,6 +86,7 @@ did_good : (k : DeskCommand) → IsTextCommand k → (input : List ℕ) (old new
 did_good Qna text input old new did = absurd text
 did_good QnaWorld text input old new did = (did.0, did.1, did.2)
 did_good Check text input old new did = (did.0, did.1, did.2)
+did_good Office text input old new did = (did.0, did.1)
 did_good (Make number) text input old new did = absurd text
 did_good (Serve asked) text input old new did = absurd text
 did_good (Relay asked) text input old new did = absurd text
@@ -92,6 +98,7 @@ one_command : (words : List (List ℕ)) (a b : DeskCommand) → IsTextCommand b 
 one_command words Qna Qna text p q = absurd text
 one_command words Qna QnaWorld text p q = let h = p.1 in let k = q.1 in cc
 one_command words Qna Check text p q = let h = p.1 in let k = q.1 in cc
+one_command words Qna Office text p q = let h = p.1 in let k = q.1 in cc
 one_command words Qna (Make n) text p q = absurd text
 one_command words Qna (Serve other) text p q = absurd text
 one_command words Qna (Relay other) text p q = absurd text
@@ -100,6 +107,7 @@ one_command words Qna Help text p q = absurd text
 one_command words QnaWorld Qna text p q = absurd text
 one_command words QnaWorld QnaWorld text p q = refl
 one_command words QnaWorld Check text p q = let h = p.1 in let k = q.1 in cc
+one_command words QnaWorld Office text p q = let h = p.1 in let k = q.1 in cc
 one_command words QnaWorld (Make n) text p q = absurd text
 one_command words QnaWorld (Serve other) text p q = absurd text
 one_command words QnaWorld (Relay other) text p q = absurd text
@@ -108,14 +116,25 @@ one_command words QnaWorld Help text p q = absurd text
 one_command words Check Qna text p q = absurd text
 one_command words Check QnaWorld text p q = let h = p.1 in let k = q.1 in cc
 one_command words Check Check text p q = refl
+one_command words Check Office text p q = let h = p.1 in let k = q.1 in cc
 one_command words Check (Make n) text p q = absurd text
 one_command words Check (Serve other) text p q = absurd text
 one_command words Check (Relay other) text p q = absurd text
 one_command words Check (Agent other) text p q = absurd text
 one_command words Check Help text p q = absurd text
+one_command words Office Qna text p q = absurd text
+one_command words Office QnaWorld text p q = let h = p.1 in let k = q.1 in cc
+one_command words Office Check text p q = let h = p.1 in let k = q.1 in cc
+one_command words Office Office text p q = refl
+one_command words Office (Make n) text p q = absurd text
+one_command words Office (Serve other) text p q = absurd text
+one_command words Office (Relay other) text p q = absurd text
+one_command words Office (Agent other) text p q = absurd text
+one_command words Office Help text p q = absurd text
 one_command words (Make m) Qna text p q = absurd text
 one_command words (Make m) QnaWorld text p q = let h = p.1 in let k = q.1 in cc
 one_command words (Make m) Check text p q = let h = p.1 in let k = q.1 in cc
+one_command words (Make m) Office text p q = let h = p.1 in let k = q.1 in cc
 one_command words (Make m) (Make n) text p q = absurd text
 one_command words (Make m) (Serve other) text p q = absurd text
 one_command words (Make m) (Relay other) text p q = absurd text
@@ -124,6 +143,7 @@ one_command words (Make m) Help text p q = absurd text
 one_command words (Serve asked) Qna text p q = absurd text
 one_command words (Serve asked) QnaWorld text p q = let h = p.1 in let k = q.1 in cc
 one_command words (Serve asked) Check text p q = let h = p.1 in let k = q.1 in cc
+one_command words (Serve asked) Office text p q = let h = p.1 in let k = q.1 in cc
 one_command words (Serve asked) (Make n) text p q = absurd text
 one_command words (Serve asked) (Serve other) text p q = absurd text
 one_command words (Serve asked) (Relay other) text p q = absurd text
@@ -132,6 +152,7 @@ one_command words (Serve asked) Help text p q = absurd text
 one_command words (Relay asked) Qna text p q = absurd text
 one_command words (Relay asked) QnaWorld text p q = let e : ◌≡◌ {A = ℕ} 114 113 = first_letters words (Relay asked) QnaWorld p q in absurd (omega (arith, e))
 one_command words (Relay asked) Check text p q = let e : ◌≡◌ {A = ℕ} 114 99 = first_letters words (Relay asked) Check p q in absurd (omega (arith, e))
+one_command words (Relay asked) Office text p q = let e : ◌≡◌ {A = ℕ} 114 111 = first_letters words (Relay asked) Office p q in absurd (omega (arith, e))
 one_command words (Relay asked) (Make n) text p q = absurd text
 one_command words (Relay asked) (Serve other) text p q = absurd text
 one_command words (Relay asked) (Relay other) text p q = absurd text
@@ -140,6 +161,7 @@ one_command words (Relay asked) Help text p q = absurd text
 one_command words (Agent asked) Qna text p q = absurd text
 one_command words (Agent asked) QnaWorld text p q = let e : ◌≡◌ {A = ℕ} 97 113 = first_letters words (Agent asked) QnaWorld p q in absurd (omega (arith, e))
 one_command words (Agent asked) Check text p q = let e : ◌≡◌ {A = ℕ} 97 99 = first_letters words (Agent asked) Check p q in absurd (omega (arith, e))
+one_command words (Agent asked) Office text p q = let e : ◌≡◌ {A = ℕ} 97 111 = first_letters words (Agent asked) Office p q in absurd (omega (arith, e))
 one_command words (Agent asked) (Make n) text p q = absurd text
 one_command words (Agent asked) (Serve other) text p q = absurd text
 one_command words (Agent asked) (Relay other) text p q = absurd text
@@ -148,6 +170,7 @@ one_command words (Agent asked) Help text p q = absurd text
 one_command words Help Qna text p q = absurd text
 one_command words Help QnaWorld text p q = let h = p.1 in let k = q.1 in cc
 one_command words Help Check text p q = let h = p.1 in let k = q.1 in cc
+one_command words Help Office text p q = let e : ◌≡◌ {A = ℕ} 45 111 = first_letters words Help Office p q in absurd (omega (arith, e))
 one_command words Help (Make n) text p q = absurd text
 one_command words Help (Serve other) text p q = absurd text
 one_command words Help (Relay other) text p q = absurd text

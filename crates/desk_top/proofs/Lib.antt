@@ -9,3 +9,4 @@ mod AgentEndings
 mod WordsOfRelay
 mod WordsOfAgent
 mod FirstLetters
+mod OneWorked

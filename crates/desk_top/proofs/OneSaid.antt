@@ -6,6 +6,10 @@ use Rattle.std.specs.Io.KnownBytes.{Appends}
 use Rattle.desk_base.specs.Moments.{AppendsMoments}
 use Rattle.desk_base.specs.Views.{SinkView}
 use Rattle.office_text.specs.Made.{office_of}
+use Rattle.office_text.specs.declared.order.Order.{Order}
+use Rattle.office_text.specs.Offices.{AreOfficeLines}
+use Rattle.office_rules.specs.Offices as played
+use Rattle.office_rules.specs.Plays.{IsPlayed}
 use Rattle.std.proofs.lemmas.List.Elements.{All-head, All-tail}
 use Rattle.line_forms.specs.LineStates as states
 use Rattle.bf_world.specs.declared.key.Key.{Key}
@@ -22,7 +26,7 @@ use Rattle.rel_session.specs.Devices.{Devices, DidAll}
 use Rattle.rel_session.specs.Lines.{lines_of}
 use Rattle.rel_session.specs.Sessions.{Answers, Asks, Run, Runs, Session, begins_with_colon, fresh}
 use Rattle.desk_top.specs.declared.command.DeskCommand.{DeskCommand}
-use Rattle.desk_top.specs.declared.command.DeskCommand.TheVariants.{Qna, QnaWorld, Check, Make, Serve, Relay, Agent, Help}
+use Rattle.desk_top.specs.declared.command.DeskCommand.TheVariants.{Qna, QnaWorld, Check, Office, Make, Serve, Relay, Agent, Help}
 use Rattle.site_check.specs.declared.finding.Finding.TheVariants.{Good}
 use Rattle.site_check.specs.Lines.{finding_line}
 use Rattle.desk_top.proofs.Ends.{OneFinding, OneFront, refusal_known}
@@ -30,6 +34,7 @@ use Rattle.desk_top.specs.AllDevices.{AllDevices, asking}
 use Rattle.desk_top.specs.Commands.{AsksUpstream, HoldsTalks, help_text}
 use Rattle.desk_top.specs.Said.{Did, DidDescribed, Refuses}
 use Rattle.desk_top.specs.Tellings.{RanAlike, TellsAll}
+use Rattle.desk_top.specs.OfficeInputs.{IsBadOffice, PlaysInput}
 use Rattle.desk_top.specs.WorldInputs.{IsBadInput, IsWorldInput, bad_line}
 
 -- what rel_session says of every run, in its law on them
@@ -144,20 +149,36 @@ world_once one_run front input held old one other holds w rest is did w' rest' i
     let OfRest : List ℕ → Type 0 = λ l. DidDescribed w l old other in
     described_once one_run w rest held old one other holds did (subst OfRest same.1 (subst InWorld same.0 did'))
 
-pub bytes_once : OneRun → OneFinding → OneFront → (command : DeskCommand) (input : List ℕ) (old one other : AllDevices) → (HoldsTalks command → ⊥) → (AsksUpstream command → ⊥) → TellsAll (asking old)
+-- Orders print one text and leave one office.
+abbrev pub OnePlay : Type 0
+OnePlay = (orders : List Order) (written other : List ℕ) (one two : played.Office) → IsPlayed orders written one → IsPlayed orders other two
+    → (written ≡ other) × (one ≡ two)
+
+-- what the play of an office writes
+office_once : OnePlay → (input held : List ℕ) (old one other : Option (List ℕ)) → old ≡ Some held → PlaysInput input old one
+    → PlaysInput input old other → one ≡ other
+office_once plays input held old one other holds (orders, reads, (written, (o, is), wrote)) (orders', reads', (written', (o', is'), wrote')) =
+    let same : orders' ≡ orders = reads.2 orders' reads'.1 in
+    let P : List Order → Type 0 = λ l. IsPlayed l written' o' in
+    let alone = plays orders written written' o o' is (subst P same is') in
+    bytes_fixed old one other held written written' holds alone.0 wrote wrote'
+
+pub bytes_once : OneRun → OneFinding → OneFront → OnePlay → (command : DeskCommand) (input : List ℕ) (old one other : AllDevices) → (HoldsTalks command → ⊥) → (AsksUpstream command → ⊥) → TellsAll (asking old)
     → RanAlike (asking old) (asking one) (asking other) → Did command input old one → Did command input old other → one.sink.held ≡ other.sink.held
-bytes_once one_run finding front Qna input old one other no_talks no_link tells alike did did' = (qna_once one_run input (asking old) (asking one) (asking other) tells alike did did').0
-bytes_once one_run finding front QnaWorld input old one other no_talks no_link tells alike (v, rest, is, did) (v', rest', is', did') =
+bytes_once one_run finding front plays Qna input old one other no_talks no_link tells alike did did' = (qna_once one_run input (asking old) (asking one) (asking other) tells alike did did').0
+bytes_once one_run finding front plays QnaWorld input old one other no_talks no_link tells alike (v, rest, is, did) (v', rest', is', did') =
     world_once one_run front input tells.held old.sink one.sink other.sink tells.holds v rest is did v' rest' is' did'
-bytes_once one_run finding front Check input old one other no_talks no_link tells alike (fixlets, baselines, found, is) (fixlets', baselines', found', is') =
+bytes_once one_run finding front plays Check input old one other no_talks no_link tells alike (fixlets, baselines, found, is) (fixlets', baselines', found', is') =
     let same = finding input (Good fixlets baselines) (Good fixlets' baselines') found found' (λ e. cc) (λ e. cc) in
     bytes_fixed old.sink.held one.sink.held other.sink.held tells.held (finding_line (Good fixlets baselines)) (finding_line (Good fixlets' baselines')) tells.holds (ap finding_line same) is is'
-bytes_once one_run finding front (Make number) input old one other no_talks no_link tells alike did did' =
+bytes_once one_run finding front plays Office input old one other no_talks no_link tells alike did did' =
+    office_once plays input tells.held old.sink.held one.sink.held other.sink.held tells.holds did did'
+bytes_once one_run finding front plays (Make number) input old one other no_talks no_link tells alike did did' =
     bytes_fixed old.sink.held one.sink.held other.sink.held tells.held (office_of number) (office_of number) tells.holds refl did did'
-bytes_once one_run finding front (Serve asked) input old one other no_talks no_link tells alike did did' = absurd (no_talks tt)
-bytes_once one_run finding front (Relay asked) input old one other no_talks no_link tells alike did did' = absurd (no_talks tt)
-bytes_once one_run finding front (Agent asked) input old one other no_talks no_link tells alike did did' = absurd (no_link tt)
-bytes_once one_run finding front Help input old one other no_talks no_link tells alike did did' =
+bytes_once one_run finding front plays (Serve asked) input old one other no_talks no_link tells alike did did' = absurd (no_talks tt)
+bytes_once one_run finding front plays (Relay asked) input old one other no_talks no_link tells alike did did' = absurd (no_talks tt)
+bytes_once one_run finding front plays (Agent asked) input old one other no_talks no_link tells alike did did' = absurd (no_link tt)
+bytes_once one_run finding front plays Help input old one other no_talks no_link tells alike did did' =
     bytes_fixed old.sink.held one.sink.held other.sink.held tells.held help_text help_text tells.holds refl did did'
 
 pub looks_once : OneRun → (input : List ℕ) (old one other : AllDevices) → TellsAll (asking old) → RanAlike (asking old) (asking one) (asking other)
@@ -172,12 +193,17 @@ one_bad_line front input m n (text, rest, splits, (i, first, is)) (text', rest',
     let bad = subst Answers same bad' in
     is ∙ ap (λ k. min k (2 ^ 32 - 1)) (first_bad_line-one AreWorldLines text i bad.0 first bad.1) ∙ sym bad.2
 
+one_bad_office : (input : List ℕ) (m n : ℕ) → IsBadOffice input m → IsBadOffice input n → m ≡ n
+one_bad_office input m n (i, first, is) (k, other, is') =
+    is ∙ ap (λ l. min l (2 ^ 32 - 1)) (first_bad_line-one AreOfficeLines input i k first other) ∙ sym is'
+
 -- an input is refused in one way
 pub refusal_once : OneFinding → OneFront → (command : DeskCommand) (input a b : List ℕ) → Refuses command input a → Refuses command input b → a ≡ b
 refusal_once one front Qna input a b x y = absurd x
 refusal_once one front QnaWorld input a b (m, bad, is) (n, bad', is') = is ∙ ap bad_line (one_bad_line front input m n bad bad') ∙ sym is'
 refusal_once one front Check input a b (f, found, refusal, is) (g, found', refusal', is') =
     is ∙ ap finding_line (one input f g found found' (refusal_known f refusal) (refusal_known g refusal')) ∙ sym is'
+refusal_once one front Office input a b (m, bad, is) (n, bad', is') = is ∙ ap bad_line (one_bad_office input m n bad bad') ∙ sym is'
 refusal_once one front (Make number) input a b x y = absurd x
 refusal_once one front (Serve asked) input a b x y = absurd x
 refusal_once one front (Relay asked) input a b x y = absurd x

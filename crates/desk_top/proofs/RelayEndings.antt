@@ -14,7 +14,7 @@ use Rattle.desk_serve.specs.declared.step.Stop.TheVariants as stop
 use Rattle.relay_core.specs.Relays.{RelayState, desk_queue, empty_relay}
 use Rattle.desk_runs.specs.Counting.{CountsRelayed}
 use Rattle.desk_top.specs.declared.command.DeskCommand.{DeskCommand}
-use Rattle.desk_top.specs.declared.command.DeskCommand.TheVariants.{Qna, QnaWorld, Check, Make, Serve, Relay, Agent, Help}
+use Rattle.desk_top.specs.declared.command.DeskCommand.TheVariants.{Qna, QnaWorld, Check, Office, Make, Serve, Relay, Agent, Help}
 use Rattle.desk_top.specs.declared.command.AgentWords.{AgentWords}
 use Rattle.desk_top.specs.declared.command.RelayWords.{RelayWords}
 use Rattle.desk_top.specs.declared.status.Status.{Status}
@@ -83,6 +83,7 @@ reads_none : (words : List (List ℕ)) (asked : RelayWords) (command : DeskComma
 reads_none words asked Qna asks other reads = let e : ◌≡◌ {A = ℕ} 114 113 = first_letters words (Relay asked) Qna asks other in omega (arith, e)
 reads_none words asked QnaWorld asks other reads = let e : ◌≡◌ {A = ℕ} 114 113 = first_letters words (Relay asked) QnaWorld asks other in omega (arith, e)
 reads_none words asked Check asks other reads = let e : ◌≡◌ {A = ℕ} 114 99 = first_letters words (Relay asked) Check asks other in omega (arith, e)
+reads_none words asked Office asks other reads = let e : ◌≡◌ {A = ℕ} 114 111 = first_letters words (Relay asked) Office asks other in omega (arith, e)
 reads_none words asked (Make number) asks other reads = reads
 reads_none words asked (Serve again) asks other reads = reads
 reads_none words asked (Relay again) asks other reads = reads

@@ -15,7 +15,7 @@ use Rattle.desk_serve.specs.declared.step.Stop.TheVariants as stop
 use Rattle.desk_serve.specs.ServeCounts.{CountsServed}
 use Rattle.desk_serve.specs.ServeSteps.{Scene}
 use Rattle.desk_top.specs.declared.command.DeskCommand.{DeskCommand}
-use Rattle.desk_top.specs.declared.command.DeskCommand.TheVariants.{Qna, QnaWorld, Check, Make, Serve, Relay, Agent, Help}
+use Rattle.desk_top.specs.declared.command.DeskCommand.TheVariants.{Qna, QnaWorld, Check, Office, Make, Serve, Relay, Agent, Help}
 use Rattle.desk_top.specs.declared.command.AgentWords.{AgentWords}
 use Rattle.desk_top.specs.declared.command.RelayWords.{RelayWords}
 use Rattle.desk_top.specs.declared.command.ServeWords.{ServeWords}
@@ -96,6 +96,7 @@ reads_none : (words : List (List ℕ)) (asked : ServeWords) (command : DeskComma
 reads_none words asked Qna asks other reads = let h = asks.1 in let k = other.1 in cc
 reads_none words asked QnaWorld asks other reads = let h = asks.1 in let k = other.1 in cc
 reads_none words asked Check asks other reads = let h = asks.1 in let k = other.1 in cc
+reads_none words asked Office asks other reads = let h = asks.1 in let k = other.1 in cc
 reads_none words asked (Make number) asks other reads = reads
 reads_none words asked (Serve again) asks other reads = reads
 reads_none words asked (Relay again) asks other reads = reads
@@ -106,6 +107,7 @@ pub good_unless_read : (command : DeskCommand) (input : List ℕ) → (ReadsSour
 good_unless_read Qna input unread = tt
 good_unless_read QnaWorld input unread = absurd (unread tt)
 good_unless_read Check input unread = absurd (unread tt)
+good_unless_read Office input unread = absurd (unread tt)
 good_unless_read (Make number) input unread = tt
 good_unless_read (Serve asked) input unread = tt
 good_unless_read (Relay asked) input unread = tt

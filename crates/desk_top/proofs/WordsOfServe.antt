@@ -1,7 +1,7 @@
 -- Which words ask for `serve`, and which for no command.
 use Rattle.std.proofs.Common.{◌≡◌, ◌≢◌, ◌<◌, ℕ, List, [], ◌∷◌, length, refl, sym, ap, ◌∙◌, arith}
 use Rattle.std.specs.Prelude.{decimal}
-use Rattle.desk_top.specs.declared.command.DeskCommand.TheVariants.{Qna, QnaWorld, Check, Make, Serve, Relay, Agent, Help}
+use Rattle.desk_top.specs.declared.command.DeskCommand.TheVariants.{Qna, QnaWorld, Check, Office, Make, Serve, Relay, Agent, Help}
 use Rattle.desk_top.specs.declared.command.ServeWords.{ServeWords}
 use Rattle.desk_top.specs.Commands.{AskNoDevices, Asks, IsNoCommand, IsOneTo, serve_words, words_of}
 
@@ -49,13 +49,14 @@ asks_serve words asked port count is port_is count_is one keep some = (
   is ∙ ap (λ l. serve_words l asked.keep.now count) port_is ∙ ap (λ l. serve_words (decimal asked.port) asked.keep.now l) count_is,
 )
 
-pub no_command : (words : List (List ℕ)) → words ≢ words_of Qna → words ≢ words_of QnaWorld → words ≢ words_of Check → words ≢ words_of Help → ((number : ℕ) → Asks words (Make number) → ⊥)
+pub no_command : (words : List (List ℕ)) → words ≢ words_of Qna → words ≢ words_of QnaWorld → words ≢ words_of Check → words ≢ words_of Office → words ≢ words_of Help → ((number : ℕ) → Asks words (Make number) → ⊥)
     → AskNoDevices words → IsNoCommand words
-no_command words a b c d make none Qna asks = a asks.1
-no_command words a b c d make none QnaWorld asks = b asks.1
-no_command words a b c d make none Check asks = c asks.1
-no_command words a b c d make none (Make number) asks = make number asks
-no_command words a b c d make none (Serve asked) asks = none.serve asked asks
-no_command words a b c d make none (Relay asked) asks = none.relay asked asks
-no_command words a b c d make none (Agent asked) asks = none.agent asked asks
-no_command words a b c d make none Help asks = d asks.1
+no_command words a b c office d make none Qna asks = a asks.1
+no_command words a b c office d make none QnaWorld asks = b asks.1
+no_command words a b c office d make none Check asks = c asks.1
+no_command words a b c office d make none Office asks = office asks.1
+no_command words a b c office d make none (Make number) asks = make number asks
+no_command words a b c office d make none (Serve asked) asks = none.serve asked asks
+no_command words a b c office d make none (Relay asked) asks = none.relay asked asks
+no_command words a b c office d make none (Agent asked) asks = none.agent asked asks
+no_command words a b c office d make none Help asks = d asks.1

@@ -1,4 +1,5 @@
--- How questions to a machine or a described world end, and a check of a site. Only private functions cite these definitions.
+-- How questions to a machine or a described world end, a check of a site, and the play of an office. Only private functions cite
+-- these definitions.
 use Rattle.std.specs.Prelude.{◌⊎◌, ℕ, List, [], length, None, Some}
 use Rattle.std.specs.declared.option.Option.{Option}
 use Rattle.std.specs.Io.KnownBytes.{Appends}
@@ -13,6 +14,8 @@ use Rattle.desk_door.specs.Links.{LinkView}
 use Rattle.rel_session.specs.Devices.{Devices}
 use Rattle.site_check.specs.declared.finding.Finding.{Finding}
 use Rattle.site_check.specs.declared.finding.Finding.TheVariants as finding
+use Rattle.office_play.specs.declared.play.PlayEnd.{PlayEnd}
+use Rattle.office_play.specs.declared.play.PlayEnd.TheVariants as end
 use Rattle.desk_top.specs.declared.command.DeskCommand.{DeskCommand}
 use Rattle.desk_top.specs.declared.status.Status.{Status}
 use Rattle.desk_top.specs.declared.status.Status.TheVariants.{Done, Refused, Sink, Clock, Memory}
@@ -58,7 +61,8 @@ MachineEnds Clock input old new = DidQuestionsFront input old new
 MachineEnds Memory input old new = DidQuestionsFront input old new
 MachineEnds _ input old new = ⊥
 
--- How a command ends that reads its input and asks no device: questions to the described world of an input, or a check of a site.
+-- How a command ends that reads its input and asks no device: questions to the described world of an input, a check of a site,
+-- or the play of an office.
 -- Unwritten says that nothing was written.
 abbrev pub TextEnds : DeskCommand → Status → List ℕ → SinkView → SinkView → Type 0 → Type 0
 TextEnds command Done input old new Unwritten = Did command input (holding old) (holding new)
@@ -86,3 +90,9 @@ abbrev pub status_of_finding : Finding → Option Status
 status_of_finding (finding.Good fixlets baselines) = Some Done
 status_of_finding finding.Memory = None
 status_of_finding _ = Some Refused
+
+-- the status of a run that plays an office, where the play ended so
+abbrev pub status_of_play : PlayEnd → Status
+status_of_play end.Done = Done
+status_of_play end.Failed = Sink
+status_of_play end.Memory = Memory

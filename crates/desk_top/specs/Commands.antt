@@ -4,7 +4,7 @@ use Rattle.std.specs.Fmt.{signed_decimal}
 use Rattle.line_forms.specs.Names.{IsName}
 use Rattle.line_forms.specs.Numbers.{IsOffset}
 use Rattle.desk_top.specs.declared.command.DeskCommand.{DeskCommand}
-use Rattle.desk_top.specs.declared.command.DeskCommand.TheVariants.{Qna, QnaWorld, Check, Make, Serve, Relay, Agent, Help}
+use Rattle.desk_top.specs.declared.command.DeskCommand.TheVariants.{Qna, QnaWorld, Check, Office, Make, Serve, Relay, Agent, Help}
 use Rattle.desk_top.specs.declared.command.AgentWords.{AgentWords}
 use Rattle.desk_top.specs.declared.command.RelayWords.{RelayWords}
 use Rattle.desk_top.specs.declared.command.ServeWords.{ServeWords}
@@ -31,6 +31,7 @@ abbrev pub words_of : DeskCommand → List (List ℕ)
 words_of Qna = codes "qna" ∷ []
 words_of QnaWorld = codes "qna" ∷ codes "--world" ∷ []
 words_of Check = codes "check" ∷ []
+words_of Office = codes "office" ∷ []
 words_of (Make number) = codes "make" ∷ decimal number ∷ []
 words_of (Serve asked) = serve_words (decimal asked.port) asked.keep.now (decimal asked.count)
 words_of (Relay asked) = relay_words (decimal asked.port) asked.upstream.now (decimal asked.count)
@@ -104,6 +105,7 @@ abbrev pub ReadsSource : DeskCommand → Type 0
 ReadsSource Qna = ⊤
 ReadsSource QnaWorld = ⊤
 ReadsSource Check = ⊤
+ReadsSource Office = ⊤
 ReadsSource (Make number) = ⊥
 ReadsSource (Serve asked) = ⊥
 ReadsSource (Relay asked) = ⊥
@@ -156,6 +158,7 @@ help_text =
     help_line (words_of Qna)
     ++ help_line (words_of QnaWorld)
     ++ help_line (words_of Check)
+    ++ help_line (words_of Office)
     ++ help_line (codes "make" ∷ codes "N" ∷ [])
     ++ help_line (serve_words (codes "PORT") (codes "KEEP") (codes "N"))
     ++ help_line (relay_words (codes "PORT") (codes "UPSTREAM") (codes "N"))

@@ -1,5 +1,6 @@
 pub mod Commands
 pub mod WorldInputs
+pub mod OfficeInputs
 pub mod Counted
 pub mod Relayed
 pub mod Rounded
@@ -11,3 +12,4 @@ pub mod Runs
 pub mod Endings
 pub mod Asked
 pub mod Tellings
+pub mod OneWorking

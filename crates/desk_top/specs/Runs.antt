@@ -6,7 +6,7 @@ use Rattle.std.specs.declared.result.Result.TheVariants.{Ok, Err}
 use Rattle.std.specs.Io.KnownBytes.{Consumes, IsAtEnd, Keeps}
 use Rattle.desk_base.specs.Whole.{Took, TookAll}
 use Rattle.desk_top.specs.declared.command.DeskCommand.{DeskCommand}
-use Rattle.desk_top.specs.declared.command.DeskCommand.TheVariants.{Qna, QnaWorld, Check, Make, Serve, Relay, Agent, Help}
+use Rattle.desk_top.specs.declared.command.DeskCommand.TheVariants.{Qna, QnaWorld, Check, Office, Make, Serve, Relay, Agent, Help}
 use Rattle.desk_top.specs.declared.status.Status.{Status}
 use Rattle.desk_top.specs.declared.status.Status.TheVariants.{InputTooLong, Source, Memory}
 
@@ -19,6 +19,7 @@ abbrev pub TookInput : DeskCommand → Option (List ℕ) → Option (List ℕ) �
 TookInput Qna old new P = TookAll old new (λ input. (length input ≤ input_limit) × P input)
 TookInput QnaWorld old new P = TookAll old new (λ input. (length input ≤ input_limit) × P input)
 TookInput Check old new P = TookAll old new (λ input. (length input ≤ input_limit) × P input)
+TookInput Office old new P = TookAll old new (λ input. (length input ≤ input_limit) × P input)
 TookInput (Make number) old new P = Keeps old new × P []
 TookInput (Serve asked) old new P = Keeps old new × P []
 TookInput (Relay asked) old new P = Keeps old new × P []

@@ -9,7 +9,7 @@ use Rattle.rel_eval.specs.Questions.{Reads}
 use Rattle.rel_session.specs.Sessions.{Run, Runs, IsFrontOfRun, fresh}
 use Rattle.rel_session.specs.Devices.{Devices, DidAll, DidFront}
 use Rattle.desk_top.specs.declared.command.DeskCommand.{DeskCommand}
-use Rattle.desk_top.specs.declared.command.DeskCommand.TheVariants.{Qna, QnaWorld, Check, Make, Serve, Relay, Agent, Help}
+use Rattle.desk_top.specs.declared.command.DeskCommand.TheVariants.{Qna, QnaWorld, Check, Office, Make, Serve, Relay, Agent, Help}
 use Rattle.site_check.specs.declared.finding.Finding.{Finding}
 use Rattle.site_check.specs.declared.finding.Finding.TheVariants.{Good, Memory}
 use Rattle.site_check.specs.Findings.{Finds}
@@ -24,6 +24,7 @@ use Rattle.desk_top.specs.AllDevices.{AllDevices, asking, relaying, rounding, se
 use Rattle.desk_top.specs.Commands.{help_text}
 use Rattle.desk_top.specs.Relayed.{RelaysAt}
 use Rattle.desk_top.specs.Rounded.{RefusesPocket, RoundsAt, status_of_rounds}
+use Rattle.desk_top.specs.OfficeInputs.{BeginsPlay, IsBadOffice, IsOfficeInput, PlaysInput}
 use Rattle.desk_top.specs.Served.{ServesAt, status_of_stop}
 use Rattle.desk_top.specs.WorldInputs.{IsBadInput, IsWorldInput, bad_line}
 
@@ -53,6 +54,7 @@ Did QnaWorld input old new = (w : WorldState) × (rest : List ℕ) × IsWorldInp
 Did Check input old new =
     (fixlets baselines : ℕ) × Finds input (Good fixlets baselines)
     × Appends old.sink.held new.sink.held (finding_line (Good fixlets baselines))
+Did Office input old new = PlaysInput input old.sink.held new.sink.held
 Did (Make number) input old new = Appends old.sink.held new.sink.held (office_of number)
 Did (Serve asked) input old new = ServesAt asked (serving old) (Ok tt) (serving new)
 Did (Relay asked) input old new = RelaysAt asked (relaying old) (Ok tt) (relaying new)
@@ -70,6 +72,7 @@ abbrev pub Refuses : DeskCommand → List ℕ → List ℕ → Type 0
 Refuses Qna input line = ⊥
 Refuses QnaWorld input line = (number : ℕ) × IsBadInput input number × (line ≡ bad_line number)
 Refuses Check input line = (finding : Finding) × Finds input finding × IsRefusal finding × (line ≡ finding_line finding)
+Refuses Office input line = (number : ℕ) × IsBadOffice input number × (line ≡ bad_line number)
 Refuses (Make number) input line = ⊥
 Refuses (Serve asked) input line = ⊥
 Refuses (Relay asked) input line = ⊥
@@ -90,6 +93,8 @@ Began status Check input old new =
     ((fixlets baselines : ℕ) × Finds input (Good fixlets baselines)
     × AppendsFront old.sink.held new.sink.held (finding_line (Good fixlets baselines)))
     ⊎ IsRefused Check input (AppendsFront old.sink.held new.sink.held)
+Began status Office input old new =
+    BeginsPlay input old.sink.held new.sink.held ⊎ IsRefused Office input (AppendsFront old.sink.held new.sink.held)
 Began status (Make number) input old new = AppendsSome old.sink.held new.sink.held (IsFront (office_of number))
 Began status (Serve asked) input old new =
     (why : Stop) × (status ≡ status_of_stop why) × ServesAt asked (serving old) (Err why) (serving new)
@@ -105,6 +110,7 @@ abbrev pub AsksDevices : DeskCommand → Type 0
 AsksDevices Qna = ⊤
 AsksDevices QnaWorld = ⊥
 AsksDevices Check = ⊥
+AsksDevices Office = ⊥
 AsksDevices (Make number) = ⊥
 AsksDevices (Serve asked) = ⊥
 AsksDevices (Relay asked) = ⊥
@@ -116,6 +122,7 @@ abbrev pub IsGoodInput : DeskCommand → List ℕ → Type 0
 IsGoodInput Qna input = ⊤
 IsGoodInput QnaWorld input = (w : WorldState) × (rest : List ℕ) × IsWorldInput input w rest
 IsGoodInput Check input = (fixlets baselines : ℕ) × Finds input (Good fixlets baselines)
+IsGoodInput Office input = IsOfficeInput input
 IsGoodInput (Make number) input = ⊤
 IsGoodInput (Serve asked) input = ⊤
 IsGoodInput (Relay asked) input = ⊤

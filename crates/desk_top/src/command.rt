@@ -53,6 +53,8 @@ pub enum DeskCommand<'a> {
     QnaWorld,
     /// What is wrong first with the site whose text the source is.
     Check,
+    /// The play of the office whose text the source is.
+    Office,
     /// The text of an office with so many computers, from 1 to 2,000.
     Make(u32),
     /// Conversations over the door, which a server answers from the keeper.
@@ -78,6 +80,9 @@ pub(crate) fn command_of<'a>(words: &'a [Text]) -> Option<DeskCommand<'a>>
     }
     if are_spelled(words, &["check"]) {
         return Some(DeskCommand::Check);
+    }
+    if are_spelled(words, &["office"]) {
+        return Some(DeskCommand::Office);
     }
     if are_spelled(words, &["--help"]) {
         return Some(DeskCommand::Help);
@@ -109,5 +114,5 @@ fn command_with_devices<'a>(words: &'a [Text]) -> Option<DeskCommand<'a>>
 pub(crate) fn help() -> &'static [u8]
     ensures { result.now ≡ help_text }
 {
-    b"desk qna\ndesk qna --world\ndesk check\ndesk make N\ndesk serve PORT KEEP N\ndesk relay PORT UPSTREAM N\ndesk agent UPSTREAM POCKET WORK NAME OFFSET N\ndesk --help\n"
+    b"desk qna\ndesk qna --world\ndesk check\ndesk office\ndesk make N\ndesk serve PORT KEEP N\ndesk relay PORT UPSTREAM N\ndesk agent UPSTREAM POCKET WORK NAME OFFSET N\ndesk --help\n"
 }

@@ -14,22 +14,29 @@ ghost use Rattle.office_rules.specs.Plays.{IsFrontOfPlay, IsPlayed};
 ghost use Rattle.office_rules.specs.PrintedAnswers.{AreAlike, PrintsAnswers};
 ghost use Rattle.desk_top.specs.declared.command.DeskCommand.{DeskCommand};
 ghost use Rattle.desk_serve.specs.OneServing.{IsSteady, LeaveAlike, TellsScene};
-ghost use Rattle.desk_top.specs.declared.command.DeskCommand.TheVariants.{Qna, Serve};
+ghost use Rattle.desk_runs.specs.OneExchanges.{LinkTold};
+ghost use Rattle.desk_top.specs.declared.command.AgentWords.{AgentWords};
+ghost use Rattle.desk_top.specs.declared.command.DeskCommand.TheVariants.{Agent, Qna, Relay, Serve};
+ghost use Rattle.desk_top.specs.declared.command.RelayWords.{RelayWords};
 ghost use Rattle.desk_top.specs.declared.command.ServeWords.{ServeWords};
-ghost use Rattle.desk_top.specs.AllDevices.{AllDevices, asking, serving};
+ghost use Rattle.desk_top.specs.AllDevices.{AllDevices, asking, relaying, rounding, serving};
 ghost use Rattle.desk_top.specs.Commands.{AsksUpstream, HoldsTalks};
+ghost use Rattle.desk_top.specs.OneWorking.{RelayedAlike, RelayedSteadily, RoundedAlike, RoundedSteadily, TellsRelaying, TellsRounding};
 ghost use Rattle.desk_top.specs.Said.{Did, IsGoodInput, Refuses};
 ghost use Rattle.desk_top.specs.Tellings.{RanAlike, TellsAll};
 
+use agent_core::one_change;
+use desk_runs::{one_relaying, one_rounding};
 use desk_serve::one_serving;
+use office_text::an_office_is_read;
 use rel_session::{PlainReader, one_run};
 use site_check::one_finding;
 use world_text::{a_world_is_read, one_front};
 
-/// A command that isn't `relay` or `agent` says one thing: where no look fails, what is written is fixed by the input, the machine's world
-/// and the moments that the clock gives, or where no keeper and no door fails, by what is kept and what the peers say. So are the keys that
-/// `qna` looks up, what is written to peers, and what is kept then. Of any command, an input is refused in one way, and none that it takes
-/// is refused.
+/// A command says one thing: where no device fails, what is written is fixed by the input, the machine's world, the moments that the clock
+/// gives, what is kept or saved, what the peers say and what the upstream replies. So are the keys that `qna` looks up, what is written to
+/// peers, what the upstream is asked, what is kept then, and what an agent looks up, does and saves. An input is refused in one way, and
+/// none that a command takes is refused.
 pub fn one_said()
     ensures bytes { (command : DeskCommand) (input : List ℕ) (old one other : AllDevices) → ¬ HoldsTalks command
         → ¬ AsksUpstream command → TellsAll (asking old) → RanAlike (asking old) (asking one) (asking other)
@@ -42,15 +49,30 @@ pub fn one_said()
         → Did (Serve asked) [] old one → Did (Serve asked) [] old other → IsSteady (serving old) (serving one)
         → IsSteady (serving old) (serving other)
         → (one.sink.held ≡ other.sink.held) × LeaveAlike (serving one) (serving other) }
+    ensures relayed { (asked : RelayWords) (held : List ℕ) (coming written : List (List ℕ)) (told : LinkTold)
+        (old one other : AllDevices) → old.sink.held ≡ Some held → TellsRelaying coming written told (relaying old)
+        → Did (Relay asked) [] old one → Did (Relay asked) [] old other → RelayedSteadily (relaying old) (relaying one)
+        → RelayedSteadily (relaying old) (relaying other)
+        → (one.sink.held ≡ other.sink.held) × RelayedAlike (relaying one) (relaying other) }
+    ensures rounded { (asked : AgentWords) (held : List ℕ) (told : LinkTold) (old one other : AllDevices) → old.sink.held ≡ Some held
+        → TellsRounding told (rounding old) → Did (Agent asked) [] old one → Did (Agent asked) [] old other
+        → RoundedSteadily (rounding old) (rounding one) → RoundedSteadily (rounding old) (rounding other)
+        → one.clock.given ≡ other.clock.given
+        → (one.sink.held ≡ other.sink.held) × RoundedAlike (rounding one) (rounding other) }
     ensures refusals { (command : DeskCommand) (input a b : List ℕ) → Refuses command input a → Refuses command input b → a ≡ b }
     ensures apart { (command : DeskCommand) (input line : List ℕ) → IsGoodInput command input → ¬ Refuses command input line }
 {
     // Proof: this is made of the laws of the parts.
     one_run::<PlainReader>();
     one_serving();
+    one_relaying();
+    one_rounding();
+    one_change();
     one_finding();
     one_front();
     a_world_is_read();
+    an_office_is_read();
+    office_rules::one_play();
 }
 
 /// Over every schedule of the delivery of reports each accepted report was made by its computer, no two have one computer and number, each

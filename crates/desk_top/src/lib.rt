@@ -5,6 +5,7 @@ mod checks;
 mod command;
 mod described;
 mod law;
+mod offices;
 mod questions;
 mod relayed;
 mod rounded;

@@ -81,7 +81,7 @@ fn ask_described<W: Sink>(alloc: Global, world: World, lines: &[u8], sink: &mut 
 }
 
 /// Writes the refusal of a world text, alone.
-fn refuse<W: Sink>(alloc: Global, number: u32, sink: &mut W) -> Status
+pub(crate) fn refuse<W: Sink>(alloc: Global, number: u32, sink: &mut W) -> Status
     ensures ends { RefusalEnds result number (W.told sink.old) (W.told sink.new) }
     ensures counts { CountsFaults (result ≡ Status.Sink) (W.told sink.old).faults (W.told sink.new).faults }
 {

@@ -12,6 +12,7 @@ ghost use Rattle.desk_top.specs.Said.{AsksDevices};
 
 use crate::checks::check_input;
 use crate::command::{DeskCommand, command_of, help};
+use crate::offices::play_input;
 use crate::questions::{ask_machine, ask_world};
 use crate::relayed::relay_asked;
 use crate::rounded::agent_asked;
@@ -111,6 +112,10 @@ pub fn desk<S: Source, W: Sink, M: Machine, P: Pocket, K: Keeper, D: Door, L: Li
         },
         DeskCommand::Check => match read_input(alloc, source) {
             Ok(input) => check_input(alloc, input.as_slice(), sink),
+            Err(status) => status,
+        },
+        DeskCommand::Office => match read_input(alloc, source) {
+            Ok(input) => play_input(alloc, input.as_slice(), sink),
             Err(status) => status,
         },
     }

@@ -1,5 +1,5 @@
 use Rattle.std.proofs.Common.{refl}
-use Rattle.desk_top.specs.declared.command.DeskCommand.TheVariants.{QnaWorld, Check}
+use Rattle.desk_top.specs.declared.command.DeskCommand.TheVariants.{QnaWorld, Check, Office}
 use Rattle.desk_top.proofs.Endings.{text_comes, text_ended, usage_comes}
 use Rattle.desk_top.proofs.AgentEndings.{agent_comes, agent_counts, agent_ended}
 use Rattle.desk_top.proofs.RelayEndings.{relay_comes, relay_counts, relay_ended}
@@ -59,6 +59,32 @@ returns-in-Ok-read_input-3-clause-comes g c =
       is = c.as_slice-in-Ok-read_input-3.ensures;
       all = record { takes = read.0; ends = read.1; short = read.2 };
       ends = c.check_input.ensures.ends;
+    })
+
+pub returns-in-Ok-read_input-4-clause-ended : goal.returns-in-Ok-read_input-4-clause-ended
+returns-in-Ok-read_input-4-clause-ended g c =
+    let read = c.in-Ok-read_input-4.ensures.reads in
+    text_ended Office _ c.play_input.result _ _ _ _ _ refl (λ unwritten. (unwritten, refl, refl)) refl
+    (record {
+      text = tt;
+      asked = rw c.in-Office.is at c.in-Some.ensures;
+      taken = _;
+      is = c.as_slice-in-Ok-read_input-4.ensures;
+      all = record { takes = read.0; ends = read.1; short = read.2 };
+      ends = c.play_input.ensures.ends;
+    })
+
+pub returns-in-Ok-read_input-4-clause-comes : goal.returns-in-Ok-read_input-4-clause-comes
+returns-in-Ok-read_input-4-clause-comes g c =
+    let read = c.in-Ok-read_input-4.ensures.reads in
+    text_comes Office _ c.play_input.result _ _ _ _ _ _ _
+    (record {
+      text = tt;
+      asked = rw c.in-Office.is at c.in-Some.ensures;
+      taken = _;
+      is = c.as_slice-in-Ok-read_input-4.ensures;
+      all = record { takes = read.0; ends = read.1; short = read.2 };
+      ends = c.play_input.ensures.ends;
     })
 
 pub returns-in-Serve-clause-ended : goal.returns-in-Serve-clause-ended
