@@ -1,13 +1,20 @@
 """What the programs of bench/ share: the desk that they measure, the workspace in which a program of their own is made, and bounds."""
+import contextlib
 import os
 import re
 import shutil
 import subprocess
 import sys
+import threading
+import time
 
 HERE = os.path.dirname(os.path.abspath(__file__))
 TOP = os.path.dirname(HERE)
 NAME = os.path.basename(sys.argv[0])
+KIT = os.path.dirname(os.path.dirname(os.path.realpath(shutil.which("rt") or "/opt/rattle/bin/rt")))
+LIBRARIES = os.path.join(KIT, "toolchain", "lib")
+# runs a program that was made unproved, which is linked for the kit's C library
+LOADER = [os.path.join(LIBRARIES, "ld-linux-x86-64.so.2"), "--inhibit-cache", "--library-path", LIBRARIES]
 
 
 def desk(words=()):
@@ -29,8 +36,9 @@ def below(*names):
 
 
 def crate(room, name, program, stands_on, taken=(), with_libraries=False):
-    """Makes a copy of the crates in a folder, and in it a program: that of a file of bench/, with files of other crates, as (crate, file),
-    whose functions it may call. Of what rt has made beside the crates the libraries alone are copied, if at all. Returns its folder."""
+    """Makes a copy of the crates in a folder, and in it a program: that of a file of bench/, or of a folder of files, with files of other
+    crates, as (crate, file), whose functions it may call. Of what rt has made beside the crates the libraries alone are copied, if at all.
+    Returns its folder."""
 
     def unwanted(folder, files):
         if with_libraries:
@@ -39,8 +47,11 @@ def crate(room, name, program, stands_on, taken=(), with_libraries=False):
 
     shutil.copytree(os.path.join(TOP, "crates"), os.path.join(room, "crates"), ignore=unwanted)
     folder = os.path.join(room, "crates", name)
-    os.makedirs(os.path.join(folder, "src"))
-    shutil.copy(os.path.join(HERE, program), os.path.join(folder, "src", "main.rt"))
+    if os.path.isdir(os.path.join(HERE, program)):
+        shutil.copytree(os.path.join(HERE, program), os.path.join(folder, "src"))
+    else:
+        os.makedirs(os.path.join(folder, "src"))
+        shutil.copy(os.path.join(HERE, program), os.path.join(folder, "src", "main.rt"))
     for of, file in taken:
         with open(os.path.join(room, "crates", of, "src", file), encoding="utf-8") as source:
             text = re.sub(r"^fn ", "pub(crate) fn ", source.read(), flags=re.M)
@@ -63,8 +74,7 @@ def step(name, words, folder):
 def proved(folder, libraries):
     """What the program of a folder writes, proved over the libraries of the crates in a folder (NAME.rlib) and compiled as the gate
     compiles."""
-    kit = os.path.dirname(os.path.dirname(os.path.realpath(shutil.which("rt") or "/opt/rattle/bin/rt")))
-    libraries = os.path.abspath(libraries)
+    kit, libraries = KIT, os.path.abspath(libraries)
     name = os.path.basename(folder)
     with open(os.path.join(folder, "..", "..", "crates.txt"), encoding="utf-8") as file:
         stands_on = re.search(rf"^{name}:(.*)$", file.read(), re.M)[1].split()
@@ -87,6 +97,35 @@ def unproved(folder):
     """What the program of a folder writes, unproved."""
     run = subprocess.run(["rt", "try", "--seconds", "600"], cwd=folder, capture_output=True, text=True)
     return run.stdout + run.stderr
+
+
+def copied(folder, program, over):
+    """Copies the program as soon as it has been made somewhere in a folder, whose making is over where `over` is set."""
+    while not over.is_set():
+        for at, _, files in os.walk(folder):
+            if "program" in files and os.access(os.path.join(at, "program"), os.X_OK):
+                with contextlib.suppress(FileNotFoundError):
+                    shutil.copyfile(os.path.join(at, "program"), program)
+                    return
+        time.sleep(0.02)
+
+
+def kept(folder, program, *words):
+    """Has `rt try` make the unproved program of a folder and run it without input, and keeps a copy of it. What was written."""
+    room, over = f"{program}-made", threading.Event()
+    os.mkdir(room)
+    watcher = threading.Thread(target=copied, args=(room, program, over))
+    watcher.start()
+    try:
+        run = subprocess.run(["rt", "try", "--seconds", "600", *words], cwd=folder, env={**os.environ, "TMPDIR": room}, text=True,
+                             stdin=subprocess.DEVNULL, stdout=subprocess.PIPE, stderr=subprocess.STDOUT, check=False)
+    finally:
+        over.set()
+        watcher.join()
+        shutil.rmtree(room, ignore_errors=True)
+    if os.path.exists(program):
+        os.chmod(program, 0o755)
+    return run.stdout
 
 
 class Bounds:
