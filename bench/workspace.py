@@ -36,9 +36,9 @@ def below(*names):
 
 
 def crate(room, name, program, stands_on, taken=(), with_libraries=False):
-    """Makes a copy of the crates in a folder, and in it a program: that of a file of bench/, or of a folder of files, with files of other
-    crates, as (crate, file), whose functions it may call. Of what rt has made beside the crates the libraries alone are copied, if at all.
-    Returns its folder."""
+    """Makes a copy of the crates in a folder, and in it a program: that of a file of bench/, or of a folder of modules, named without the
+    ending, which rt takes for files of a crate; with files of other crates, as (crate, file), whose functions it may call. Of what rt has
+    made beside the crates the libraries alone are copied, if at all. Returns its folder."""
 
     def unwanted(folder, files):
         if with_libraries:
@@ -47,10 +47,11 @@ def crate(room, name, program, stands_on, taken=(), with_libraries=False):
 
     shutil.copytree(os.path.join(TOP, "crates"), os.path.join(room, "crates"), ignore=unwanted)
     folder = os.path.join(room, "crates", name)
+    os.makedirs(os.path.join(folder, "src"))
     if os.path.isdir(os.path.join(HERE, program)):
-        shutil.copytree(os.path.join(HERE, program), os.path.join(folder, "src"))
+        for file in os.listdir(os.path.join(HERE, program)):
+            shutil.copy(os.path.join(HERE, program, file), os.path.join(folder, "src", f"{file}.rt"))
     else:
-        os.makedirs(os.path.join(folder, "src"))
         shutil.copy(os.path.join(HERE, program), os.path.join(folder, "src", "main.rt"))
     for of, file in taken:
         with open(os.path.join(room, "crates", of, "src", file), encoding="utf-8") as source:
