@@ -65,7 +65,7 @@ class Agent:
         running = [it for it in sorted(self.rows) if self.rows[it][-1]["outcome"] == "running"]
         broken = [it for it in running if not (self.held and self.held.action == it)]
         if broken:
-            self.rows[broken[0]][-1] |= {"outcome": "interrupted", "end": moment}
+            self.rows[broken[0]][-1].update(outcome="interrupted", end=moment)
             self.pending.add(broken[0])
             self.save()
             self.end_turn(False)
@@ -122,8 +122,10 @@ class Agent:
             wait = next(self.held.script)
         except StopIteration as over:
             line, code = over.value
-            row |= {"end": moment} | ({"outcome": "fixed", "note": f"{code} - -"} if line is None else
-                                      {"outcome": "failed", "note": f"{code} 0 {line[0]}"})
+            if line is None:
+                row.update(end=moment, outcome="fixed", note=f"{code} - -")
+            else:
+                row.update(end=moment, outcome="failed", note=f"{code} 0 {line[0]}")
             self.held = None
             self.pending.add(action)
             self.end_turn(True)

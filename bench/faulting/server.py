@@ -97,7 +97,7 @@ class Server:
     def listed(self):
         """The sites as they are told, with their versions and texts."""
         made = {"actionsite": (self.version, self.actionsite())} if self.version else {}
-        return dict(sorted((self.sites | made).items()))
+        return dict(sorted({**self.sites, **made}.items()))
 
     def ask_site(self, name=None, version=None):
         sites = self.listed()
