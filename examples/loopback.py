@@ -1,6 +1,8 @@
 """What the scripts that talk to a desk over loopback share."""
+import contextlib
 import hashlib
 import os
+import random
 import socket
 import time
 
@@ -38,10 +40,26 @@ end
 """
 
 
+def ports():
+    """The ports of this machine in any order, without those that the system gives to clients: a desk that is begun again at its port would
+    find one of them there."""
+    with open('/proc/sys/net/ipv4/ip_local_port_range', encoding='ascii') as file:
+        first, last = map(int, file.read().split())
+    found = [port for port in range(10000, 65536) if not first <= port <= last] or range(10000, 65536)
+    return iter(random.sample(found, len(found)))
+
+
+PORTS = ports()
+
+
 def free_port():
-    with socket.socket() as it:
-        it.bind(('127.0.0.1', 0))
-        return it.getsockname()[1]
+    """A port that is free, and that wasn't given before."""
+    for port in PORTS:
+        with contextlib.suppress(OSError), socket.socket() as it:
+            it.setsockopt(socket.SOL_SOCKET, socket.SO_REUSEADDR, 1)
+            it.bind(('127.0.0.1', port))
+            return port
+    raise OSError('no port is free')
 
 
 def talk(port, said):
