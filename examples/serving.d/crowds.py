@@ -42,7 +42,7 @@ class Crowd:
             time.sleep(max(0, begun + seconds * at / len(self.agents) - time.monotonic()))
             os.write(self.gate, b'\n')
         let_go = time.monotonic() - begun
-        check([agent.wait(300) for agent in self.agents], [0] * len(self.agents), 'how they end')
+        check([status for status in (agent.wait(300) for agent in self.agents) if status], [], 'the statuses of those that failed')
         return let_go, time.monotonic() - begun
 
     def lines(self):
