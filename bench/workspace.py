@@ -3,6 +3,7 @@ import contextlib
 import os
 import re
 import shutil
+import struct
 import subprocess
 import sys
 import threading
@@ -15,6 +16,9 @@ KIT = os.path.dirname(os.path.dirname(os.path.realpath(shutil.which("rt") or "/o
 LIBRARIES = os.path.join(KIT, "toolchain", "lib")
 # runs a program that was made unproved, which is linked for the kit's C library
 LOADER = [os.path.join(LIBRARIES, "ld-linux-x86-64.so.2"), "--inhibit-cache", "--library-path", LIBRARIES]
+# the number of an allocation that no run comes to, above any distance between two places of a program: `rt try` makes a program in which
+# the allocation of this number is refused, and another number is then written over it
+NEVER = 1_000_000_007
 
 
 def desk(words=()):
@@ -63,6 +67,25 @@ def crate(room, name, program, stands_on, taken=(), with_libraries=False):
     with open(os.path.join(room, "crates.txt"), "w", encoding="utf-8") as file:
         file.write(f"{lines}{name}: {' '.join(stands_on)}\n")
     return folder
+
+
+def with_wrong_body(room, edit):
+    """Puts a wrong body, crates/NAME/wrong/EDIT or crates/NAME/must-fail/EDIT, into the copy of the crates in a folder."""
+    folder = os.path.join(room, "crates", os.path.abspath(edit).split(os.sep)[-3])
+    with open(edit, encoding="utf-8") as file:
+        pairs = [line.rstrip("\n").partition(": ") for line in file]
+    for word, _, text in pairs:
+        if word == "file":
+            path = os.path.join(folder, text)
+        elif word == "old":
+            old = text
+        elif word == "new":
+            with open(path, encoding="utf-8") as file:
+                source = file.read()
+            if source.count(old) != 1:
+                sys.exit(f"bench/{NAME}: {edit}: {old.strip()!r} stands {source.count(old)} times in {path}")
+            with open(path, "w", encoding="utf-8") as file:
+                file.write(source.replace(old, text))
 
 
 def step(name, words, folder):
@@ -127,6 +150,26 @@ def kept(folder, program, *words):
     if os.path.exists(program):
         os.chmod(program, 0o755)
     return run.stdout
+
+
+class Refusing:
+    """A copy of a program that was made for the allocation NEVER, in which another one is refused."""
+
+    def __init__(self, program, copy):
+        self.path = copy
+        shutil.copyfile(program, self.path)
+        os.chmod(self.path, 0o755)
+        with open(program, "rb") as file:
+            self.places = [it.start() for it in re.finditer(re.escape(struct.pack("<I", NEVER)), file.read())]
+
+    def run(self, number, given=b""):
+        """Runs it over this input. What was written, the error lines and the status."""
+        with open(self.path, "r+b") as file:
+            for place in self.places:
+                file.seek(place)
+                file.write(struct.pack("<I", number))
+        run = subprocess.run([*LOADER, self.path], input=given, capture_output=True, timeout=100, check=False)
+        return run.stdout.decode(), run.stderr.decode(), run.returncode
 
 
 class Bounds:

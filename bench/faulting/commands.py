@@ -2,7 +2,7 @@
 what is not so of one that was made (`judge`)."""
 import os
 
-from faulting import content, session
+from faulting import content, office, session
 from faulting.agent import run_agent
 from faulting.devices import DEVICES, Choice, Devices
 from faulting.program import clock, digits, door, link, pocket
@@ -57,6 +57,20 @@ class Questions(Command):
             if not ran.sink.startswith(least):
                 complaints.append(f"written {ran.sink!r}, less than {least!r}")
         return complaints
+
+
+class Office(Command):
+    """`office`: what is printed of a word is written as one piece, when it was played."""
+    pieces = ["".join(f"{line}\n" for line in lines).encode() for lines in office.PRINTED if lines]
+
+    def __init__(self):
+        super().__init__("office", ["office"], office.TEXT, said=b"".join(self.pieces))
+
+    def judge(self, ran, choice, sound):
+        """Whole words are written, and a front of the next one."""
+        pieces = [it.about for it in ran.calls if it.device == "sink" and it.about]
+        complaints = [] if pieces == self.pieces[:len(pieces)] else [f"the pieces {pieces!r} are no words"]
+        return super().judge(ran, choice, sound) + complaints
 
 
 def report(number, *rows, computer="pc1"):
@@ -265,6 +279,7 @@ def all_commands():
         Command("check, refused", ["check"], b"sit desk 1\n", 2, b"20 line 1\n"),
         Command("qna --world", ["qna", "--world"], WORLD + b"1 + 1\ncomputer name\n", said=b"Q: 1 + 1\nA: 2\nQ: computer name\nA: pc1\n"),
         Command("qna --world, refused", ["qna", "--world"], WORLD[6:], 2, b"bad line 1\n"),
+        Office(), Command("office, refused", ["office"], office.TEXT[:-len(b"end\n")], 2, b"bad line %d\n" % office.TEXT.count(b"\n")),
         Questions("qna", ["qna"], session.INPUT),
         Serve("serve, each request", ASKED, ["keeper"]), Serve("serve, each conversation", TALKS, ["sink", "keeper", "door"]),
         RelayRun(), Agent(),

@@ -1,12 +1,15 @@
-"""Hostile texts: each limit at its value and one above it, and each byte at which a text may end. What is answered stands in the tables of
-docs/LANGUAGE.md, docs/FORMATS.md, docs/CONTENT.md and docs/HTTP.md."""
-from faulting import content, session
+"""Hostile texts: each limit at its value and one above it, and each byte at which a text may end, or each end of a line. What is answered
+stands in the tables of docs/LANGUAGE.md, docs/FORMATS.md, docs/CONTENT.md and docs/HTTP.md."""
+import re
+
+from faulting import content, office, session
 from faulting.commands import ONE, Command, report, said_by
 from faulting.devices import Choice
 from faulting.program import clock, digits, door, pocket
 from faulting.server import LIMITS, request, response, sealed, sha256
 
 LAST_ID, LAST_MOMENT, SITE, INPUT, TEXT = 2**53, 2**37, 4_194_304, 8_388_608, 1_048_576
+MANY = 30_000  # a text of more bytes is dear
 BAD_REQUEST, NO_SUCH, TOO_LONG = (400, b"bad request\n"), (404, b"no such\n"), (413, b"too long\n")
 
 # ---- questions, each with its answer
@@ -19,22 +22,24 @@ QUESTIONS = [
     (str(2**63 - 1), f"A: {2**63 - 1}"), (str(2**63), "E: A number is too large. (0..19)"),
     ('"%ff"', "E: A string is not text. (0..5)"), ("1 ?", "E: A character cannot stand here. (2..3)"),
     (":page 1000000", None), (":page 1000001", NO_COMMAND), (":page 0", None), (":page -1", NO_COMMAND), (":", NO_COMMAND),
-    (f'line 1 of file "/b/long" = "{"x" * 9}"', "A: False"), ('line 1 of file "/b/longer"', "E: A text is too long. (0..6)"),
     ('exists file "/' + "a" * 1023 + '"', "A: False"), ('exists file "/' + "a" * 1024 + '"', "A: False"),
 ]
+# of lines of a MiB
+LONG_LINES = [(f'line 1 of file "/b/long" = "{"x" * 9}"', "A: False"), ('line 1 of file "/b/longer"', "E: A text is too long. (0..6)")]
 LONG = b"file 1 /b/long\n| %s\nfile 1 /b/longer\n| %s\n" % (b"x" * TEXT, b"x" * (TEXT + 1))
-MACHINE = session.MACHINE.replace(b"package", LONG + b"package", 1)
+LONG_MACHINE = session.MACHINE.replace(b"package", LONG + b"package", 1)
 
 
 class HostileQuestions(Command):
     """All of them in one run of `qna`. A path that is too long is none, and isn't looked up."""
 
-    def __init__(self):
-        said = "".join(f"Q: {line}\n" + ("" if answer is None else f"{answer}\n") for line, answer in QUESTIONS)
-        super().__init__("questions", ["qna"], "".join(f"{line}\n" for line, _ in QUESTIONS).encode(), said=said.encode())
+    def __init__(self, machine, asked):
+        said = "".join(f"Q: {line}\n" + ("" if answer is None else f"{answer}\n") for line, answer in asked)
+        super().__init__("questions", ["qna"], "".join(f"{line}\n" for line, _ in asked).encode(), said=said.encode())
+        self.machine, self.count = machine, len(asked)
 
     def devices(self, choice, sound):
-        return [*super().devices(choice, sound), f"machine {digits(MACHINE)}", clock(range(len(QUESTIONS)))]
+        return [*super().devices(choice, sound), f"machine {digits(self.machine)}", clock(range(self.count))]
 
     def judge(self, ran, choice, sound):
         longest = max(len(it.about) - len("stat ") for it in ran.calls if it.name == "look")
@@ -64,6 +69,17 @@ def described(name, text, line=None):
     return Command(f"qna --world, {name}", ["qna", "--world"], text, *said)
 
 
+def played(name, text, line):
+    """An office that is refused at this line."""
+    return Command(f"office, {name}", ["office"], text, 2, f"bad line {line}\n".encode())
+
+
+def asked(name, order, said):
+    """An office of one order, and what is printed of it."""
+    said += "computers 0\nreports 0\nsum fixed 0 failed 0 running 0 interrupted 0\n"
+    return Command(f"office, {name}", ["office"], f"office\n{order}\nend\n".encode(), said=said.encode())
+
+
 def texts():
     room = SITE - len(fixlet(""))
     return [
@@ -83,6 +99,10 @@ def texts():
         described("of 1,025", world(more="folder /" + "p" * 1024), 6),
         described("1,000,000 polls", world(more="program 1000000 0 a")), described("one more", world(more="program 1000001 0 a"), 6),
         described("the exit 255", world(more="program 1 255 a")), described("256", world(more="program 1 256 a"), 6),
+        asked("to stop the last id", f"stop {LAST_ID}", "stop: no such\n"),
+        played("one above", b"office\nstop %d\nend\n" % (LAST_ID + 1), 2),
+        asked("the last message", f"deliver {2**64 - 1}", f"deliver {2**64 - 1}: nothing\n"),
+        played("one above", b"office\ndeliver %d\nend\n" % (2**64), 2),
         Command("make 2001", ["make", "2001"], status=1, said=b"usage: desk --help\n"),
         Command("make 0", ["make", "0"], status=1, said=b"usage: desk --help\n"),
     ]
@@ -114,11 +134,17 @@ def pockets():
     ]
 
 
-# ---- each byte at which a text may end
+# ---- texts that are cut
 
-def cuts(text):
-    """Each front of a text but the whole, with the number of its first bad line: that of the line that is cut or missing."""
-    return [(text[:end], text[:end].count(b"\n") + 1) for end in range(len(text))]
+def fronts(text, each):
+    """The fronts of a text but the whole: at each byte, or before and behind the end of each line."""
+    pieces = re.findall(rb"(?s).", text) if each else re.findall(rb"[^\n]+|\n", text)
+    return [b"".join(pieces[:number]) for number in range(len(pieces))]
+
+
+def cuts(text, each):
+    """The fronts, each with the number of its first bad line: that of the line that is cut or missing."""
+    return [(front, front.count(b"\n") + 1) for front in fronts(text, each)]
 
 
 SAVED = b"""agent 2
@@ -137,10 +163,11 @@ end
 """
 
 
-def cut_texts():
-    rows = [checked(f"a site's {len(text)} bytes", text, f"20 line {line}\n".encode()) for text, line in cuts(content.SITE)]
-    rows += [described(f"a world's {len(text)} bytes", text, line) for text, line in cuts(content.MACHINE)]
-    return rows + [Pocket(f"{len(text)} bytes", text, line) for text, line in cuts(SAVED)]
+def cut_texts(each=True):
+    rows = [checked(f"a site's {len(text)} bytes", text, f"20 line {line}\n".encode()) for text, line in cuts(content.SITE, each)]
+    rows += [described(f"a world's {len(text)} bytes", text, line) for text, line in cuts(content.MACHINE, each)]
+    rows += [played(f"{len(text)} bytes", text, line) for text, line in cuts(office.TEXT, each)]
+    return rows + [Pocket(f"{len(text)} bytes", text, line) for text, line in cuts(SAVED, each)]
 
 
 # ---- conversations, each with its answer, or none
@@ -170,7 +197,7 @@ def large_action(size):
     return text.replace(b"target TARGETS", "\n".join(lines).encode())
 
 
-def conversations():
+def conversations(each=True):
     """What clients say, each with the status and body of the answer, or None where there is none."""
     last = LAST_ID
     full = b"full 4194304\n"
@@ -197,9 +224,8 @@ def conversations():
     rows += [(request("POST", "/reports", report(last + 1)), (400, b"bad text 3\n"))]
     rows += [(request("POST", "/reports", report(1, computer="n" * 65)), (400, b"bad text 2\n"))]
     for path, text in (("/reports", ONE), ("/actions", content.ACTIONS[7])):
-        rows += [(request("POST", path, cut), (400, f"bad text {line}\n".encode())) for cut, line in cuts(text)]
-    whole = request("POST", "/reports", ONE)
-    rows += [(whole[:end], BAD_REQUEST) for end in range(1, len(whole))]
+        rows += [(request("POST", path, cut), (400, f"bad text {line}\n".encode())) for cut, line in cuts(text, each)]
+    rows += [(front, BAD_REQUEST) for front in fronts(request("POST", "/reports", ONE), each)[1:]]
     exact = large_action(SITE - len("site actionsite \n") - 16 - len("digest \n") - 64)
     return rows + [(request("POST", "/actions", exact), (200, b"ok\n"))]
 
@@ -233,13 +259,28 @@ class HostileTalks(Command):
         return super().judge(ran, choice, sound) + complaints
 
 
-def tried(program):
-    """What was asked, how many texts there were, and what is not so."""
-    talks = {"conversations": conversations(), "full tables": full_tables()}
-    commands = [HostileQuestions(), *texts(), *pockets(), *cut_texts(), *(HostileTalks(*it) for it in talks.items())]
-    complaints = []
-    for command in commands:
-        ran = program.run(command.words, command.devices(Choice(), None), Choice())
-        complaints += [f"{command.name}: {it}" for it in command.judge(ran, Choice(), None)]
-    count = len(commands) - 1 - len(talks) + len(QUESTIONS) + sum(map(len, talks.values()))
-    return f": {count}", count, complaints
+def asking(commands, count):
+    """What asks commands over so many texts."""
+    def ask(program):
+        complaints = []
+        for command in commands:
+            ran = program.run(command.words, command.devices(Choice(), None), Choice())
+            complaints += [f"{command.name}: {it}" for it in command.judge(ran, Choice(), None)]
+        return f": {count}", count, complaints
+    return ask
+
+
+def tables(each):
+    """The tables of texts: what they are called and what asks them. They are cut at each byte and some are large, or they are cut at the
+    ends of lines."""
+    def some(rows, text):
+        return [row for row in rows if each or len(text(row)) < MANY]
+
+    of_commands = {"large and odd texts": some(texts(), lambda it: it.source), "pockets": some(pockets(), lambda it: it.text),
+                   "texts that are cut": cut_texts(each)}
+    talks = {"conversations": some(conversations(each), lambda it: it[0]), "full tables": full_tables()}
+    asked_lines = some(QUESTIONS, lambda it: it[0]) + LONG_LINES * each
+    questions = HostileQuestions(LONG_MACHINE if each else session.MACHINE, asked_lines)
+    return [("questions", asking([questions], questions.count)),
+            *((name, asking(commands, len(commands))) for name, commands in of_commands.items()),
+            *((name, asking([HostileTalks(name, rows)], len(rows))) for name, rows in talks.items())]

@@ -43,13 +43,13 @@ def again(program, agent, devices, moment):
     return agent.judge_play(ran, sound, *plays) + judge_rows(ran, devices.pocket[0], NOTHING)
 
 
-def tried(program):
-    """Stops an agent at every point, each way. What was stopped, how often, and what is not so."""
+def tried(program, each):
+    """Stops an agent at every point, each way or by turns. What was stopped, how often, and what is not so."""
     agent, complaints, points = Agent(), [], 0
     sound = program.run(agent.words, agent.devices(Choice(), None), Choice())
     order = [it for it in sound.calls if it.name != "pause"]
-    for way in (NOTHING, ALL):
-        for number in range(1, len(order) + 1):
+    for number in range(1, len(order) + 1):
+        for way in (NOTHING, ALL) if each else [(NOTHING, ALL)[number % 2]]:
             choice = Choice(number=number, way=way, onwards=True)
             ran = program.run(agent.words, agent.devices(choice, sound), choice)
             told = agent.judge(ran, choice, sound) + judge_rows(ran, None, way)
