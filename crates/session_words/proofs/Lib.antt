@@ -1,0 +1,5 @@
+pub mod Rewritings
+pub mod Phrases
+pub mod Replacing
+pub mod Deepness
+pub mod FirstWords

@@ -1,0 +1,3 @@
+pub mod Replaced
+pub mod Depths
+pub mod Inside
