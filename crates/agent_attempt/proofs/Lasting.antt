@@ -68,7 +68,7 @@ pub stops_later : (at : When) (old : MachineView) (f : Walk) (a : Ran) (new : Ma
 stops_later at old f (ran.Held n) new p = holds_later at (f []).known (f []).next n old new p
 stops_later at old f (ran.Wants n digest) new p = later_same old new p.1
 stops_later at old f ran.Done new p = later_same old new p.1
-stops_later at old f (ran.Failed n cause) new p = later_same old new p.1
+stops_later at old f (ran.Failed n cause) new p = later_same old new p.2
 stops_later at old f ran.Memory new (n, starves) =
     later_trans old starves.between new (comes_later (IsTextOf n) at f old starves.texts starves.between starves.comes)
     (breaks_later at n (f starves.texts).known (f starves.texts).next starves.between new starves.breaks)

@@ -59,7 +59,7 @@ place_waits : (started : ℕ) (run : Run) (place : Place) → WaitsBelow started
 place_waits started run (Wanting fetch) waits = tt
 place_waits started run (Waiting line process) waits = waits
 place_waits started run Done waits = tt
-place_waits started run (Failed line cause) waits = tt
+place_waits started run (Failed line midway cause) waits = tt
 place_waits started run Ready waits = let own : Run = record run { place = Ready } in fresh_below started (from own []).next (fresh_from own tt)
 place_waits started run (Supplied fetch bytes) waits =
     placing_next (λ next. NextIsBelow started next) fetch bytes (around run) (known_in run.kept.scene) tt (λ long. tt) (λ stated found. tt)

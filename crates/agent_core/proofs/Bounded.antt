@@ -85,7 +85,7 @@ place_bounded (Asking arm arms other) rest (most, few) =
     let last = walk_all (shown_statements other) rest in
     (most, arm_few most arm rest (arms_walk arms.items rest last) few (arms_few most arms.items rest last few (walk_all_few most (shown_statements other) rest few)))
 place_bounded Done rest bounded = (0, ending_few 0)
-place_bounded (Failed line cause) rest bounded = (0, failing_few 0 line cause)
+place_bounded (Failed line midway cause) rest bounded = (0, failing_few 0 line midway cause)
 
 run_bounded : (run : Run) → (most : ℕ) × WantsAtMost (from run) most
 run_bounded run =

@@ -52,10 +52,10 @@ use Rattle.agent_core.proofs.TurnPoints.{Keeps, turn_keeps, with_machine}
 -- the law of faults in scripts
 pub record ScriptFaults : Type 0 where
   pub counted : (at : When) (script : PlainScript) (given : List Pair) (settled : List Settled) (old : MachineView) (line : ℕ) (new : MachineView) (left : Walk)
-      → Advances at old (after script given settled) (ran.Failed line cause.MachineFault) new left → Rose old.faults new.faults ⊎ (next script given settled ≡ FailsAt line cause.MachineFault)
-  pub begins : (script : PlainScript) (given : List Pair) (line : ℕ) → next script given [] ≢ FailsAt line cause.MachineFault
+      → Advances at old (after script given settled) (ran.Failed line cause.MachineFault) new left → Rose old.faults new.faults ⊎ (next script given settled ≡ FailsAt line true cause.MachineFault)
+  pub begins : (script : PlainScript) (given : List Pair) (line : ℕ) → next script given [] ≢ FailsAt line true cause.MachineFault
   pub files : (script : PlainScript) (given : List Pair) (settled : List Settled) (wanting : ℕ) (digest : List ℕ) (bytes : Option (List ℕ)) (line : ℕ)
-      → next script given settled ≡ Wants wanting digest → next script given (settled ++ supplied bytes ∷ []) ≢ FailsAt line cause.MachineFault
+      → next script given settled ≡ Wants wanting digest → next script given (settled ++ supplied bytes ∷ []) ≢ FailsAt line true cause.MachineFault
 
 -- the walk is that of a script after some results
 record IsOfScript (walk : Walk) : Type 0 where
@@ -66,7 +66,7 @@ record IsOfScript (walk : Walk) : Type 0 where
 
 -- what comes next is no fault of the machine
 abbrev NoFault : Next → Type 0
-NoFault comes = (line : ℕ) → comes ≢ FailsAt line cause.MachineFault
+NoFault comes = (line : ℕ) → comes ≢ FailsAt line true cause.MachineFault
 
 -- a script that runs has no fault next, and what it wanted with its last answer comes next
 record IsReady (rest : Walk) : Type 0 where
@@ -128,7 +128,7 @@ module _ (at : When) (old : MachineView) (walk : Walk) (new : MachineView) (furt
   failed_rose : ScriptFaults → (line : ℕ) → NoFault (walk []).next → Advances at old walk (ran.Failed line cause.MachineFault) new further → Rose old.faults new.faults
   failed_rose law line ready h = by_law (law.counted at of.script of.given of.settled old line new further (subst (λ w. Advances at old w (ran.Failed line cause.MachineFault) new further) of.same h))
     where
-      by_law : Rose old.faults new.faults ⊎ (next of.script of.given of.settled ≡ FailsAt line cause.MachineFault) → Rose old.faults new.faults
+      by_law : Rose old.faults new.faults ⊎ (next of.script of.given of.settled ≡ FailsAt line true cause.MachineFault) → Rose old.faults new.faults
       by_law (inl rose) = rose
       by_law (inr is) = absurd (ready line (sym (next_of walk of) ∙ is))
 

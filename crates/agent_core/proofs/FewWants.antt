@@ -36,64 +36,64 @@ pub ending_few : (most : ℕ) → Few most ending
 ending_few most known [] = omega arith
 ending_few most known (result ∷ results) = behind (ending_few most known results)
 
-pub failing_few : (most n : ℕ) (cause : Cause) → Few most (failing n cause)
-failing_few most n cause known [] = omega arith
-failing_few most n cause known (result ∷ results) = behind (failing_few most n cause known results)
+pub failing_few : (most n : ℕ) (midway : Bool) (cause : Cause) → Few most (failing n midway cause)
+failing_few most n midway cause known [] = omega arith
+failing_few most n midway cause known (result ∷ results) = behind (failing_few most n midway cause known results)
 
 -- ---- what is asked
 after_text_few : (most n : ℕ) (rest : List ℕ → Rest) (answer : OneText) → ((text : List ℕ) → Few most (rest text)) → Few most (after_text n rest answer)
 after_text_few most n rest (one_text.Text text) few = few text
-after_text_few most n rest (one_text.Error kind place) few = failing_few most n _
-after_text_few most n rest (one_text.Failed place) few = failing_few most n _
-after_text_few most n rest one_text.Memory few = failing_few most n _
+after_text_few most n rest (one_text.Error kind place) few = failing_few most n true _
+after_text_few most n rest (one_text.Failed place) few = failing_few most n true _
+after_text_few most n rest one_text.Memory few = failing_few most n true _
 
 saying_few : (most n : ℕ) (midway : Bool) (e : List ℕ) (rest : List ℕ → Rest) → ((text : List ℕ) → Few most (rest text)) → Few most (saying n midway e rest)
 saying_few most n midway e rest few known [] = omega arith
 saying_few most n midway e rest few known (said answer ∷ results) = behind (after_text_few most n rest answer few known results)
-saying_few most n midway e rest few known (_ ∷ results) = behind (failing_few most n MachineFault known results)
+saying_few most n midway e rest few known (_ ∷ results) = behind (failing_few most n true MachineFault known results)
 
 after_truth_few : (most n : ℕ) (met unmet : Rest) (answer : Truth) → Few most met → Few most unmet → Few most (after_truth n met unmet answer)
 after_truth_few most n met unmet truth.True p q = p
 after_truth_few most n met unmet truth.False p q = q
-after_truth_few most n met unmet (truth.Error kind place) p q = failing_few most n _
-after_truth_few most n met unmet (truth.Failed place) p q = failing_few most n _
-after_truth_few most n met unmet truth.Memory p q = failing_few most n _
+after_truth_few most n met unmet (truth.Error kind place) p q = failing_few most n true _
+after_truth_few most n met unmet (truth.Failed place) p q = failing_few most n true _
+after_truth_few most n met unmet truth.Memory p q = failing_few most n true _
 
 pub testing_few : (most n : ℕ) (test : List ℕ) (met unmet : Rest) → Few most met → Few most unmet → Few most (testing n test met unmet)
 testing_few most n test met unmet p q known [] = omega arith
 testing_few most n test met unmet p q known (judged answer ∷ results) = behind (after_truth_few most n met unmet answer p q known results)
-testing_few most n test met unmet p q known (_ ∷ results) = behind (failing_few most n MachineFault known results)
+testing_few most n test met unmet p q known (_ ∷ results) = behind (failing_few most n true MachineFault known results)
 
 pausing_few : (most n : ℕ) (test : List ℕ) (rest : Rest) → Few most rest → Few most (pausing n test rest)
 pausing_few most n test rest few known [] = omega arith
-pausing_few most n test rest few known (judged answer ∷ results) = behind (after_truth_few most n (failing n MachineFault) rest answer (failing_few most n MachineFault) few known results)
-pausing_few most n test rest few known (_ ∷ results) = behind (failing_few most n MachineFault known results)
+pausing_few most n test rest few known (judged answer ∷ results) = behind (after_truth_few most n (failing n true MachineFault) rest answer (failing_few most n true MachineFault) few known results)
+pausing_few most n test rest few known (_ ∷ results) = behind (failing_few most n true MachineFault known results)
 
 -- ---- what is done
 after_act_few : (most n : ℕ) (rest : Rest) (started : ℕ → Rest) (answer : Acted) → Few most rest → ((process : ℕ) → Few most (started process)) → Few most (after_act n rest started answer)
 after_act_few most n rest started of_act.Done p q = p
 after_act_few most n rest started (of_act.Started process) p q = q process.0
-after_act_few most n rest started (of_act.Refused reason) p q = failing_few most n _
-after_act_few most n rest started of_act.Failed p q = failing_few most n _
-after_act_few most n rest started of_act.Memory p q = failing_few most n _
+after_act_few most n rest started (of_act.Refused reason) p q = failing_few most n true _
+after_act_few most n rest started of_act.Failed p q = failing_few most n true _
+after_act_few most n rest started of_act.Memory p q = failing_few most n true _
 
 acting_few : (most n : ℕ) (midway : Bool) (c : Command) (rest : Rest) (started : ℕ → Rest) → Few most rest → ((process : ℕ) → Few most (started process)) → Few most (acting n midway c rest started)
 acting_few most n midway c rest started p q known [] = omega arith
 acting_few most n midway c rest started p q known (acted answer ∷ results) = behind (after_act_few most n rest started answer p q known results)
-acting_few most n midway c rest started p q known (_ ∷ results) = behind (failing_few most n MachineFault known results)
+acting_few most n midway c rest started p q known (_ ∷ results) = behind (failing_few most n true MachineFault known results)
 
 pub doing_few : (most n : ℕ) (midway : Bool) (c : Command) (rest : Rest) → Few most rest → Few most (doing n midway c rest)
 doing_few most n midway c rest few = acting_few most n midway c rest (λ process. rest) few (λ process. few)
 
 after_poll_few : (most n : ℕ) (rest : Rest) (answer : Polled) → Few most rest → Few most (after_poll n rest answer)
 after_poll_few most n rest (of_poll.Exited code) few = λ known. few (with_exit code known)
-after_poll_few most n rest of_poll.Failed few = failing_few most n _
-after_poll_few most n rest of_poll.Running few = failing_few most n _
+after_poll_few most n rest of_poll.Failed few = failing_few most n true _
+after_poll_few most n rest of_poll.Running few = failing_few most n true _
 
 pub polling_few : (most n process : ℕ) (rest : Rest) → Few most rest → Few most (polling n process rest)
 polling_few most n process rest few known [] = omega arith
 polling_few most n process rest few known (polled answer ∷ results) = behind (after_poll_few most n rest answer few known results)
-polling_few most n process rest few known (_ ∷ results) = behind (failing_few most n MachineFault known results)
+polling_few most n process rest few known (_ ∷ results) = behind (failing_few most n true MachineFault known results)
 
 awaiting_few : (most n : ℕ) (midway : Bool) (c : Command) (rest : Rest) → Few most rest → Few most (awaiting n midway c rest)
 awaiting_few most n midway c rest few = acting_few most n midway c rest (λ process. polling n process rest) few (λ process. polling_few most n process rest few)
@@ -117,19 +117,19 @@ either_few : (most : ℕ) (b : Bool) (f g : Walk) → WantsAtMost f most → Wan
 either_few most true f g p q = p
 either_few most false f g p q = q
 
-setting_few : (most n : ℕ) (name value : List ℕ) (rest : Rest) → Few most rest → Few most (setting n name value rest)
-setting_few most n name value rest few known = either_few most _ _ _ (failing_few most n _ known) (few _)
+setting_few : (most n : ℕ) (midway : Bool) (name value : List ℕ) (rest : Rest) → Few most rest → Few most (setting n midway name value rest)
+setting_few most n midway name value rest few known = either_few most _ _ _ (failing_few most n midway _ known) (few _)
 
-timed_few : (most n : ℕ) (o : Option ℕ) (rest : ℤ → Rest) → ((moment : ℤ) → Few most (rest moment)) → Few most (timed n o rest)
-timed_few most n None rest few = failing_few most n _
-timed_few most n (Some moment) rest few = few (pos moment)
+timed_few : (most n : ℕ) (midway : Bool) (o : Option ℕ) (rest : ℤ → Rest) → ((moment : ℤ) → Few most (rest moment)) → Few most (timed n midway o rest)
+timed_few most n midway None rest few = failing_few most n midway _
+timed_few most n midway (Some moment) rest few = few (pos moment)
 
 dated_few : (most n : ℕ) (midway : Bool) (template : Template) (rest : Bool → ℤ → Rest) → ((later : Bool) (moment : ℤ) → Few most (rest later moment)) → Few most (dated n midway template rest)
-dated_few most n midway template rest few = filled_few most n midway template _ (λ later text. timed_few most n _ (rest later) (few later))
+dated_few most n midway template rest few = filled_few most n midway template _ (λ later text. timed_few most n later _ (rest later) (few later))
 
 pub line_few : (most n : ℕ) (what : Line) (rest : Rest) → Few most rest → Few most (line_walk n what rest)
-line_few most n (line.Parameter name value) rest few = filled_few most n false value _ (λ midway text. setting_few most n name text rest few)
-line_few most n (line.ContinueIf test) rest few = testing_few most n test rest _ few (failing_few most n _)
+line_few most n (line.Parameter name value) rest few = filled_few most n false value _ (λ midway text. setting_few most n midway name text rest few)
+line_few most n (line.ContinueIf test) rest few = testing_few most n test rest _ few (failing_few most n true _)
 line_few most n (line.PauseWhile test) rest few = pausing_few most n test rest few
 line_few most n (line.Create templates) rest few = lining_few most n false templates [] _ (λ midway text. doing_few most n midway _ rest few)
 line_few most n (line.Append template) rest few = filled_few most n false template _ (λ midway text. doing_few most n midway _ rest few)
@@ -169,14 +169,14 @@ pub placing_few : (most : ℕ) (fetch : Prefetch) (bytes : List ℕ) (rest : Res
 placing_few most fetch bytes rest few = search (either_rest, doing_few, failing_few, few)
 
 after_supply_few : (most : ℕ) (fetch : Prefetch) (rest : Rest) (bytes : Option (List ℕ)) → Few most rest → Few most (after_supply fetch rest bytes)
-after_supply_few most fetch rest None few = failing_few most fetch.line _
+after_supply_few most fetch rest None few = failing_few most fetch.line true _
 after_supply_few most fetch rest (Some bytes) few = placing_few most fetch bytes rest few
 
 -- one more is wanted by a prefetch line
 pub fetching_few : (most : ℕ) (fetch : Prefetch) (rest : Rest) → Few most rest → Few (suc most) (fetching fetch rest)
 fetching_few most fetch rest few known [] = omega arith
 fetching_few most fetch rest few known (supplied bytes ∷ results) = let later = after_supply_few most fetch rest bytes few known results in omega (arith, later)
-fetching_few most fetch rest few known (_ ∷ results) = let later = failing_few most fetch.line MachineFault known results in omega (arith, later)
+fetching_few most fetch rest few known (_ ∷ results) = let later = failing_few most fetch.line true MachineFault known results in omega (arith, later)
 
 fetch_all_few : (fetches : List Prefetch) (rest : Rest) → Few 0 rest → Few (length fetches) (fetch_all fetches rest)
 fetch_all_few [] rest few = few

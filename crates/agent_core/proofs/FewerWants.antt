@@ -265,7 +265,7 @@ place_next (Waiting line process) rest known = tt
 place_next (Testing arms other) rest known = tt
 place_next (Asking arm arms other) rest known = tt
 place_next Done rest known = tt
-place_next (Failed line cause) rest known = tt
+place_next (Failed line midway cause) rest known = tt
 
 stage_next : (stage : Stage) → WantsNext (shown_stage stage)
 stage_next of_stage.Coming = tt

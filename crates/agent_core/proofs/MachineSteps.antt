@@ -73,7 +73,7 @@ stops_stepped : (at : When) (old : MachineView) (f : Walk) (a : Ran) (new : Mach
 stops_stepped at old f (ran.Held n) new p = holds_stepped at (f []).known (f []).next n old new p
 stops_stepped at old f (ran.Wants n digest) new p = stepped_same at.moment old new p.1
 stops_stepped at old f ran.Done new p = stepped_same at.moment old new p.1
-stops_stepped at old f (ran.Failed n cause) new p = stepped_same at.moment old new p.1
+stops_stepped at old f (ran.Failed n cause) new p = stepped_same at.moment old new p.2
 stops_stepped at old f ran.Memory new (n, starves) =
     stepped_more at.moment old starves.between new (comes_stepped (IsTextOf n) at f old starves.texts starves.between starves.comes)
     (breaks_stepped at n (f starves.texts).known (f starves.texts).next starves.between new starves.breaks)

@@ -38,7 +38,7 @@ stop_at (Wants n digest) = ran.Wants n digest
 stop_at (Pauses n text) = ran.Held n
 stop_at (Polls n process) = ran.Held n
 stop_at Ends = ran.Done
-stop_at (Fails n cause) = ran.Failed n cause
+stop_at (Fails n midway cause) = ran.Failed n cause
 stop_at _ = ran.Memory
 
 held_as : (at : When) (known : Known) (next : Next) (n : ℕ) (old new : MachineView) → Holds at known next n old new → ran.Held n ≡ stop_at next
@@ -50,7 +50,7 @@ stops_as : (at : When) (old : MachineView) (f : Walk) (a : Ran) (new : MachineVi
 stops_as at old f (ran.Held n) new h ample = held_as at (f []).known (f []).next n old new h
 stops_as at old f (ran.Wants n digest) new h ample = sym (ap stop_at h.0)
 stops_as at old f ran.Done new h ample = sym (ap stop_at h.0)
-stops_as at old f (ran.Failed n cause) new h ample = sym (ap stop_at h.0)
+stops_as at old f (ran.Failed n cause) new h ample = sym (ap stop_at h.1)
 stops_as at old f ran.Memory new h ample = absurd (ample refl)
 
 same_ok : (x y : PlainScript) (a b : Result PlainScript ScriptError) → a ≡ Ok x → b ≡ Ok y → a ≡ b → x ≡ y
@@ -86,7 +86,7 @@ module _ (plan : OnePlan) (verdict : OneVerdict) (faults : ℕ) (low : faults < 
   stops_view f (ran.Held n) old new other calm p q e e' ample = holds_same (f []).known (f []).next n old new other calm p q e e'
   stops_view f (ran.Wants n digest) old new other calm p q e e' ample = left_same old new other calm p.1 q.1
   stops_view f ran.Done old new other calm p q e e' ample = left_same old new other calm p.1 q.1
-  stops_view f (ran.Failed n cause) old new other calm p q e e' ample = left_same old new other calm p.1 q.1
+  stops_view f (ran.Failed n cause) old new other calm p q e e' ample = left_same old new other calm p.2 q.2
   stops_view f ran.Memory old new other calm p q e e' ample = absurd (ample refl)
 
   stops_same : (f : Walk) (a b : Ran) (old new other : MachineView) → Calm faults old → Stops at old f a new → Stops at old f b other → new.faults ≡ faults → other.faults ≡ faults → a ≢ ran.Memory → b ≢ ran.Memory → (a ≡ b) × Same new other
@@ -112,7 +112,7 @@ module _ (plan : OnePlan) (verdict : OneVerdict) (faults : ℕ) (low : faults < 
   stopped_or_settled f old r new (ran.Held n) other calm p q e e' ample = held_or_settled (f []).known (f []).next n old r new other calm p q e e'
   stopped_or_settled f old r new (ran.Wants n digest) other calm p q e e' ample = let S : Next → Type 0 = λ x. Settles at (f []).known x old r new in subst S q.0 p
   stopped_or_settled f old r new ran.Done other calm p q e e' ample = let S : Next → Type 0 = λ x. Settles at (f []).known x old r new in subst S q.0 p
-  stopped_or_settled f old r new (ran.Failed n cause) other calm p q e e' ample = let S : Next → Type 0 = λ x. Settles at (f []).known x old r new in subst S q.0 p
+  stopped_or_settled f old r new (ran.Failed n cause) other calm p q e e' ample = let S : Next → Type 0 = λ x. Settles at (f []).known x old r new in subst S q.1 p
   stopped_or_settled f old r new ran.Memory other calm p q e e' ample = ample refl
 
   -- ---- one advance

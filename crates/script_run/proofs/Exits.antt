@@ -62,19 +62,19 @@ keeps_lining n midway [] text rest h = h midway text
 keeps_lining n midway (template ∷ templates) text rest h =
     keeps_filling n midway template.parts text (λ later more. lining n later templates (ended more) rest) (λ later more. keeps_lining n later templates (ended more) rest h)
 
-keeps_setting : (n : ℕ) (name value : List ℕ) (rest : Rest) → KeepsExit rest → KeepsExit (setting n name value rest)
-keeps_setting n name value rest h = λ known.
-    keeps_either (is_some (value_of name known.parameters)) (failing n ParameterTwice known) (rest (with_parameter name value known)) known.exit refl (h (with_parameter name value known))
+keeps_setting : (n : ℕ) (midway : Bool) (name value : List ℕ) (rest : Rest) → KeepsExit rest → KeepsExit (setting n midway name value rest)
+keeps_setting n midway name value rest h = λ known.
+    keeps_either (is_some (value_of name known.parameters)) (failing n midway ParameterTwice known) (rest (with_parameter name value known)) known.exit refl (h (with_parameter name value known))
 
-keeps_timed : (n : ℕ) (moment : Option ℕ) (rest : ℤ → Rest) → ((at : ℤ) → KeepsExit (rest at)) → KeepsExit (timed n moment rest)
-keeps_timed n None rest h = λ known. refl
-keeps_timed n (Some moment) rest h = h (pos moment)
+keeps_timed : (n : ℕ) (midway : Bool) (moment : Option ℕ) (rest : ℤ → Rest) → ((at : ℤ) → KeepsExit (rest at)) → KeepsExit (timed n midway moment rest)
+keeps_timed n midway None rest h = λ known. refl
+keeps_timed n midway (Some moment) rest h = h (pos moment)
 
 keeps_dated : (n : ℕ) (midway : Bool) (template : Template) (rest : Bool → ℤ → Rest) → ((later : Bool) (at : ℤ) → KeepsExit (rest later at)) → KeepsExit (dated n midway template rest)
-keeps_dated n midway template rest h = keeps_one n midway template (λ later text. timed n (time_of text) (rest later)) (λ later text. keeps_timed n (time_of text) (rest later) (h later))
+keeps_dated n midway template rest h = keeps_one n midway template (λ later text. timed n later (time_of text) (rest later)) (λ later text. keeps_timed n later (time_of text) (rest later) (h later))
 
 keeps_line : (n : ℕ) (what : Line) (rest : Rest) → KeepsExit rest → KeepsExit (line_walk n what rest)
-keeps_line n (line.Parameter name value) rest h = keeps_one n false value (λ m text. setting n name text rest) (λ m text. keeps_setting n name text rest h)
+keeps_line n (line.Parameter name value) rest h = keeps_one n false value (λ m text. setting n m name text rest) (λ m text. keeps_setting n m name text rest h)
 keeps_line n (line.ContinueIf test) rest h = λ known. refl
 keeps_line n (line.PauseWhile test) rest h = λ known. refl
 keeps_line n (line.Create templates) rest h = keeps_lining n false templates [] (λ m text. doing n m (Write (codes "__createfile") text) rest) (λ m text known. refl)
@@ -131,9 +131,9 @@ keeps_todos (todo ∷ todos) = keeps_todo todo (todos_walk todos) (keeps_todos t
 keeps_placing : (fetch : Prefetch) (bytes : List ℕ) (rest : Rest) → KeepsExit (placing fetch bytes rest)
 keeps_placing fetch bytes rest =
     let placed = doing fetch.line false (PlaceFile fetch.name bytes) rest in
-    let long = failing fetch.line (WrongSize fetch.size (length bytes)) in
-    let first = failing fetch.line (WrongDigest (encode_lower fetch.sha1) (encode_lower (sha1 bytes))) in
-    let second = failing fetch.line (WrongDigest (encode_lower fetch.sha256) (encode_lower (sha256 bytes))) in
+    let long = failing fetch.line true (WrongSize fetch.size (length bytes)) in
+    let first = failing fetch.line true (WrongDigest (encode_lower fetch.sha1) (encode_lower (sha1 bytes))) in
+    let second = failing fetch.line true (WrongDigest (encode_lower fetch.sha256) (encode_lower (sha256 bytes))) in
     let inner = cond (bytes_eq (sha256 bytes) fetch.sha256) placed second in
     keeps_if (length bytes == fetch.size) (cond (bytes_eq (sha1 bytes) fetch.sha1) inner first) long
     (keeps_if (bytes_eq (sha1 bytes) fetch.sha1) inner first (keeps_if (bytes_eq (sha256 bytes) fetch.sha256) placed second (λ known. refl) (λ known. refl)) (λ known. refl))
@@ -153,7 +153,7 @@ keeps_place (Waiting line process) rest h = λ known. refl
 keeps_place (Testing arms other) rest h = keeps_arm_list arms.items rest (walk_all (shown_statements other) rest) (keeps_all (shown_statements other) rest h)
 keeps_place (Asking arm arms other) rest h = λ known. refl
 keeps_place Done rest h = λ known. refl
-keeps_place (Failed line cause) rest h = λ known. refl
+keeps_place (Failed line midway cause) rest h = λ known. refl
 
 -- a run that stands for results knows the exit code that is known after them
 pub exits : (script : PlainScript) (given : List Pair) (settled : List Settled) (run : Run) → Stands script given run settled → run.kept.scene.exit ≡ exit_after script given settled

@@ -43,11 +43,11 @@ CanCome _ _ = ⊥
 
 -- no fault of the machine comes next
 abbrev Begins : Walk → Type 0
-Begins f = (n : ℕ) → (f []).next ≢ Fails n MachineFault
+Begins f = (n : ℕ) (w : Bool) → (f []).next ≢ Fails n w MachineFault
 
 -- where one comes next, the result before it is one
 abbrev pub Counts : Walk → Type 0
-Counts f = (settled : List Settled) (result : Settled) (n : ℕ) → CanCome (f settled).next result → (f (settled ++ result ∷ [])).next ≡ Fails n MachineFault → fault_in result ≢ 0
+Counts f = (settled : List Settled) (result : Settled) (n : ℕ) (w : Bool) → CanCome (f settled).next result → (f (settled ++ result ∷ [])).next ≡ Fails n w MachineFault → fault_in result ≢ 0
 
 abbrev BeginsAll : Rest → Type 0
 BeginsAll rest = (known : Known) → Begins (rest known)
@@ -59,120 +59,120 @@ record Honest (rest : Rest) : Type 0 where
   begins : BeginsAll rest
   counts : CountsAll rest
 
-failing_counts : (n : ℕ) (cause : Cause) → CountsAll (failing n cause)
-failing_counts n cause known settled result m can is = absurd can
+failing_counts : (n : ℕ) (midway : Bool) (cause : Cause) → CountsAll (failing n midway cause)
+failing_counts n midway cause known settled result m w can is = absurd can
 
 ending_honest : Honest ending
-ending_honest = record { begins = λ known n is. absurd (cc); counts = λ known settled result n can is. absurd can }
+ending_honest = record { begins = λ known n w is. absurd (cc); counts = λ known settled result n w can is. absurd can }
 
-failing_honest : (n : ℕ) (cause : Cause) → ((m : ℕ) → Fails n cause ≢ Fails m MachineFault) → Honest (failing n cause)
-failing_honest n cause other = record { begins = λ known. other; counts = failing_counts n cause }
+failing_honest : (n : ℕ) (midway : Bool) (cause : Cause) → ((m : ℕ) (w : Bool) → Fails n midway cause ≢ Fails m w MachineFault) → Honest (failing n midway cause)
+failing_honest n midway cause other = record { begins = λ known. other; counts = failing_counts n midway cause }
 
 -- ---- what is asked
 after_text_counts : (n : ℕ) (rest : List ℕ → Rest) (answer : OneText) → ((text : List ℕ) → Honest (rest text)) → CountsAll (after_text n rest answer)
 after_text_counts n rest (one_text.Text text) h = (h text).counts
-after_text_counts n rest (one_text.Error kind place) h = λ known settled result m can is. absurd can
-after_text_counts n rest (one_text.Failed place) h = λ known settled result m can is. absurd can
-after_text_counts n rest one_text.Memory h = λ known settled result m can is. absurd can
+after_text_counts n rest (one_text.Error kind place) h = λ known settled result m w can is. absurd can
+after_text_counts n rest (one_text.Failed place) h = λ known settled result m w can is. absurd can
+after_text_counts n rest one_text.Memory h = λ known settled result m w can is. absurd can
 
 after_text_faults : (n : ℕ) (rest : List ℕ → Rest) (answer : OneText) → ((text : List ℕ) → Honest (rest text)) → answer ≢ one_text.Memory →
-    (known : Known) (m : ℕ) → (after_text n rest answer known []).next ≡ Fails m MachineFault → fault_in (said answer) ≢ 0
-after_text_faults n rest (one_text.Text text) h can known m is = absurd ((h text).begins known m is)
-after_text_faults n rest (one_text.Error kind place) h can known m is = absurd (cc)
-after_text_faults n rest (one_text.Failed place) h can known m is = λ none. absurd (omega (arith, none))
-after_text_faults n rest one_text.Memory h can known m is = absurd (can refl)
+    (known : Known) (m : ℕ) (w : Bool) → (after_text n rest answer known []).next ≡ Fails m w MachineFault → fault_in (said answer) ≢ 0
+after_text_faults n rest (one_text.Text text) h can known m w is = absurd ((h text).begins known m w is)
+after_text_faults n rest (one_text.Error kind place) h can known m w is = absurd (cc)
+after_text_faults n rest (one_text.Failed place) h can known m w is = λ none. absurd (omega (arith, none))
+after_text_faults n rest one_text.Memory h can known m w is = absurd (can refl)
 
 saying_counts : (n : ℕ) (midway : Bool) (e : List ℕ) (rest : List ℕ → Rest) → ((text : List ℕ) → Honest (rest text)) → CountsAll (saying n midway e rest)
-saying_counts n midway e rest h known [] (said answer) m can is = after_text_faults n rest answer h can known m is
-saying_counts n midway e rest h known [] result m can is = absurd can
-saying_counts n midway e rest h known (said answer ∷ settled) result m can is = after_text_counts n rest answer h known settled result m can is
-saying_counts n midway e rest h known (_ ∷ settled) result m can is = absurd can
+saying_counts n midway e rest h known [] (said answer) m w can is = after_text_faults n rest answer h can known m w is
+saying_counts n midway e rest h known [] result m w can is = absurd can
+saying_counts n midway e rest h known (said answer ∷ settled) result m w can is = after_text_counts n rest answer h known settled result m w can is
+saying_counts n midway e rest h known (_ ∷ settled) result m w can is = absurd can
 
 saying_honest : (n : ℕ) (midway : Bool) (e : List ℕ) (rest : List ℕ → Rest) → ((text : List ℕ) → Honest (rest text)) → Honest (saying n midway e rest)
-saying_honest n midway e rest h = record { begins = λ known m is. absurd (cc); counts = saying_counts n midway e rest h }
+saying_honest n midway e rest h = record { begins = λ known m w is. absurd (cc); counts = saying_counts n midway e rest h }
 
 after_truth_counts : (n : ℕ) (met unmet : Rest) (answer : Truth) → CountsAll met → CountsAll unmet → CountsAll (after_truth n met unmet answer)
 after_truth_counts n met unmet truth.True p q = p
 after_truth_counts n met unmet truth.False p q = q
-after_truth_counts n met unmet (truth.Error kind place) p q = λ known settled result m can is. absurd can
-after_truth_counts n met unmet (truth.Failed place) p q = λ known settled result m can is. absurd can
-after_truth_counts n met unmet truth.Memory p q = λ known settled result m can is. absurd can
+after_truth_counts n met unmet (truth.Error kind place) p q = λ known settled result m w can is. absurd can
+after_truth_counts n met unmet (truth.Failed place) p q = λ known settled result m w can is. absurd can
+after_truth_counts n met unmet truth.Memory p q = λ known settled result m w can is. absurd can
 
 after_truth_faults : (n : ℕ) (met unmet : Rest) (answer : Truth) → (answer ≢ truth.True ⊎ BeginsAll met) → BeginsAll unmet → answer ≢ truth.Memory →
-    (known : Known) (m : ℕ) → (after_truth n met unmet answer known []).next ≡ Fails m MachineFault → fault_in (judged answer) ≢ 0
-after_truth_faults n met unmet truth.True (inl other) q can known m is = absurd (other refl)
-after_truth_faults n met unmet truth.True (inr p) q can known m is = absurd (p known m is)
-after_truth_faults n met unmet truth.False p q can known m is = absurd (q known m is)
-after_truth_faults n met unmet (truth.Error kind place) p q can known m is = absurd (cc)
-after_truth_faults n met unmet (truth.Failed place) p q can known m is = λ none. absurd (omega (arith, none))
-after_truth_faults n met unmet truth.Memory p q can known m is = absurd (can refl)
+    (known : Known) (m : ℕ) (w : Bool) → (after_truth n met unmet answer known []).next ≡ Fails m w MachineFault → fault_in (judged answer) ≢ 0
+after_truth_faults n met unmet truth.True (inl other) q can known m w is = absurd (other refl)
+after_truth_faults n met unmet truth.True (inr p) q can known m w is = absurd (p known m w is)
+after_truth_faults n met unmet truth.False p q can known m w is = absurd (q known m w is)
+after_truth_faults n met unmet (truth.Error kind place) p q can known m w is = absurd (cc)
+after_truth_faults n met unmet (truth.Failed place) p q can known m w is = λ none. absurd (omega (arith, none))
+after_truth_faults n met unmet truth.Memory p q can known m w is = absurd (can refl)
 
 testing_counts : (n : ℕ) (test : List ℕ) (met unmet : Rest) → Honest met → Honest unmet → CountsAll (testing n test met unmet)
-testing_counts n test met unmet p q known [] (judged answer) m can is = after_truth_faults n met unmet answer (inr p.begins) q.begins can known m is
-testing_counts n test met unmet p q known [] result m can is = absurd can
-testing_counts n test met unmet p q known (judged answer ∷ settled) result m can is = after_truth_counts n met unmet answer p.counts q.counts known settled result m can is
-testing_counts n test met unmet p q known (_ ∷ settled) result m can is = absurd can
+testing_counts n test met unmet p q known [] (judged answer) m w can is = after_truth_faults n met unmet answer (inr p.begins) q.begins can known m w is
+testing_counts n test met unmet p q known [] result m w can is = absurd can
+testing_counts n test met unmet p q known (judged answer ∷ settled) result m w can is = after_truth_counts n met unmet answer p.counts q.counts known settled result m w can is
+testing_counts n test met unmet p q known (_ ∷ settled) result m w can is = absurd can
 
 testing_honest : (n : ℕ) (test : List ℕ) (met unmet : Rest) → Honest met → Honest unmet → Honest (testing n test met unmet)
-testing_honest n test met unmet p q = record { begins = λ known m is. absurd (cc); counts = testing_counts n test met unmet p q }
+testing_honest n test met unmet p q = record { begins = λ known m w is. absurd (cc); counts = testing_counts n test met unmet p q }
 
 pausing_counts : (n : ℕ) (test : List ℕ) (rest : Rest) → Honest rest → CountsAll (pausing n test rest)
-pausing_counts n test rest h known [] (judged answer) m can is = after_truth_faults n (failing n MachineFault) rest answer (inl can.1) h.begins can.0 known m is
-pausing_counts n test rest h known [] result m can is = absurd can
-pausing_counts n test rest h known (judged answer ∷ settled) result m can is =
-    after_truth_counts n (failing n MachineFault) rest answer (failing_counts n MachineFault) h.counts known settled result m can is
-pausing_counts n test rest h known (_ ∷ settled) result m can is = absurd can
+pausing_counts n test rest h known [] (judged answer) m w can is = after_truth_faults n (failing n true MachineFault) rest answer (inl can.1) h.begins can.0 known m w is
+pausing_counts n test rest h known [] result m w can is = absurd can
+pausing_counts n test rest h known (judged answer ∷ settled) result m w can is =
+    after_truth_counts n (failing n true MachineFault) rest answer (failing_counts n true MachineFault) h.counts known settled result m w can is
+pausing_counts n test rest h known (_ ∷ settled) result m w can is = absurd can
 
 pausing_honest : (n : ℕ) (test : List ℕ) (rest : Rest) → Honest rest → Honest (pausing n test rest)
-pausing_honest n test rest h = record { begins = λ known m is. absurd (cc); counts = pausing_counts n test rest h }
+pausing_honest n test rest h = record { begins = λ known m w is. absurd (cc); counts = pausing_counts n test rest h }
 
 -- ---- what is done
 after_act_counts : (n : ℕ) (rest : Rest) (started : ℕ → Rest) (answer : Acted) → Honest rest → ((process : ℕ) → Honest (started process)) → CountsAll (after_act n rest started answer)
 after_act_counts n rest started of_act.Done p q = p.counts
 after_act_counts n rest started (of_act.Started process) p q = (q process.0).counts
-after_act_counts n rest started (of_act.Refused reason) p q = λ known settled result m can is. absurd can
-after_act_counts n rest started of_act.Failed p q = λ known settled result m can is. absurd can
-after_act_counts n rest started of_act.Memory p q = λ known settled result m can is. absurd can
+after_act_counts n rest started (of_act.Refused reason) p q = λ known settled result m w can is. absurd can
+after_act_counts n rest started of_act.Failed p q = λ known settled result m w can is. absurd can
+after_act_counts n rest started of_act.Memory p q = λ known settled result m w can is. absurd can
 
 after_act_faults : (n : ℕ) (rest : Rest) (started : ℕ → Rest) (answer : Acted) → Honest rest → ((process : ℕ) → Honest (started process)) → answer ≢ of_act.Memory →
-    (known : Known) (m : ℕ) → (after_act n rest started answer known []).next ≡ Fails m MachineFault → fault_in (acted answer) ≢ 0
-after_act_faults n rest started of_act.Done p q can known m is = absurd (p.begins known m is)
-after_act_faults n rest started (of_act.Started process) p q can known m is = absurd ((q process.0).begins known m is)
-after_act_faults n rest started (of_act.Refused reason) p q can known m is = absurd (cc)
-after_act_faults n rest started of_act.Failed p q can known m is = λ none. absurd (omega (arith, none))
-after_act_faults n rest started of_act.Memory p q can known m is = absurd (can refl)
+    (known : Known) (m : ℕ) (w : Bool) → (after_act n rest started answer known []).next ≡ Fails m w MachineFault → fault_in (acted answer) ≢ 0
+after_act_faults n rest started of_act.Done p q can known m w is = absurd (p.begins known m w is)
+after_act_faults n rest started (of_act.Started process) p q can known m w is = absurd ((q process.0).begins known m w is)
+after_act_faults n rest started (of_act.Refused reason) p q can known m w is = absurd (cc)
+after_act_faults n rest started of_act.Failed p q can known m w is = λ none. absurd (omega (arith, none))
+after_act_faults n rest started of_act.Memory p q can known m w is = absurd (can refl)
 
 acting_counts : (n : ℕ) (midway : Bool) (c : Command) (rest : Rest) (started : ℕ → Rest) → Honest rest → ((process : ℕ) → Honest (started process)) → CountsAll (acting n midway c rest started)
-acting_counts n midway c rest started p q known [] (acted answer) m can is = after_act_faults n rest started answer p q can known m is
-acting_counts n midway c rest started p q known [] result m can is = absurd can
-acting_counts n midway c rest started p q known (acted answer ∷ settled) result m can is = after_act_counts n rest started answer p q known settled result m can is
-acting_counts n midway c rest started p q known (_ ∷ settled) result m can is = absurd can
+acting_counts n midway c rest started p q known [] (acted answer) m w can is = after_act_faults n rest started answer p q can known m w is
+acting_counts n midway c rest started p q known [] result m w can is = absurd can
+acting_counts n midway c rest started p q known (acted answer ∷ settled) result m w can is = after_act_counts n rest started answer p q known settled result m w can is
+acting_counts n midway c rest started p q known (_ ∷ settled) result m w can is = absurd can
 
 acting_honest : (n : ℕ) (midway : Bool) (c : Command) (rest : Rest) (started : ℕ → Rest) → Honest rest → ((process : ℕ) → Honest (started process)) → Honest (acting n midway c rest started)
-acting_honest n midway c rest started p q = record { begins = λ known m is. absurd (cc); counts = acting_counts n midway c rest started p q }
+acting_honest n midway c rest started p q = record { begins = λ known m w is. absurd (cc); counts = acting_counts n midway c rest started p q }
 
 doing_honest : (n : ℕ) (midway : Bool) (c : Command) (rest : Rest) → Honest rest → Honest (doing n midway c rest)
 doing_honest n midway c rest h = acting_honest n midway c rest (λ process. rest) h (λ process. h)
 
 after_poll_counts : (n : ℕ) (rest : Rest) (answer : Polled) → Honest rest → CountsAll (after_poll n rest answer)
 after_poll_counts n rest (of_poll.Exited code) h = λ known. h.counts (with_exit code known)
-after_poll_counts n rest of_poll.Failed h = λ known settled result m can is. absurd can
-after_poll_counts n rest of_poll.Running h = λ known settled result m can is. absurd can
+after_poll_counts n rest of_poll.Failed h = λ known settled result m w can is. absurd can
+after_poll_counts n rest of_poll.Running h = λ known settled result m w can is. absurd can
 
 after_poll_faults : (n : ℕ) (rest : Rest) (answer : Polled) → Honest rest → answer ≢ of_poll.Running →
-    (known : Known) (m : ℕ) → (after_poll n rest answer known []).next ≡ Fails m MachineFault → fault_in (polled answer) ≢ 0
-after_poll_faults n rest (of_poll.Exited code) h can known m is = absurd (h.begins (with_exit code known) m is)
-after_poll_faults n rest of_poll.Failed h can known m is = λ none. absurd (omega (arith, none))
-after_poll_faults n rest of_poll.Running h can known m is = absurd (can refl)
+    (known : Known) (m : ℕ) (w : Bool) → (after_poll n rest answer known []).next ≡ Fails m w MachineFault → fault_in (polled answer) ≢ 0
+after_poll_faults n rest (of_poll.Exited code) h can known m w is = absurd (h.begins (with_exit code known) m w is)
+after_poll_faults n rest of_poll.Failed h can known m w is = λ none. absurd (omega (arith, none))
+after_poll_faults n rest of_poll.Running h can known m w is = absurd (can refl)
 
 polling_counts : (n process : ℕ) (rest : Rest) → Honest rest → CountsAll (polling n process rest)
-polling_counts n process rest h known [] (polled answer) m can is = after_poll_faults n rest answer h can known m is
-polling_counts n process rest h known [] result m can is = absurd can
-polling_counts n process rest h known (polled answer ∷ settled) result m can is = after_poll_counts n rest answer h known settled result m can is
-polling_counts n process rest h known (_ ∷ settled) result m can is = absurd can
+polling_counts n process rest h known [] (polled answer) m w can is = after_poll_faults n rest answer h can known m w is
+polling_counts n process rest h known [] result m w can is = absurd can
+polling_counts n process rest h known (polled answer ∷ settled) result m w can is = after_poll_counts n rest answer h known settled result m w can is
+polling_counts n process rest h known (_ ∷ settled) result m w can is = absurd can
 
 polling_honest : (n process : ℕ) (rest : Rest) → Honest rest → Honest (polling n process rest)
-polling_honest n process rest h = record { begins = λ known m is. absurd (cc); counts = polling_counts n process rest h }
+polling_honest n process rest h = record { begins = λ known m w is. absurd (cc); counts = polling_counts n process rest h }
 
 awaiting_honest : (n : ℕ) (midway : Bool) (c : Command) (rest : Rest) → Honest rest → Honest (awaiting n midway c rest)
 awaiting_honest n midway c rest h = acting_honest n midway c rest (λ process. polling n process rest) h (λ process. polling_honest n process rest h)
@@ -203,23 +203,23 @@ one_counts : (b : Bool) (f g : Walk) → Counts f → Counts g → Counts (if b 
 one_counts true f g p q = p
 one_counts false f g p q = q
 
-setting_honest : (n : ℕ) (name value : List ℕ) (rest : Rest) → Honest rest → Honest (setting n name value rest)
-setting_honest n name value rest h = record {
-  begins = λ known. one_begins (is_some (value_of name known.parameters)) (failing n ParameterTwice known) (rest (with_parameter name value known)) (λ m is. absurd (cc)) (h.begins (with_parameter name value known));
-  counts = λ known. one_counts (is_some (value_of name known.parameters)) (failing n ParameterTwice known) (rest (with_parameter name value known)) (failing_counts n ParameterTwice known) (h.counts (with_parameter name value known));
+setting_honest : (n : ℕ) (midway : Bool) (name value : List ℕ) (rest : Rest) → Honest rest → Honest (setting n midway name value rest)
+setting_honest n midway name value rest h = record {
+  begins = λ known. one_begins (is_some (value_of name known.parameters)) (failing n midway ParameterTwice known) (rest (with_parameter name value known)) (λ m w is. absurd (cc)) (h.begins (with_parameter name value known));
+  counts = λ known. one_counts (is_some (value_of name known.parameters)) (failing n midway ParameterTwice known) (rest (with_parameter name value known)) (failing_counts n midway ParameterTwice known) (h.counts (with_parameter name value known));
 }
 
-timed_honest : (n : ℕ) (o : Option ℕ) (rest : ℤ → Rest) → ((moment : ℤ) → Honest (rest moment)) → Honest (timed n o rest)
-timed_honest n None rest h = failing_honest n BadDate (λ m is. absurd (cc))
-timed_honest n (Some moment) rest h = h (pos moment)
+timed_honest : (n : ℕ) (midway : Bool) (o : Option ℕ) (rest : ℤ → Rest) → ((moment : ℤ) → Honest (rest moment)) → Honest (timed n midway o rest)
+timed_honest n midway None rest h = failing_honest n midway BadDate (λ m w is. absurd (cc))
+timed_honest n midway (Some moment) rest h = h (pos moment)
 
 dated_honest : (n : ℕ) (midway : Bool) (template : Template) (rest : Bool → ℤ → Rest) → ((later : Bool) (moment : ℤ) → Honest (rest later moment)) → Honest (dated n midway template rest)
 dated_honest n midway template rest h =
-    filled_honest n midway template (λ later text. timed n (time_of text) (rest later)) (λ later text. timed_honest n (time_of text) (rest later) (h later))
+    filled_honest n midway template (λ later text. timed n later (time_of text) (rest later)) (λ later text. timed_honest n later (time_of text) (rest later) (h later))
 
 line_honest : (n : ℕ) (what : Line) (rest : Rest) → Honest rest → Honest (line_walk n what rest)
-line_honest n (line.Parameter name value) rest h = filled_honest n false value _ (λ midway text. setting_honest n name text rest h)
-line_honest n (line.ContinueIf test) rest h = testing_honest n test rest (failing n NotContinued) h (failing_honest n NotContinued (λ m is. absurd (cc)))
+line_honest n (line.Parameter name value) rest h = filled_honest n false value _ (λ midway text. setting_honest n midway name text rest h)
+line_honest n (line.ContinueIf test) rest h = testing_honest n test rest (failing n true NotContinued) h (failing_honest n true NotContinued (λ m w is. absurd (cc)))
 line_honest n (line.PauseWhile test) rest h = pausing_honest n test rest h
 line_honest n (line.Create templates) rest h = lining_honest n false templates [] _ (λ midway text. doing_honest n midway (command.Write (codes "__createfile") text) rest h)
 line_honest n (line.Append template) rest h = filled_honest n false template _ (λ midway text. doing_honest n midway (command.Append (codes "__appendfile") (ended text)) rest h)
@@ -247,40 +247,40 @@ one_begins_all false f g p q = q
 
 placing_counts : (fetch : Prefetch) (bytes : List ℕ) (rest : Rest) → Honest rest → CountsAll (placing fetch bytes rest)
 placing_counts fetch bytes rest h =
-    one_counts_all (length bytes == fetch.size) _ (failing fetch.line (WrongSize fetch.size (length bytes)))
-    (one_counts_all (bytes_eq (sha1 bytes) fetch.sha1) _ (failing fetch.line (WrongDigest (encode_lower fetch.sha1) (encode_lower (sha1 bytes))))
+    one_counts_all (length bytes == fetch.size) _ (failing fetch.line true (WrongSize fetch.size (length bytes)))
+    (one_counts_all (bytes_eq (sha1 bytes) fetch.sha1) _ (failing fetch.line true (WrongDigest (encode_lower fetch.sha1) (encode_lower (sha1 bytes))))
     (one_counts_all (bytes_eq (sha256 bytes) fetch.sha256) (doing fetch.line false (command.Place fetch.name bytes) rest)
-    (failing fetch.line (WrongDigest (encode_lower fetch.sha256) (encode_lower (sha256 bytes))))
-    (doing_honest fetch.line false (command.Place fetch.name bytes) rest h).counts (failing_counts fetch.line _))
-    (failing_counts fetch.line _))
-    (failing_counts fetch.line _)
+    (failing fetch.line true (WrongDigest (encode_lower fetch.sha256) (encode_lower (sha256 bytes))))
+    (doing_honest fetch.line false (command.Place fetch.name bytes) rest h).counts (failing_counts fetch.line true _))
+    (failing_counts fetch.line true _))
+    (failing_counts fetch.line true _)
 
 after_supply_counts : (fetch : Prefetch) (rest : Rest) (bytes : Option (List ℕ)) → Honest rest → CountsAll (after_supply fetch rest bytes)
-after_supply_counts fetch rest None h = failing_counts fetch.line (NotServed fetch.sha256)
+after_supply_counts fetch rest None h = failing_counts fetch.line true (NotServed fetch.sha256)
 after_supply_counts fetch rest (Some bytes) h = placing_counts fetch bytes rest h
 
 placing_begins : (fetch : Prefetch) (bytes : List ℕ) (rest : Rest) → Honest rest → BeginsAll (placing fetch bytes rest)
 placing_begins fetch bytes rest h =
-    one_begins_all (length bytes == fetch.size) _ (failing fetch.line (WrongSize fetch.size (length bytes)))
-    (one_begins_all (bytes_eq (sha1 bytes) fetch.sha1) _ (failing fetch.line (WrongDigest (encode_lower fetch.sha1) (encode_lower (sha1 bytes))))
+    one_begins_all (length bytes == fetch.size) _ (failing fetch.line true (WrongSize fetch.size (length bytes)))
+    (one_begins_all (bytes_eq (sha1 bytes) fetch.sha1) _ (failing fetch.line true (WrongDigest (encode_lower fetch.sha1) (encode_lower (sha1 bytes))))
     (one_begins_all (bytes_eq (sha256 bytes) fetch.sha256) (doing fetch.line false (command.Place fetch.name bytes) rest)
-    (failing fetch.line (WrongDigest (encode_lower fetch.sha256) (encode_lower (sha256 bytes))))
-    (doing_honest fetch.line false (command.Place fetch.name bytes) rest h).begins (λ known m is. absurd (cc)))
-    (λ known m is. absurd (cc)))
-    (λ known m is. absurd (cc))
+    (failing fetch.line true (WrongDigest (encode_lower fetch.sha256) (encode_lower (sha256 bytes))))
+    (doing_honest fetch.line false (command.Place fetch.name bytes) rest h).begins (λ known m w is. absurd (cc)))
+    (λ known m w is. absurd (cc)))
+    (λ known m w is. absurd (cc))
 
 after_supply_begins : (fetch : Prefetch) (rest : Rest) (bytes : Option (List ℕ)) → Honest rest → BeginsAll (after_supply fetch rest bytes)
-after_supply_begins fetch rest None h = λ known m is. absurd (cc)
+after_supply_begins fetch rest None h = λ known m w is. absurd (cc)
 after_supply_begins fetch rest (Some bytes) h = placing_begins fetch bytes rest h
 
 fetching_counts : (fetch : Prefetch) (rest : Rest) → Honest rest → CountsAll (fetching fetch rest)
-fetching_counts fetch rest h known [] (supplied bytes) m can is = absurd (after_supply_begins fetch rest bytes h known m is)
-fetching_counts fetch rest h known [] result m can is = absurd can
-fetching_counts fetch rest h known (supplied bytes ∷ settled) result m can is = after_supply_counts fetch rest bytes h known settled result m can is
-fetching_counts fetch rest h known (_ ∷ settled) result m can is = absurd can
+fetching_counts fetch rest h known [] (supplied bytes) m w can is = absurd (after_supply_begins fetch rest bytes h known m w is)
+fetching_counts fetch rest h known [] result m w can is = absurd can
+fetching_counts fetch rest h known (supplied bytes ∷ settled) result m w can is = after_supply_counts fetch rest bytes h known settled result m w can is
+fetching_counts fetch rest h known (_ ∷ settled) result m w can is = absurd can
 
 fetching_honest : (fetch : Prefetch) (rest : Rest) → Honest rest → Honest (fetching fetch rest)
-fetching_honest fetch rest h = record { begins = λ known m is. absurd (cc); counts = fetching_counts fetch rest h }
+fetching_honest fetch rest h = record { begins = λ known m w is. absurd (cc); counts = fetching_counts fetch rest h }
 
 -- ---- scripts
 mutual
@@ -304,7 +304,7 @@ fetch_all_honest (fetch ∷ fetches) rest h = fetching_honest fetch (fetch_all f
 script_honest : (script : PlainScript) → Honest (script_walk script)
 script_honest script = fetch_all_honest script.prefetches (walk_all script.statements ending) (walk_all_honest script.statements ending ending_honest)
 
-pub script_begins : (script : PlainScript) (known : Known) (n : ℕ) → (script_walk script known []).next ≢ Fails n MachineFault
+pub script_begins : (script : PlainScript) (known : Known) (n : ℕ) (w : Bool) → (script_walk script known []).next ≢ Fails n w MachineFault
 script_begins script known = (script_honest script).begins known
 
 pub script_counts : (script : PlainScript) (known : Known) → Counts (script_walk script known)

@@ -26,7 +26,7 @@ use Rattle.script_run.specs.declared.todo.Todo.{Todo}
 use Rattle.script_run.specs.declared.todo.Todo.TheVariants.{Fetches, Statements as StatementsLeft}
 use Rattle.script_run.specs.declared.run.Run.{Run}
 use Rattle.script_run.specs.Causes.{HasTexts}
-use Rattle.script_run.specs.Walks.{Known, Next, Does, Fails, is_of_result, is_midway, Rest, failing, testing, doing}
+use Rattle.script_run.specs.Walks.{Known, Next, Does, Fails, is_midway, Rest, failing, testing, doing}
 use Rattle.script_run.specs.LineWalks.{filling, filled, lining, ended, with_parameter, setting, timed, dated, line_walk, placing}
 use Rattle.script_run.specs.ScriptWalks.{walk, walk_all, walk_arms, fetch_all}
 use Rattle.script_run.specs.Asking.{known_in}
@@ -58,17 +58,17 @@ lining_fresh n (template ∷ templates) text rest fresh =
 filled_fresh : (n : ℕ) (template : Template) (rest : Bool → List ℕ → Rest) → ((more : List ℕ) → IsFresh (rest false more)) → IsFresh (filled n false template rest)
 filled_fresh n template rest fresh = filling_fresh n template.parts [] rest fresh
 
-setting_fresh : (n : ℕ) (name value : List ℕ) (rest : Rest) → IsFresh rest → IsFresh (setting n name value rest)
+setting_fresh : (n : ℕ) (name value : List ℕ) (rest : Rest) → IsFresh rest → IsFresh (setting n false name value rest)
 setting_fresh n name value rest fresh known =
-    one_fresh (is_some (value_of name known.parameters)) (failing n ParameterTwice) (λ before. rest (with_parameter name value before)) known refl (fresh (with_parameter name value known))
+    one_fresh (is_some (value_of name known.parameters)) (failing n false ParameterTwice) (λ before. rest (with_parameter name value before)) known refl (fresh (with_parameter name value known))
 
-timed_fresh : (n : ℕ) (o : Option ℕ) (rest : ℤ → Rest) → ((moment : ℤ) → IsFresh (rest moment)) → IsFresh (timed n o rest)
+timed_fresh : (n : ℕ) (o : Option ℕ) (rest : ℤ → Rest) → ((moment : ℤ) → IsFresh (rest moment)) → IsFresh (timed n false o rest)
 timed_fresh n None rest fresh = λ known. refl
 timed_fresh n (Some moment) rest fresh = fresh (pos moment)
 
 dated_fresh : (n : ℕ) (template : Template) (rest : Bool → ℤ → Rest) → ((moment : ℤ) → IsFresh (rest false moment)) → IsFresh (dated n false template rest)
 dated_fresh n template rest fresh =
-    filled_fresh n template (λ midway text. timed n (time_of text) (rest midway)) (λ text. timed_fresh n (time_of text) (rest false) fresh)
+    filled_fresh n template (λ midway text. timed n midway (time_of text) (rest midway)) (λ text. timed_fresh n (time_of text) (rest false) fresh)
 
 line_fresh : (n : ℕ) (what : Line) (rest : Rest) → IsFresh rest → IsFresh (line_walk n what rest)
 line_fresh n (line.Parameter name value) rest fresh = filled_fresh n value _ (λ text. setting_fresh n name text rest fresh)
@@ -95,13 +95,13 @@ either_next P false f g known p q = q refl
 
 -- what comes next of bytes that came: they are placed, or their size or a digest is wrong
 pub placing_next : (P : Next → Type 0) (fetch : Prefetch) (bytes : List ℕ) (rest : Rest) (known : Known) → P (Does fetch.line false (command.Place fetch.name bytes)) →
-    (length bytes == fetch.size ≡ false → P (Fails fetch.line (WrongSize fetch.size (length bytes)))) → ((stated found : List ℕ) → P (Fails fetch.line (WrongDigest stated found))) →
+    (length bytes == fetch.size ≡ false → P (Fails fetch.line true (WrongSize fetch.size (length bytes)))) → ((stated found : List ℕ) → P (Fails fetch.line true (WrongDigest stated found))) →
     P (placing fetch bytes rest known []).next
 placing_next P fetch bytes rest known placed long wrong =
-    either_next P (length bytes == fetch.size) _ (failing fetch.line (WrongSize fetch.size (length bytes))) known
-    (λ sized. either_next P (bytes_eq (sha1 bytes) fetch.sha1) _ (failing fetch.line (WrongDigest (encode_lower fetch.sha1) (encode_lower (sha1 bytes)))) known
+    either_next P (length bytes == fetch.size) _ (failing fetch.line true (WrongSize fetch.size (length bytes))) known
+    (λ sized. either_next P (bytes_eq (sha1 bytes) fetch.sha1) _ (failing fetch.line true (WrongDigest (encode_lower fetch.sha1) (encode_lower (sha1 bytes)))) known
     (λ first. either_next P (bytes_eq (sha256 bytes) fetch.sha256) (doing fetch.line false (command.Place fetch.name bytes) rest)
-    (failing fetch.line (WrongDigest (encode_lower fetch.sha256) (encode_lower (sha256 bytes)))) known
+    (failing fetch.line true (WrongDigest (encode_lower fetch.sha256) (encode_lower (sha256 bytes)))) known
     (λ second. placed) (λ second. wrong (encode_lower fetch.sha256) (encode_lower (sha256 bytes))))
     (λ first. wrong (encode_lower fetch.sha1) (encode_lower (sha1 bytes))))
     long
@@ -151,9 +151,9 @@ todos_fresh : (todos : List Todo) → IsFresh (todos_walk todos)
 todos_fresh [] = λ known. refl
 todos_fresh (todo ∷ todos) = todo_fresh todo (todos_walk todos) (todos_fresh todos)
 
-texts_fresh : (cause : Cause) → HasTexts cause → is_of_result cause ≡ false
-texts_fresh (WrongDigest stated found) texts = refl
-texts_fresh cause texts = absurd texts
+texts_fresh : (n : ℕ) (midway : Bool) (cause : Cause) → HasTexts cause → is_midway (Fails n midway cause) ≡ false
+texts_fresh n midway (WrongDigest stated found) texts = refl
+texts_fresh n midway cause texts = absurd texts
 
 place_fresh : (place : Place) (rest : Rest) → IsFresh rest → IsBeforeLine place → IsFresh (place_walk place rest)
 place_fresh Ready rest fresh before = fresh
@@ -165,7 +165,7 @@ place_fresh (Waiting n process) rest fresh before = absurd before
 place_fresh (Testing arms other) rest fresh before = arms_fresh arms.items rest (walk_all (shown_statements other) rest) (walk_all_fresh (shown_statements other) rest fresh)
 place_fresh (Asking arm arms other) rest fresh before = λ known. refl
 place_fresh Done rest fresh before = λ known. refl
-place_fresh (Failed n cause) rest fresh texts = λ known. texts_fresh cause texts
+place_fresh (Failed n midway cause) rest fresh texts = λ known. texts_fresh n midway cause texts
 
 -- From a place before a line nothing of what comes next is settled.
 pub fresh_from : (run : Run) → IsBeforeLine run.place → is_midway (from run []).next ≡ false

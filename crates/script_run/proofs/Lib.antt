@@ -1,6 +1,7 @@
 pub mod Chains
 pub mod Asked
 pub mod Texts
+pub mod Midway
 pub mod Preparing
 pub mod Moments
 pub mod Moves
@@ -11,6 +12,7 @@ pub mod Exits
 pub mod Opens
 pub mod Fresh
 pub mod Faults
+pub mod Marked
 pub mod Counted
 pub mod Choices
 pub mod OneAnswer

@@ -1,6 +1,7 @@
 -- Texts that are read as times.
 use Rattle.std.proofs.Common.{◌≡◌, ◌≢◌, ℕ, ℤ, pos, List, length, Option, Some, None, refl, sym, ap, subst, ◌∙◌}
 use Rattle.std.specs.Prelude.{Result, Ok, Err}
+use Rattle.std.specs.declared.alloc.AllocError.{AllocError}
 use Rattle.rel_value.specs.declared.cast_name.Cast.TheVariants as to
 use Rattle.rel_value.specs.declared.fault.ValueFault.{ValueFault}
 use Rattle.rel_value.specs.declared.value.Value.{Value}
@@ -13,8 +14,6 @@ use Rattle.rel_value.specs.Outcomes.{Answers}
 use Rattle.rel_value.specs.Casts.{cast, time_read}
 use Rattle.rel_value.specs.TimesRead.{time_of}
 use Rattle.rel_value.proofs.TimeReads.{read-from, laid}
-use Rattle.script_run.specs.declared.broken.Broken.{Broken}
-use Rattle.script_run.specs.declared.broken.Broken.TheVariants as broken
 use Rattle.script_run.specs.Fills.{ReadsTime, ReadsMoment}
 
 shown-text : (t : List ℕ) → shown (Text t) ≡ words t
@@ -38,7 +37,7 @@ not_time t other = by (time_of t) refl
     by (Some moment) is = absurd (other (time_long t moment is))
 
 -- what is read of a text is its moment
-pub moment_reads : (t : List ℕ) (result : Result ℤ Broken) → ReadsMoment (time_of t) result → ReadsTime t result
-moment_reads t (Ok moment) h = (rw h.2 ((read-from t h.0 h.1).0), h)
-moment_reads t (Err (broken.Failed cause)) h = h
-moment_reads t (Err broken.Memory) h = tt
+pub moment_reads : (t : List ℕ) (result : Result (Option ℤ) AllocError) → ReadsMoment (time_of t) result → ReadsTime t result
+moment_reads t (Ok (Some moment)) h = (rw h.2 ((read-from t h.0 h.1).0), h)
+moment_reads t (Ok None) h = h
+moment_reads t (Err error) h = tt

@@ -230,9 +230,9 @@ poll_exits at line process rest known old code new left h same =
     reach_one Any at old (polling line process rest known) (polled (of_poll.Exited code)) new left tt ((λ e. absurd (cc)), h) same
 
 pub poll_fails : (at : When) (line process : ℕ) (rest : Rest) (known : Known) (old new : MachineView) →
-    PollsOn process old of_poll.Failed new → Reaches Any at old (polling line process rest known) new (failing line MachineFault known)
+    PollsOn process old of_poll.Failed new → Reaches Any at old (polling line process rest known) new (failing line true MachineFault known)
 poll_fails at line process rest known old new h =
-    reach_one Any at old (polling line process rest known) (polled of_poll.Failed) new (failing line MachineFault known) tt ((λ e. absurd (cc)), h) (λ more. refl)
+    reach_one Any at old (polling line process rest known) (polled of_poll.Failed) new (failing line true MachineFault known) tt ((λ e. absurd (cc)), h) (λ more. refl)
 
 -- ---- lists and bytes
 -- of an empty list the first is none
@@ -250,9 +250,9 @@ compared_same fetch bytes read rest known more e h =
     subst P e (ap (λ (r : Rest). r known more) (h rest))
 
 pub compared_other : (fetch : Prefetch) (bytes read : List ℕ) (cause : Cause) (rest : Rest) (known : Known) (more : List Settled) → read ≡ bytes → Compares fetch read (Some cause) →
-    placing fetch bytes rest known more ≡ failing fetch.line cause known more
+    placing fetch bytes rest known more ≡ failing fetch.line true cause known more
 compared_other fetch bytes read cause rest known more e h =
-    let P : List ℕ → Type 0 = λ b. placing fetch b rest known more ≡ failing fetch.line cause known more in
+    let P : List ℕ → Type 0 = λ b. placing fetch b rest known more ≡ failing fetch.line true cause known more in
     subst P e (ap (λ (r : Rest). r known more) (h rest))
 
 -- ---- before the next line
@@ -271,15 +271,15 @@ exit_walk place rest code old new more ready e = ap (λ s. rest (known_in s) mor
 named_by : (read name : List ℕ) (ps : List Pair) (b c : Bool) → read ≡ name → b ≡ is_some (value_of read ps) → b ≡ c → is_some (value_of name ps) ≡ c
 named_by read name ps b c e h is = ap (λ n. is_some (value_of n ps)) (sym e) ∙ sym h ∙ is
 
-pub set_twice : (line : ℕ) (read name value : List ℕ) (rest : Rest) (known : Known) (b : Bool) (more : List Settled) → read ≡ name → b ≡ is_some (value_of read known.parameters) → b ≡ true →
-    setting line name value rest known more ≡ failing line ParameterTwice known more
-set_twice line read name value rest known b more e h is =
-    ap (λ (c : Bool). (if c then failing line ParameterTwice known else rest (with_parameter name value known)) more) (named_by read name known.parameters b true e h is)
+pub set_twice : (line : ℕ) (midway : Bool) (read name value : List ℕ) (rest : Rest) (known : Known) (b : Bool) (more : List Settled) → read ≡ name → b ≡ is_some (value_of read known.parameters) → b ≡ true →
+    setting line midway name value rest known more ≡ failing line midway ParameterTwice known more
+set_twice line midway read name value rest known b more e h is =
+    ap (λ (c : Bool). (if c then failing line midway ParameterTwice known else rest (with_parameter name value known)) more) (named_by read name known.parameters b true e h is)
 
-pub set_once : (line : ℕ) (read name value : List ℕ) (rest : Rest) (known : Known) (b : Bool) (more : List Settled) → read ≡ name → b ≡ is_some (value_of read known.parameters) → b ≡ false →
-    setting line name value rest known more ≡ rest (with_parameter name value known) more
-set_once line read name value rest known b more e h is =
-    ap (λ (c : Bool). (if c then failing line ParameterTwice known else rest (with_parameter name value known)) more) (named_by read name known.parameters b false e h is)
+pub set_once : (line : ℕ) (midway : Bool) (read name value : List ℕ) (rest : Rest) (known : Known) (b : Bool) (more : List Settled) → read ≡ name → b ≡ is_some (value_of read known.parameters) → b ≡ false →
+    setting line midway name value rest known more ≡ rest (with_parameter name value known) more
+set_once line midway read name value rest known b more e h is =
+    ap (λ (c : Bool). (if c then failing line midway ParameterTwice known else rest (with_parameter name value known)) more) (named_by read name known.parameters b false e h is)
 
 pub set_walk : (place : Place) (rest : Rest) (name value : List ℕ) (old new : Scene) (more : List Settled) → place ≡ Ready →
     new ≡ record old { parameters = old.parameters ++ record { name = name; value = value } ∷ [] } →

@@ -98,7 +98,7 @@ stop_at (Wants n digest) = of_run.Wants n digest
 stop_at (Pauses n text) = of_run.Held n
 stop_at (Polls n process) = of_run.Held n
 stop_at Ends = of_run.Done
-stop_at (Fails n cause) = of_run.Failed n cause
+stop_at (Fails n midway cause) = of_run.Failed n cause
 stop_at _ = of_run.Memory
 
 held_at : (at : When) (known : Known) (next : Next) (n : ℕ) (old new : MachineView) → Holds at known next n old new → of_run.Held n ≡ stop_at next
@@ -110,7 +110,7 @@ stops_once : (at : When) (old : MachineView) (f : Walk) (a : Ran) (new : Machine
 stops_once at old f (of_run.Held n) new h ample = held_at at (f []).known (f []).next n old new h
 stops_once at old f (of_run.Wants n digest) new h ample = sym (ap stop_at h.0)
 stops_once at old f of_run.Done new h ample = sym (ap stop_at h.0)
-stops_once at old f (of_run.Failed n cause) new h ample = sym (ap stop_at h.0)
+stops_once at old f (of_run.Failed n cause) new h ample = sym (ap stop_at h.1)
 stops_once at old f of_run.Memory new h ample = absurd (ample refl)
 
 -- a line that is held doesn't come to a result
@@ -134,7 +134,7 @@ stopped_or_settled : (at : When) (w : WorldState) (f : Walk) (old past : Machine
 stopped_or_settled at w f old past r new (of_run.Held n) other is is' p q none ample = held_or_settled at (f []).known (f []).next w n old past r new other is is' p q none
 stopped_or_settled at w f old past r new (of_run.Wants n digest) other is is' p q none ample = let S : Next → Type 0 = λ x. Settles at (f []).known x old r new in subst S q.0 p
 stopped_or_settled at w f old past r new of_run.Done other is is' p q none ample = let S : Next → Type 0 = λ x. Settles at (f []).known x old r new in subst S q.0 p
-stopped_or_settled at w f old past r new (of_run.Failed n cause) other is is' p q none ample = let S : Next → Type 0 = λ x. Settles at (f []).known x old r new in subst S q.0 p
+stopped_or_settled at w f old past r new (of_run.Failed n cause) other is is' p q none ample = let S : Next → Type 0 = λ x. Settles at (f []).known x old r new in subst S q.1 p
 stopped_or_settled at w f old past r new of_run.Memory other is is' p q none ample = ample refl
 
 -- ---- one advance

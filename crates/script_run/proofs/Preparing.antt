@@ -1,5 +1,5 @@
 -- How the parts of a line make the whole of it.
-use Rattle.std.proofs.Common.{◌≡◌, ℕ, ◌+◌, ◌<◌, ◌≤◌, Bool, true, false, ℤ, List, [], ◌∷◌, length, drop, get_or, refl, sym, ap, subst, ◌∙◌}
+use Rattle.std.proofs.Common.{◌≡◌, ℕ, ◌+◌, ◌<◌, ◌≤◌, Bool, true, false, ℤ, pos, Some, None, List, [], ◌∷◌, length, drop, get_or, refl, sym, ap, subst, ◌∙◌}
 use Rattle.std.proofs.lemmas.List.{drop_more, drop_all}
 use Rattle.std.specs.Prelude.{Result, Ok, Err}
 use Rattle.rel_value.specs.TimesRead.{time_of}
@@ -14,16 +14,15 @@ use Rattle.script_text.specs.declared.line.Line.TheVariants as line
 use Rattle.script_text.specs.declared.template.Template.{Template}
 use Rattle.script_run.specs.declared.broken.Broken.{Broken}
 use Rattle.script_run.specs.declared.broken.Broken.TheVariants as broken
-use Rattle.script_run.specs.declared.cause.Cause.{Cause}
 use Rattle.script_run.specs.declared.cause.Cause.TheVariants.{BadDate}
 use Rattle.script_run.specs.declared.lines.Prepared.{Prepared}
-use Rattle.script_run.specs.declared.lines.Prepared.TheVariants.{Does, Awaits}
-use Rattle.script_run.specs.Walks.{Known, Walk, Rest, doing, awaiting, failing}
+use Rattle.script_run.specs.declared.lines.Prepared.TheVariants.{Undated, Does, Awaits}
+use Rattle.script_run.specs.Walks.{Known, Settled, Next, Walk, Rest, doing, awaiting, failing}
 use Rattle.script_run.specs.LineWalks.{line_walk, timed}
 use Rattle.script_run.specs.Asking.{When, when_of, known_in}
-use Rattle.script_run.specs.RunSteps.{Any, IsTextOf}
-use Rattle.script_run.specs.Fills.{Reaches, Breaks, Fills, Asks, FillsTemplate, PreparesLine, ReadsTime, start_line, await_line}
-use Rattle.script_run.proofs.Chains.{reach_none, reach_then, reach_any, reach_same, starve_reached, breaks_after}
+use Rattle.script_run.specs.RunSteps.{IsTextOf}
+use Rattle.script_run.specs.Fills.{Reaches, Breaks, Fills, Asks, FillsTemplate, PreparesLine, start_line, await_line}
+use Rattle.script_run.proofs.Chains.{reach_none, reach_then, reach_same, breaks_after}
 
 -- ---- expressions one after another
 -- texts were asked, and then what is behind them
@@ -128,13 +127,22 @@ pub broken_as : (scene : Scene) (what : Line) (old : MachineView) (p q : Broken)
 broken_as scene what old p q new e h = let P : Broken → Type 0 = λ x. PreparesLine scene what old (Err x) new in subst P e h
 
 -- ---- times
--- a text that was asked is read as a time
-pub times_fill : (at : When) (line : ℕ) (midway : Bool) (known : Known) (old : MachineView) (f : Walk) (mid : MachineView) (text : List ℕ) (result : Result ℤ Broken) (rest : Bool → ℤ → Rest) →
-    Reaches (IsTextOf line) at old f mid (timed line (time_of text) (rest midway) known) → ReadsTime text result → Fills at line known old f result mid (λ midway moment. rest midway moment known)
-times_fill at line midway known old f mid text (Ok moment) rest a h =
-    let t = h.1 in
-    (midway, reach_same (IsTextOf line) at old f mid (timed line (time_of text) (rest midway) known) (rest midway moment known) a (λ more. ap (λ o. timed line o (rest midway) known more) t.1 ∙ ap (λ z. rest midway z known more) (sym t.2)))
-times_fill at line midway known old f mid text (Err (broken.Failed cause)) rest a h =
-    let P : Cause → Type 0 = λ c. Reaches Any at old f mid (failing line c known) in
-    subst P (sym h.0) (reach_same Any at old f mid (timed line (time_of text) (rest midway) known) (failing line BadDate known) (reach_any (IsTextOf line) at old f mid (timed line (time_of text) (rest midway) known) a) (λ more. ap (λ o. timed line o (rest midway) known more) h.1))
-times_fill at line midway known old f mid text (Err broken.Memory) rest a h = starve_reached at line old f mid (timed line (time_of text) (rest midway) known) a
+-- a line whose date is no time
+pub undated_line : (scene : Scene) (what : Line) (old new : MachineView) (midway last : Bool) → midway ≡ last → OnlyLooks old new →
+    ((line : ℕ) (rest : Rest) → Reaches (IsTextOf line) (when_of scene) old (line_walk line what rest (known_in scene)) new (failing line last BadDate (known_in scene))) → PreparesLine scene what old (Ok (Undated midway)) new
+undated_line scene what old new midway last is only h =
+    let own : PreparesLine scene what old (Ok (Undated last)) new = record { prepares = h; date = tt; only = only } in
+    let P : Bool → Type 0 = λ w. PreparesLine scene what old (Ok (Undated w)) new in
+    subst P (sym is) own
+
+-- a text that was asked is the time text of a moment
+pub timed_some : (P : Next → Settled → Type 0) (at : When) (old : MachineView) (f : Walk) (new : MachineView) (n : ℕ) (midway : Bool) (text : List ℕ) (moment : ℤ) (rest : ℤ → Rest) (known : Known) →
+    Reaches P at old f new (timed n midway (time_of text) rest known) → (seconds : ℕ) × (time_of text ≡ Some seconds) × (moment ≡ pos seconds) → Reaches P at old f new (rest moment known)
+timed_some P at old f new n midway text moment rest known a h =
+    reach_same P at old f new (timed n midway (time_of text) rest known) (rest moment known) a (λ more. ap (λ o. timed n midway o rest known more) h.1 ∙ ap (λ z. rest z known more) (sym h.2))
+
+-- or of none
+pub timed_none : (P : Next → Settled → Type 0) (at : When) (old : MachineView) (f : Walk) (new : MachineView) (n : ℕ) (midway : Bool) (text : List ℕ) (rest : ℤ → Rest) (known : Known) →
+    Reaches P at old f new (timed n midway (time_of text) rest known) → time_of text ≡ None → Reaches P at old f new (failing n midway BadDate known)
+timed_none P at old f new n midway text rest known a h =
+    reach_same P at old f new (timed n midway (time_of text) rest known) (failing n midway BadDate known) a (λ more. ap (λ o. timed n midway o rest known more) h)

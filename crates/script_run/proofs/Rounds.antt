@@ -144,7 +144,7 @@ stop_keeps : (at : When) (old : MachineView) (f : Walk) (r : Ran) (new : Machine
 stop_keeps at old f (ran.Held line) new h = held_keeps at (f []).known (f []).next line old new h
 stop_keeps at old f (ran.Wants line digest) new h = same_keeps old new h.1
 stop_keeps at old f ran.Done new h = same_keeps old new h.1
-stop_keeps at old f (ran.Failed line cause) new h = same_keeps old new h.1
+stop_keeps at old f (ran.Failed line cause) new h = same_keeps old new h.2
 stop_keeps at old f ran.Memory new h = starve_keeps at h.0 old f new h.1
 
 -- ---- rounds

@@ -25,12 +25,12 @@ said_text scene line midway e rest old t new h =
     reach_one (IsTextOf line) (when_of scene) old (saying line midway e rest (known_in scene)) (said (one_text.Text t)) new (rest t (known_in scene)) refl ((λ is. absurd (cc)), h) (λ more. refl)
 
 pub said_error : (scene : Scene) (line : ℕ) (midway : Bool) (e : List ℕ) (rest : List ℕ → Rest) (old : MachineView) (kind : RelKind) (place : Place) (new : MachineView) → SaysOn scene e old (one_text.Error kind place) new →
-    Reaches Any (when_of scene) old (saying line midway e rest (known_in scene)) new (failing line (Relevance kind place) (known_in scene))
+    Reaches Any (when_of scene) old (saying line midway e rest (known_in scene)) new (failing line true (Relevance kind place) (known_in scene))
 said_error scene line midway e rest old kind place new h =
     reach_one Any (when_of scene) old (saying line midway e rest (known_in scene)) (said (one_text.Error kind place)) new _ tt ((λ is. absurd (cc)), h) (λ more. refl)
 
 pub said_fault : (scene : Scene) (line : ℕ) (midway : Bool) (e : List ℕ) (rest : List ℕ → Rest) (old : MachineView) (place : Place) (new : MachineView) → SaysOn scene e old (one_text.Failed place) new →
-    Reaches Any (when_of scene) old (saying line midway e rest (known_in scene)) new (failing line MachineFault (known_in scene))
+    Reaches Any (when_of scene) old (saying line midway e rest (known_in scene)) new (failing line true MachineFault (known_in scene))
 said_fault scene line midway e rest old place new h =
     reach_one Any (when_of scene) old (saying line midway e rest (known_in scene)) (said (one_text.Failed place)) new _ tt ((λ is. absurd (cc)), h) (λ more. refl)
 
@@ -48,11 +48,11 @@ pub tested_false : (scene : Scene) (line : ℕ) (e : List ℕ) (hold fail : Rest
 tested_false scene line e hold fail old new h = reach_one Any (when_of scene) old (testing line e hold fail (known_in scene)) (judged truth.False) new _ tt ((λ is. absurd (cc)), h) (λ more. refl)
 
 pub tested_error : (scene : Scene) (line : ℕ) (e : List ℕ) (hold fail : Rest) (old : MachineView) (kind : RelKind) (place : Place) (new : MachineView) → JudgesOn scene e old (truth.Error kind place) new →
-    Reaches Any (when_of scene) old (testing line e hold fail (known_in scene)) new (failing line (Relevance kind place) (known_in scene))
+    Reaches Any (when_of scene) old (testing line e hold fail (known_in scene)) new (failing line true (Relevance kind place) (known_in scene))
 tested_error scene line e hold fail old kind place new h = reach_one Any (when_of scene) old (testing line e hold fail (known_in scene)) (judged (truth.Error kind place)) new _ tt ((λ is. absurd (cc)), h) (λ more. refl)
 
 pub tested_fault : (scene : Scene) (line : ℕ) (e : List ℕ) (hold fail : Rest) (old : MachineView) (place : Place) (new : MachineView) → JudgesOn scene e old (truth.Failed place) new →
-    Reaches Any (when_of scene) old (testing line e hold fail (known_in scene)) new (failing line MachineFault (known_in scene))
+    Reaches Any (when_of scene) old (testing line e hold fail (known_in scene)) new (failing line true MachineFault (known_in scene))
 tested_fault scene line e hold fail old place new h = reach_one Any (when_of scene) old (testing line e hold fail (known_in scene)) (judged (truth.Failed place)) new _ tt ((λ is. absurd (cc)), h) (λ more. refl)
 
 pub tested_memory : (scene : Scene) (line : ℕ) (e : List ℕ) (hold fail : Rest) (old new : MachineView) → JudgesOn scene e old truth.Memory new →
@@ -69,11 +69,11 @@ pub paused_false : (scene : Scene) (line : ℕ) (e : List ℕ) (rest : Rest) (ol
 paused_false scene line e rest old new h = reach_one Any (when_of scene) old (pausing line e rest (known_in scene)) (judged truth.False) new _ tt ((λ is. absurd (cc)), (λ is. absurd (cc)), h) (λ more. refl)
 
 pub paused_error : (scene : Scene) (line : ℕ) (e : List ℕ) (rest : Rest) (old : MachineView) (kind : RelKind) (place : Place) (new : MachineView) → JudgesOn scene e old (truth.Error kind place) new →
-    Reaches Any (when_of scene) old (pausing line e rest (known_in scene)) new (failing line (Relevance kind place) (known_in scene))
+    Reaches Any (when_of scene) old (pausing line e rest (known_in scene)) new (failing line true (Relevance kind place) (known_in scene))
 paused_error scene line e rest old kind place new h = reach_one Any (when_of scene) old (pausing line e rest (known_in scene)) (judged (truth.Error kind place)) new _ tt ((λ is. absurd (cc)), (λ is. absurd (cc)), h) (λ more. refl)
 
 pub paused_fault : (scene : Scene) (line : ℕ) (e : List ℕ) (rest : Rest) (old : MachineView) (place : Place) (new : MachineView) → JudgesOn scene e old (truth.Failed place) new →
-    Reaches Any (when_of scene) old (pausing line e rest (known_in scene)) new (failing line MachineFault (known_in scene))
+    Reaches Any (when_of scene) old (pausing line e rest (known_in scene)) new (failing line true MachineFault (known_in scene))
 paused_fault scene line e rest old place new h = reach_one Any (when_of scene) old (pausing line e rest (known_in scene)) (judged (truth.Failed place)) new _ tt ((λ is. absurd (cc)), (λ is. absurd (cc)), h) (λ more. refl)
 
 pub paused_memory : (scene : Scene) (line : ℕ) (e : List ℕ) (rest : Rest) (old new : MachineView) → JudgesOn scene e old truth.Memory new →

@@ -23,7 +23,7 @@ pub record Advances (at : When) (old : MachineView) (walk : Walk) (answer : Ran)
   pub stops : Stops at between (λ more. walk (results ++ more)) answer new
   pub same : (more : List Settled) → left more ≡ walk (results ++ more)
   pub faults : CountsFailed (faults_in results) old.faults new.faults
-  -- memory ran out before a line of which nothing is settled, and that hasn't failed for a cause that comes of a result alone
+  -- memory ran out before a line of which nothing is settled: where the line has failed, nothing of it was settled in this advance
   pub before : answer ≡ ran.Memory → is_midway (left []).next ≡ false
   pub commands : Grows old.acted new.acted (commands_in walk results)
 

@@ -1,5 +1,6 @@
 -- What the private functions do that ask the expressions and the test of a line. No public contract speaks of it.
-use Rattle.std.specs.Prelude.{◌≡◌, ⊤, ℕ, ℤ, pos, Bool, true, false, List, [], ◌++◌, Option, Some, None, Result, Ok, Err}
+use Rattle.std.specs.Prelude.{◌≡◌, ⊤, ℕ, ℤ, pos, Bool, true, false, List, [], ◌∷◌, ◌++◌, Option, Some, None, Result, Ok, Err}
+use Rattle.std.specs.declared.alloc.AllocError.{AllocError}
 use Rattle.desk_base.specs.Moments.{IsMoment}
 use Rattle.rel_value.specs.TimesRead.{time_of}
 use Rattle.bf_world.specs.Answers.{HasMoment}
@@ -12,15 +13,16 @@ use Rattle.rel_eval.specs.declared.told.Truth.{Truth}
 use Rattle.script_text.specs.declared.line.Line.{Line}
 use Rattle.script_text.specs.declared.line.Line.TheVariants as line
 use Rattle.script_text.specs.declared.template.Part2.{Part2}
+use Rattle.script_text.specs.declared.template.Part2.TheVariants.{Plain, Expression}
 use Rattle.script_text.specs.declared.template.Template.{Template}
 use Rattle.script_run.specs.declared.broken.Broken.{Broken}
 use Rattle.script_run.specs.declared.broken.Broken.TheVariants as broken
 use Rattle.script_run.specs.declared.cause.Cause.TheVariants.{BadDate}
 use Rattle.script_run.specs.declared.filling.Both.{Both}
 use Rattle.script_run.specs.declared.lines.Prepared.{Prepared}
-use Rattle.script_run.specs.declared.lines.Prepared.TheVariants.{Passes, Held, Sets, Does, Awaits}
+use Rattle.script_run.specs.declared.lines.Prepared.TheVariants.{Passes, Held, Sets, Undated, Does, Awaits}
 use Rattle.script_run.specs.Walks.{Known, Settled, Next, Walk, Rest, failing, saying, doing, awaiting}
-use Rattle.script_run.specs.LineWalks.{filling, filled, lining, setting, dated, line_walk}
+use Rattle.script_run.specs.LineWalks.{filling, filled, lining, setting, line_walk}
 use Rattle.script_run.specs.Asking.{When, when_of, known_in, SaysText, JudgesText}
 use Rattle.script_run.specs.RunSteps.{Comes, Any, IsTextOf, Starves, Holds}
 
@@ -31,9 +33,9 @@ pub record Reaches (P : Next → Settled → Type 0) (at : When) (old : MachineV
   pub comes : Comes P at old walk results new
   pub same : (more : List Settled) → walk (results ++ more) ≡ left more
 
--- A line isn't gone through: it failed, or memory ran out.
+-- A line isn't gone through: it failed for what it was answered, or memory ran out.
 abbrev pub Breaks : When → ℕ → Known → MachineView → Walk → Broken → MachineView → Type 0
-Breaks at line known old walk (broken.Failed cause) new = Reaches Any at old walk new (failing line cause known)
+Breaks at line known old walk (broken.Failed cause) new = Reaches Any at old walk new (failing line true cause known)
 Breaks at line known old walk broken.Memory new = Starves at line old walk new
 
 -- ---- templates
@@ -88,23 +90,23 @@ FillsFile scene templates old result new =
     Asks {V = List ℕ} {R = Bool → List ℕ → Rest} scene (λ line midway behind. lining line midway templates [] behind)
     old result new (λ line midway text behind. behind midway text)
 
--- A template was asked for the moment that it tells.
-abbrev pub FillsDate : Scene → Template → MachineView → Result ℤ Broken → MachineView → Type 0
-FillsDate scene template old result new =
-    Asks {V = ℤ} {R = Bool → ℤ → Rest} scene (λ line midway behind. dated line midway template behind)
-    old result new (λ line midway moment behind. behind midway moment)
-
--- What a time is read as gives this moment, in seconds, or none.
-abbrev pub ReadsMoment : Option ℕ → Result ℤ Broken → Type 0
-ReadsMoment read (Ok moment) = (seconds : ℕ) × (read ≡ Some seconds) × (moment ≡ pos seconds)
-ReadsMoment read (Err (broken.Failed cause)) = (cause ≡ BadDate) × (read ≡ None)
-ReadsMoment read (Err broken.Memory) = ⊤
+-- What a time is read as is this moment, in seconds, or none.
+abbrev pub ReadsMoment : Option ℕ → Result (Option ℤ) AllocError → Type 0
+ReadsMoment read (Ok (Some moment)) = (seconds : ℕ) × (read ≡ Some seconds) × (moment ≡ pos seconds)
+ReadsMoment read (Ok None) = read ≡ None
+ReadsMoment read (Err error) = ⊤
 
 -- The text is the time text of a moment, or of none.
-abbrev pub ReadsTime : List ℕ → Result ℤ Broken → Type 0
-ReadsTime text (Ok moment) = IsMoment moment × ((seconds : ℕ) × (time_of text ≡ Some seconds) × (moment ≡ pos seconds))
-ReadsTime text (Err (broken.Failed cause)) = (cause ≡ BadDate) × (time_of text ≡ None)
-ReadsTime text (Err broken.Memory) = ⊤
+abbrev pub ReadsTime : List ℕ → Result (Option ℤ) AllocError → Type 0
+ReadsTime text (Ok (Some moment)) = IsMoment moment × ((seconds : ℕ) × (time_of text ≡ Some seconds) × (moment ≡ pos seconds))
+ReadsTime text (Ok None) = time_of text ≡ None
+ReadsTime text (Err error) = ⊤
+
+-- Whether an expression is settled behind these parts of a template, where one was before them or not.
+abbrev pub asks_after : Bool → List Part2 → Bool
+asks_after midway [] = midway
+asks_after midway (Plain plain ∷ parts) = asks_after midway parts
+asks_after midway (Expression expression ∷ parts) = asks_after true parts
 
 -- The answer is that of a text that isn't asked, whatever the machine tells.
 abbrev pub Unread : List ℕ → OneText → Type 0
@@ -120,8 +122,9 @@ UnreadTest text answer =
 abbrev pub Prepares : When → ℕ → Known → Rest → MachineView → Walk → Result Prepared Broken → MachineView → Type 0
 Prepares at line known rest old walk (Ok Passes) new = Reaches Any at old walk new (rest known)
 Prepares at line known rest old walk (Ok Held) new = Holds at (walk []).known (walk []).next line old new
-Prepares at line known rest old walk (Ok (Sets name value)) new =
-    Reaches (IsTextOf line) at old walk new (setting line name value rest known)
+Prepares at line known rest old walk (Ok (Sets midway name value)) new =
+    Reaches (IsTextOf line) at old walk new (setting line midway name value rest known)
+Prepares at line known rest old walk (Ok (Undated midway)) new = Reaches (IsTextOf line) at old walk new (failing line midway BadDate known)
 Prepares at line known rest old walk (Ok (Does command)) new =
     (midway : Bool) × Reaches (IsTextOf line) at old walk new (doing line midway command rest known)
 Prepares at line known rest old walk (Ok (Awaits command)) new =

@@ -41,23 +41,23 @@ abbrev pub with_parameter : List ℕ → List ℕ → Known → Known
 with_parameter name value known = record known { parameters = known.parameters ++ record { name = name; value = value } ∷ [] }
 
 -- a parameter is set, unless it was set before
-abbrev pub setting : ℕ → List ℕ → List ℕ → Rest → Rest
-setting n name value rest known =
-    if is_some (value_of name known.parameters) then failing n ParameterTwice known else rest (with_parameter name value known)
+abbrev pub setting : ℕ → Bool → List ℕ → List ℕ → Rest → Rest
+setting n midway name value rest known =
+    if is_some (value_of name known.parameters) then failing n midway ParameterTwice known else rest (with_parameter name value known)
 
 -- the moment that was read goes on, and none is a bad date
-abbrev pub timed : ℕ → Option ℕ → (ℤ → Rest) → Rest
-timed n None rest = failing n BadDate
-timed n (Some moment) rest = rest (pos moment)
+abbrev pub timed : ℕ → Bool → Option ℕ → (ℤ → Rest) → Rest
+timed n midway None rest = failing n midway BadDate
+timed n midway (Some moment) rest = rest (pos moment)
 
 -- the moment that a template's text tells
 abbrev pub dated : ℕ → Bool → Template → (Bool → ℤ → Rest) → Rest
-dated n midway template rest = filled n midway template (λ midway text. timed n (time_of text) (rest midway))
+dated n midway template rest = filled n midway template (λ midway text. timed n midway (time_of text) (rest midway))
 
 -- what the line of this number does
 abbrev pub line_walk : ℕ → Line → Rest → Rest
-line_walk n (line.Parameter name value) rest = filled n false value (λ midway text. setting n name text rest)
-line_walk n (line.ContinueIf test) rest = testing n test rest (failing n NotContinued)
+line_walk n (line.Parameter name value) rest = filled n false value (λ midway text. setting n midway name text rest)
+line_walk n (line.ContinueIf test) rest = testing n test rest (failing n true NotContinued)
 line_walk n (line.PauseWhile test) rest = pausing n test rest
 line_walk n (line.Create templates) rest =
     lining n false templates [] (λ midway text. doing n midway (Write (codes "__createfile") text) rest)
@@ -86,13 +86,13 @@ placing fetch bytes rest =
     if length bytes == fetch.size then
     (if bytes_eq (sha1 bytes) fetch.sha1 then
     (if bytes_eq (sha256 bytes) fetch.sha256 then doing fetch.line false (Place fetch.name bytes) rest
-    else failing fetch.line (WrongDigest (encode_lower fetch.sha256) (encode_lower (sha256 bytes))))
-    else failing fetch.line (WrongDigest (encode_lower fetch.sha1) (encode_lower (sha1 bytes))))
-    else failing fetch.line (WrongSize fetch.size (length bytes))
+    else failing fetch.line true (WrongDigest (encode_lower fetch.sha256) (encode_lower (sha256 bytes))))
+    else failing fetch.line true (WrongDigest (encode_lower fetch.sha1) (encode_lower (sha1 bytes))))
+    else failing fetch.line true (WrongSize fetch.size (length bytes))
 
 -- what was supplied for a file
 abbrev pub after_supply : Prefetch → Rest → Option (List ℕ) → Rest
-after_supply fetch rest None = failing fetch.line (NotServed fetch.sha256)
+after_supply fetch rest None = failing fetch.line true (NotServed fetch.sha256)
 after_supply fetch rest (Some bytes) = placing fetch bytes rest
 
 -- a prefetch line: its file is wanted, compared and placed

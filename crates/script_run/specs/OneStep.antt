@@ -1,5 +1,5 @@
 -- What one step of a run does, and what it is made of. No public contract speaks of it.
-use Rattle.std.specs.Prelude.{◌≡◌, ◌+◌, ◌<◌, ◌≤◌, ⊤, ℕ, false, List, Option, Some, None, Result}
+use Rattle.std.specs.Prelude.{◌≡◌, ◌+◌, ◌<◌, ◌≤◌, ⊤, ℕ, true, false, List, Option, Some, None, Result}
 use Rattle.bf_world.specs.declared.command.Command.TheVariants as command
 use Rattle.bf_world.specs.declared.command.Acted.{Acted}
 use Rattle.bf_world.specs.declared.command.Acted.TheVariants as of_act
@@ -96,7 +96,7 @@ pub record Enters (body : StatementList) (old new : Run) : Type 0 where
 -- The bytes are those of the file, or they aren't for this cause.
 abbrev pub Compares : Prefetch → List ℕ → Option Cause → Type 0
 Compares fetch bytes None = (rest : Rest) → placing fetch bytes rest ≡ doing fetch.line false (command.Place fetch.name bytes) rest
-Compares fetch bytes (Some cause) = (rest : Rest) → placing fetch bytes rest ≡ failing fetch.line cause
+Compares fetch bytes (Some cause) = (rest : Rest) → placing fetch bytes rest ≡ failing fetch.line true cause
 
 -- After a line was prepared so, one step of the run is made.
 abbrev pub CarriesOut : ℕ → Line → Run → Result Prepared Broken → MachineView → Option Ran → MachineView → Run → Type 0

@@ -55,7 +55,7 @@ place_walk (Testing arms other) rest = arms_walk arms.items rest (walk_all (show
 place_walk (Asking arm arms other) rest =
     arm_walk arm rest (arms_walk arms.items rest (walk_all (shown_statements other) rest))
 place_walk Done rest = ending
-place_walk (Failed line cause) rest = failing line cause
+place_walk (Failed line midway cause) rest = failing line midway cause
 
 -- the rest of the script behind the place
 abbrev pub around : Run → Rest
@@ -87,7 +87,7 @@ IsBeforeLine (Wanting fetch) = ⊥
 IsBeforeLine (Supplied fetch bytes) = length bytes ≡ fetch.size
 IsBeforeLine (Waiting line process) = ⊥
 IsBeforeLine Done = ⊥
-IsBeforeLine (Failed line cause) = HasTexts cause
+IsBeforeLine (Failed line midway cause) = HasTexts cause
 IsBeforeLine _ = ⊤
 
 -- Where memory ran out, the place is such a one.

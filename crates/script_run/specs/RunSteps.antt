@@ -1,5 +1,5 @@
 -- How what comes next comes to results on a machine, one after another, and how it stops.
-use Rattle.std.specs.Prelude.{◌≡◌, ◌≢◌, ◌⊎◌, ⊤, ℕ, List, [], ◌∷◌}
+use Rattle.std.specs.Prelude.{◌≡◌, ◌≢◌, ◌⊎◌, ⊤, ℕ, Bool, List, [], ◌∷◌}
 use Rattle.bf_world.specs.declared.command.Acted.TheVariants as of_act
 use Rattle.bf_world.specs.declared.command.Polled.TheVariants as of_poll
 use Rattle.bf_machine.specs.Views.{MachineView}
@@ -65,5 +65,5 @@ abbrev pub Stops : When → MachineView → Walk → Ran → MachineView → Typ
 Stops at old walk (ran.Held line) new = Holds at (walk []).known (walk []).next line old new
 Stops at old walk (ran.Wants line digest) new = ((walk []).next ≡ Wants line digest) × (new ≡ old)
 Stops at old walk ran.Done new = ((walk []).next ≡ Ends) × (new ≡ old)
-Stops at old walk (ran.Failed line cause) new = ((walk []).next ≡ Fails line cause) × (new ≡ old)
+Stops at old walk (ran.Failed line cause) new = (midway : Bool) × ((walk []).next ≡ Fails line midway cause) × (new ≡ old)
 Stops at old walk ran.Memory new = (line : ℕ) × Starves at line old walk new

@@ -11,7 +11,7 @@ use Rattle.rel_eval.specs.declared.told.OneText.TheVariants as one_text
 use Rattle.rel_eval.specs.declared.told.Truth.{Truth}
 use Rattle.rel_eval.specs.declared.told.Truth.TheVariants as truth
 use Rattle.script_run.specs.declared.cause.Cause.{Cause}
-use Rattle.script_run.specs.declared.cause.Cause.TheVariants.{Relevance, Refused, MachineFault, ParameterTwice, WrongDigest, BadDate}
+use Rattle.script_run.specs.declared.cause.Cause.TheVariants.{Relevance, Refused, MachineFault, WrongDigest}
 
 -- the parameters so far, and the exit code of the last program that was waited for
 pub record Known : Type 0 where
@@ -39,7 +39,8 @@ abbrev pub faults_in : List Settled → ℕ
 faults_in [] = 0
 faults_in (result ∷ results) = fault_in result + faults_in results
 
--- What comes next, at the line of this number. A text and a command stand midway where an expression of their line is settled already.
+-- What comes next, at the line of this number. A text and a command stand midway where an expression of their line is settled already,
+-- and a line has failed midway where anything of it is.
 pub data Next : Type 0 where
   -- the file of this SHA-256 is wanted
   Wants : (line : ℕ) (digest : List ℕ) → Next
@@ -56,22 +57,16 @@ pub data Next : Type 0 where
   -- nothing, since all lines are done
   Ends : Next
   -- nothing, since the line failed
-  Fails : (line : ℕ) (cause : Cause) → Next
+  Fails : (line : ℕ) (midway : Bool) (cause : Cause) → Next
 
--- A cause that comes of a result alone. A parameter that was set before and a bad date may stand in a line of which nothing is asked, and
--- the digests of a wrong file are told in texts.
-abbrev pub is_of_result : Cause → Bool
-is_of_result ParameterTwice = false
-is_of_result BadDate = false
-is_of_result (WrongDigest stated found) = false
-is_of_result _ = true
-
--- whether something of its line is settled already, or it has failed for a cause that comes of a result alone
+-- Whether something of its line is settled already. A wrong digest counts as if nothing were: it is told in texts, which take memory, and
+-- what is settled of its line was supplied between two advances.
 abbrev pub is_midway : Next → Bool
 is_midway (Says line midway expression) = midway
 is_midway (Does line midway command) = midway
 is_midway (Polls line process) = true
-is_midway (Fails line cause) = is_of_result cause
+is_midway (Fails line midway (WrongDigest stated found)) = false
+is_midway (Fails line midway cause) = midway
 is_midway _ = false
 
 -- where a script stands: what is known there, and what comes next
@@ -94,19 +89,19 @@ Rest = Known → Walk
 abbrev pub ending : Rest
 ending known results = stop known Ends
 
--- the line has failed
-abbrev pub failing : ℕ → Cause → Rest
-failing line cause known results = stop known (Fails line cause)
+-- the line has failed, midway or not
+abbrev pub failing : ℕ → Bool → Cause → Rest
+failing line midway cause known results = stop known (Fails line midway cause)
 
 -- What never comes: a result of another sort than what came next, or no answer for want of memory, which is no result.
 abbrev pub never : ℕ → Rest
-never line = failing line MachineFault
+never line = failing line true MachineFault
 
 -- what comes after an expression's answer
 abbrev pub after_text : ℕ → (List ℕ → Rest) → OneText → Rest
 after_text line rest (one_text.Text text) = rest text
-after_text line rest (one_text.Error kind place) = failing line (Relevance kind place)
-after_text line rest (one_text.Failed place) = failing line MachineFault
+after_text line rest (one_text.Error kind place) = failing line true (Relevance kind place)
+after_text line rest (one_text.Failed place) = failing line true MachineFault
 after_text line rest one_text.Memory = never line
 
 -- an expression is asked, and the rest has its text
@@ -119,8 +114,8 @@ saying line midway expression rest known (_ ∷ more) = never line known more
 abbrev pub after_truth : ℕ → Rest → Rest → Truth → Rest
 after_truth line met unmet truth.True = met
 after_truth line met unmet truth.False = unmet
-after_truth line met unmet (truth.Error kind place) = failing line (Relevance kind place)
-after_truth line met unmet (truth.Failed place) = failing line MachineFault
+after_truth line met unmet (truth.Error kind place) = failing line true (Relevance kind place)
+after_truth line met unmet (truth.Failed place) = failing line true MachineFault
 after_truth line met unmet truth.Memory = never line
 
 -- a test is asked
@@ -139,8 +134,8 @@ pausing line test rest known (_ ∷ more) = never line known more
 abbrev pub after_act : ℕ → Rest → (ℕ → Rest) → Acted → Rest
 after_act line rest started of_act.Done = rest
 after_act line rest started (of_act.Started process) = started process.0
-after_act line rest started (of_act.Refused reason) = failing line (Refused reason)
-after_act line rest started of_act.Failed = failing line MachineFault
+after_act line rest started (of_act.Refused reason) = failing line true (Refused reason)
+after_act line rest started of_act.Failed = failing line true MachineFault
 after_act line rest started of_act.Memory = never line
 
 -- a command is done
@@ -160,7 +155,7 @@ with_exit code known = record known { exit = Some code }
 -- What comes after a poll's answer. That the program runs is no result.
 abbrev pub after_poll : ℕ → Rest → Polled → Rest
 after_poll line rest (of_poll.Exited code) known = rest (with_exit code known)
-after_poll line rest of_poll.Failed known = failing line MachineFault known
+after_poll line rest of_poll.Failed known = failing line true MachineFault known
 after_poll line rest of_poll.Running known = never line known
 
 -- a program is waited for

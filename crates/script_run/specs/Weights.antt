@@ -52,7 +52,7 @@ place_weight (Waiting line process) = 2
 place_weight (Testing arms other) = 3 + (arm_list_weight arms.items + all_weight (shown_statements other))
 place_weight (Asking arm arms other) = 2 + (arm_weight arm + (arm_list_weight arms.items + all_weight (shown_statements other)))
 place_weight Done = 0
-place_weight (Failed line cause) = 0
+place_weight (Failed line midway cause) = 0
 
 abbrev pub around_weight : Run → ℕ
 around_weight run = todo_weight run.current + todos_weight run.later.items

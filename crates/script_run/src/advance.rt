@@ -73,7 +73,11 @@ impl Run {
             Place::Testing { arms, other } => self.choose(arms, other),
             Place::Asking { arm, arms, other } => self.ask(alloc, machine, arm, arms, other),
             Place::Done => self.end(),
-            Place::Failed { line, cause } => self.tell(line, cause),
+            Place::Failed {
+                line,
+                midway,
+                cause,
+            } => self.tell(line, midway, cause),
         }
     }
 }

@@ -1,5 +1,5 @@
 // The steps of an `if`.
-ghost use Rattle.std.specs.Prelude.{◌≡◌, ◌<◌, None};
+ghost use Rattle.std.specs.Prelude.{◌≡◌, ◌<◌, None, true};
 ghost use Rattle.std.specs.VecDeque.{deque_capacity, deque_len};
 ghost use Rattle.bf_machine.specs.Views.{MachineView};
 ghost use Rattle.script_text.specs.declared.tree.Arm.{out-Arm};
@@ -115,9 +115,9 @@ impl Run {
         _other: StatementList,
         cause: Cause,
     ) -> Option<Ran>
-        ensures { MovesTo (Place.Failed (out-Arm arm).line cause) self.old result self.new }
+        ensures { MovesTo (Place.Failed (out-Arm arm).line true cause) self.old result self.new }
     {
-        self.fail(arm.line, cause)
+        self.fail(arm.line, true, cause)
     }
 
     /// The statements of a body come first.

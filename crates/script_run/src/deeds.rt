@@ -56,7 +56,12 @@ impl Run {
                 self.place = Place::Doing { line, what };
                 Some(Ran::Held(line))
             }
-            Prepared::Sets { name, value } => self.set(alloc, line, what, name, value),
+            Prepared::Sets {
+                midway,
+                name,
+                value,
+            } => self.set(alloc, line, what, midway, name, value),
+            Prepared::Undated { midway } => self.undated(line, what, midway),
             Prepared::Does { command } => self.act(machine, line, what, command),
             Prepared::Awaits { command } => self.start(machine, line, what, command),
         }
@@ -70,7 +75,7 @@ impl Run {
         match broken {
             Broken::Failed(cause) => {
                 drop(what);
-                self.fail(line, cause)
+                self.fail(line, true, cause)
             }
             Broken::Memory => {
                 self.place = Place::Doing { line, what };
@@ -79,13 +84,30 @@ impl Run {
         }
     }
 
-    /// A parameter is set, unless it was set before.
-    fn set(&mut self, alloc: Global, line: u32, what: Line, name: Text, value: Text) -> Option<Ran>
+    /// The date of a line is no time.
+    fn undated(&mut self, line: u32, what: Line, midway: bool) -> Option<Ran>
         requires ready { self.old.place ≡ Place.Ready }
-        ensures { (now : MachineView) → CarriesOut line what self.old (Ok (Prepared.Sets name value)) now result now self.new }
+        ensures { (now : MachineView) → CarriesOut line what self.old (Ok (Prepared.Undated midway)) now result now self.new }
+    {
+        drop(what);
+        self.fail(line, midway, Cause::BadDate)
+    }
+
+    /// A parameter is set, unless it was set before.
+    fn set(
+        &mut self,
+        alloc: Global,
+        line: u32,
+        what: Line,
+        midway: bool,
+        name: Text,
+        value: Text,
+    ) -> Option<Ran>
+        requires ready { self.old.place ≡ Place.Ready }
+        ensures { (now : MachineView) → CarriesOut line what self.old (Ok (Prepared.Sets midway name value)) now result now self.new }
     {
         if self.kept.has(name.as_str()) {
-            return self.fail(line, Cause::ParameterTwice);
+            return self.fail(line, midway, Cause::ParameterTwice);
         }
         match self.kept.add(alloc, name, value) {
             Ok(()) => None,
@@ -125,9 +147,9 @@ impl Run {
     {
         match answer {
             Acted::Done | Acted::Started(_) => None,
-            Acted::Refused(why) => self.fail(line, Cause::Refused(why)),
+            Acted::Refused(why) => self.fail(line, true, Cause::Refused(why)),
             // want of memory is told before this
-            Acted::Failed | Acted::Memory => self.fail(line, Cause::MachineFault),
+            Acted::Failed | Acted::Memory => self.fail(line, true, Cause::MachineFault),
         }
     }
 
@@ -164,9 +186,9 @@ impl Run {
                 self.place = Place::Waiting { line, process };
                 None
             }
-            Acted::Refused(reason) => self.fail(line, Cause::Refused(reason)),
+            Acted::Refused(reason) => self.fail(line, true, Cause::Refused(reason)),
             // want of memory is told before this
-            Acted::Failed | Acted::Memory => self.fail(line, Cause::MachineFault),
+            Acted::Failed | Acted::Memory => self.fail(line, true, Cause::MachineFault),
         }
     }
 
@@ -190,7 +212,7 @@ impl Run {
                 self.kept.set_exit(code);
                 None
             }
-            Polled::Failed => self.fail(line, Cause::MachineFault),
+            Polled::Failed => self.fail(line, true, Cause::MachineFault),
         }
     }
 }

@@ -1,5 +1,5 @@
 // The steps of a prefetch line: its file is wanted, compared and placed.
-ghost use Rattle.std.specs.Prelude.{◌≡◌, ℕ, List};
+ghost use Rattle.std.specs.Prelude.{◌≡◌, ℕ, List, true};
 ghost use Rattle.bf_machine.specs.Views.{MachineView};
 ghost use Rattle.script_run.specs.OneStep.{StepsFrom, MovesTo};
 
@@ -52,9 +52,9 @@ impl Run {
 
     /// They aren't, for this cause.
     fn differs(&mut self, fetch: Prefetch, _bytes: Bytes, cause: Cause) -> Option<Ran>
-        ensures { MovesTo (Place.Failed fetch.line cause) self.old result self.new }
+        ensures { MovesTo (Place.Failed fetch.line true cause) self.old result self.new }
     {
-        self.fail(fetch.line, cause)
+        self.fail(fetch.line, true, cause)
     }
 
     /// The file of a prefetch line is placed.

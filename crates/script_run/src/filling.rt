@@ -1,15 +1,13 @@
 // Filling the templates of a line.
-ghost use Rattle.std.specs.Prelude.{◌≡◌, List, [], ◌∷◌, ◌++◌, IfOk, MatchResult};
-ghost use Rattle.desk_base.specs.Moments.{IsMoment};
+ghost use Rattle.std.specs.Prelude.{◌≡◌, List, [], ◌∷◌, ◌++◌, MatchResult};
 ghost use Rattle.script_text.specs.declared.template.Part2.{Part2};
 ghost use Rattle.script_text.specs.declared.template.Template.{Template};
-ghost use Rattle.script_run.specs.Fills.{AsksText, FillsParts, FillsTemplate, FillsTwo, FillsLines, FillsFile, FillsDate};
+ghost use Rattle.script_run.specs.Fills.{AsksText, FillsParts, FillsTemplate, FillsTwo, FillsLines, FillsFile, asks_after};
 
 use crate::Cause;
 use crate::asking::say;
 use crate::broken::Broken;
 use crate::kept::Kept;
-use crate::times::time_of;
 use bf_machine::Machine;
 use rel_eval::OneText;
 use rel_lexer::Text;
@@ -143,16 +141,14 @@ pub(crate) fn lined<M: Machine>(
     Ok(text)
 }
 
-/// The moment that a template tells.
-pub(crate) fn dated<M: Machine>(
-    alloc: Global,
-    machine: &mut M,
-    kept: &Kept,
-    template: &Template,
-) -> Result<i64, Broken>
-    ensures dates { FillsDate kept.now.scene template.now (M.told machine.old) result (M.told machine.new) }
-    ensures moment { IfOk result IsMoment }
+/// Whether a line is midway behind a template, where it was before it or not: an expression is asked by then.
+pub(crate) fn midway_behind(midway: bool, template: &Template) -> bool
+    ensures { result ≡ asks_after midway template.now.parts }
 {
-    let text = filled(alloc, machine, kept, template)?;
-    time_of(alloc, text)
+    for part in template.parts.as_slice() {
+        if let Part2::Expression(_) = part {
+            return true;
+        }
+    }
+    midway
 }

@@ -24,15 +24,19 @@ pub fn commands_add_up()
 {}
 
 /// A line fails for a fault of the machine only where the machine counted one in this advance, or where the line had failed so before;
-/// no script begins so, and none comes to it by a file that it wanted. So who reads this answer can look for the fault at the machine.
+/// no script begins so, and none comes to it by a file that it wanted, or before anything of the line is settled. So who reads this
+/// answer can look for the fault at the machine.
 pub fn a_machine_fault_is_counted()
     ensures counted { (at : When) (script : PlainScript) (given : List Pair) (settled : List Settled) (old : MachineView) (line : ℕ)
         (new : MachineView) (left : Walk) → Advances at old (after script given settled) (of_run.Failed line MachineFault) new left
-        → Rose old.faults new.faults ⊎ (next script given settled ≡ Fails line MachineFault) }
-    ensures begins { (script : PlainScript) (given : List Pair) (line : ℕ) → next script given [] ≢ Fails line MachineFault }
+        → Rose old.faults new.faults ⊎ (next script given settled ≡ Fails line true MachineFault) }
+    ensures begins { (script : PlainScript) (given : List Pair) (line : ℕ) (midway : Bool)
+        → next script given [] ≢ Fails line midway MachineFault }
     ensures supplies { (script : PlainScript) (given : List Pair) (settled : List Settled) (wanting : ℕ) (digest : List ℕ)
-        (bytes : Option (List ℕ)) (line : ℕ) → next script given settled ≡ Wants wanting digest
-        → next script given (settled ++ supplied bytes ∷ []) ≢ Fails line MachineFault }
+        (bytes : Option (List ℕ)) (line : ℕ) (midway : Bool) → next script given settled ≡ Wants wanting digest
+        → next script given (settled ++ supplied bytes ∷ []) ≢ Fails line midway MachineFault }
+    ensures midway { (script : PlainScript) (given : List Pair) (settled : List Settled) (line : ℕ)
+        → next script given settled ≢ Fails line false MachineFault }
 {}
 
 /// Where nothing fails and memory lasts, what a script comes to and what it answers is fixed by its lines and parameters and by the

@@ -6,8 +6,9 @@ use crate::Cause;
 use crate::asking::judge;
 use crate::broken::Broken;
 use crate::files::{appends, copies, creates, deletes, makes, moves, removes};
-use crate::filling::{dated, filled, two};
+use crate::filling::{filled, midway_behind, two};
 use crate::kept::Kept;
+use crate::times::time_of;
 use bf_machine::{Command, Machine};
 use rel_eval::Truth;
 use rel_lexer::Text;
@@ -21,12 +22,24 @@ pub enum Prepared {
     Passes,
     /// Nothing now: its test is true.
     Held,
-    /// A parameter is set.
-    Sets { name: Text, value: Text },
+    /// A parameter is set, midway where an expression of the line was asked.
+    Sets {
+        midway: bool,
+        name: Text,
+        value: Text,
+    },
+    /// Nothing: its date is no time, which is known midway where an expression of the line was asked.
+    Undated {
+        midway: bool,
+    },
     /// A command is done.
-    Does { command: Command },
+    Does {
+        command: Command,
+    },
     /// A program is started and waited for.
-    Awaits { command: Command },
+    Awaits {
+        command: Command,
+    },
 }
 
 /// Asks the expressions of a line from the left, or its test.
@@ -68,9 +81,14 @@ fn sets<M: Machine>(
 ) -> Result<Prepared, Broken>
     ensures { PreparesLine kept.now.scene (Line.Parameter name.now value.now) (M.told machine.old) result (M.told machine.new) }
 {
+    let midway = midway_behind(false, value);
     let value = filled(alloc, machine, kept, value)?;
     let name = name.copy()?;
-    Ok(Prepared::Sets { name, value })
+    Ok(Prepared::Sets {
+        midway,
+        name,
+        value,
+    })
 }
 
 /// The script goes on where the test is true.
@@ -151,13 +169,20 @@ fn puts<M: Machine>(
     ensures { PreparesLine kept.now.scene (Line.Setting name.now value.now date.now)
         (M.told machine.old) result (M.told machine.new) }
 {
+    let named = midway_behind(false, name);
+    let valued = midway_behind(named, value);
+    let midway = midway_behind(valued, date);
     let both = two(alloc, machine, kept, name, value)?;
-    let date = dated(alloc, machine, kept, date)?;
-    Ok(does(Command::Put {
-        name: both.first,
-        value: both.second,
-        date,
-    }))
+    let date = filled(alloc, machine, kept, date)?;
+    let moment = time_of(alloc, date)?;
+    match moment {
+        Some(date) => Ok(does(Command::Put {
+            name: both.first,
+            value: both.second,
+            date,
+        })),
+        None => Ok(Prepared::Undated { midway }),
+    }
 }
 
 /// A setting is dropped.
@@ -171,9 +196,15 @@ fn drops<M: Machine>(
     ensures { PreparesLine kept.now.scene (Line.SettingDelete name.now date.now)
         (M.told machine.old) result (M.told machine.new) }
 {
+    let named = midway_behind(false, name);
+    let midway = midway_behind(named, date);
     let name = filled(alloc, machine, kept, name)?;
-    let date = dated(alloc, machine, kept, date)?;
-    Ok(does(Command::Drop { name, date }))
+    let date = filled(alloc, machine, kept, date)?;
+    let moment = time_of(alloc, date)?;
+    match moment {
+        Some(date) => Ok(does(Command::Drop { name, date })),
+        None => Ok(Prepared::Undated { midway }),
+    }
 }
 
 pub(crate) fn does(command: Command) -> Prepared

@@ -48,9 +48,10 @@ pub enum Place {
     },
     /// All lines are done.
     Done,
-    /// A line failed.
+    /// A line failed, midway where anything of it was settled.
     Failed {
         line: u32,
+        midway: bool,
         cause: Cause,
     },
 }

@@ -111,6 +111,7 @@ fn arrived(fetch: Prefetch, bytes: Option<Bytes>) -> Place
         Some(bytes) => Place::Supplied { fetch, bytes },
         None => Place::Failed {
             line: fetch.line,
+            midway: true,
             cause: Cause::NotServed(fetch.sha256),
         },
     }

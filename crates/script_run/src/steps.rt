@@ -58,21 +58,29 @@ impl Run {
         self.place = place;
     }
 
-    /// The line has failed.
-    pub(crate) fn fail(&mut self, line: u32, cause: Cause) -> Option<Ran>
-        ensures { MovesTo (Place.Failed line cause) self.old result self.new }
+    /// The line has failed, midway or not.
+    pub(crate) fn fail(&mut self, line: u32, midway: bool, cause: Cause) -> Option<Ran>
+        ensures { MovesTo (Place.Failed line midway cause) self.old result self.new }
     {
-        self.place = Place::Failed { line, cause };
+        self.place = Place::Failed {
+            line,
+            midway,
+            cause,
+        };
         None
     }
 
     /// The line has failed, and that is answered.
-    pub(crate) fn tell(&mut self, line: u32, cause: Cause) -> Option<Ran>
+    pub(crate) fn tell(&mut self, line: u32, midway: bool, cause: Cause) -> Option<Ran>
         requires ready { self.old.place ≡ Place.Ready }
-        ensures { (machine : MachineView) → StepsFrom (Place.Failed line cause) self.old machine result machine self.new }
+        ensures { (machine : MachineView) → StepsFrom (Place.Failed line midway cause) self.old machine result machine self.new }
     {
         let told = cause.copy();
-        self.place = Place::Failed { line, cause };
+        self.place = Place::Failed {
+            line,
+            midway,
+            cause,
+        };
         match told {
             Ok(cause) => Some(Ran::Failed(line, cause)),
             Err(_) => Some(Ran::Memory),

@@ -1,4 +1,4 @@
-use Rattle.std.proofs.Common.{refl, ap, arith}
+use Rattle.std.proofs.Common.{true, refl, ap, arith}
 use Rattle.rel_eval.specs.declared.told.Truth.TheVariants as truth
 use Rattle.script_text.specs.declared.tree.Arm.{out-Arm}
 use Rattle.script_text.specs.Views.{shown_statements}
@@ -34,7 +34,7 @@ returns-in-Error c = λ before after j.
     let self = c.args.self.now in
     let other = choosing self.current self.later.items c.args.arms.items c.args.other in
     step_from (Asking c.args.arm c.args.arms c.args.other) self before _ after _ refl
-    (move_step (Failed (out-Arm c.args.arm).line (Relevance c.in-Error.kind c.in-Error.place)) self _ before _ _ after _ c.give_up.ensures (omega arith) tt (omega (arith, j.only.started))
+    (move_step (Failed (out-Arm c.args.arm).line true (Relevance c.in-Error.kind c.in-Error.place)) self _ before _ _ after _ c.give_up.ensures (omega arith) tt (omega (arith, j.only.started))
     (arm_reaches self.kept.scene c.args.arm (around self) other before c.args.truth (truth.Error c.in-Error.kind c.in-Error.place) after _ c.in-Error.is (λ is. absurd (cc)) j (λ more. refl)))
 
 pub returns-in-Failed : goal.returns-in-Failed
@@ -42,7 +42,7 @@ returns-in-Failed c = λ before after j.
     let self = c.args.self.now in
     let other = choosing self.current self.later.items c.args.arms.items c.args.other in
     step_from (Asking c.args.arm c.args.arms c.args.other) self before _ after _ refl
-    (move_step (Failed (out-Arm c.args.arm).line MachineFault) self _ before _ _ after _ c.give_up-in-Failed.ensures (omega arith) tt (omega (arith, j.only.started))
+    (move_step (Failed (out-Arm c.args.arm).line true MachineFault) self _ before _ _ after _ c.give_up-in-Failed.ensures (omega arith) tt (omega (arith, j.only.started))
     (arm_reaches self.kept.scene c.args.arm (around self) other before c.args.truth (truth.Failed c.in-Failed.field-0) after _ c.in-Failed.is (λ is. absurd (cc)) j (λ more. refl)))
 
 pub returns-in-Memory : goal.returns-in-Memory

@@ -1,4 +1,4 @@
-use Rattle.std.proofs.Common.{refl, arith}
+use Rattle.std.proofs.Common.{true, refl, arith}
 use Rattle.script_run.specs.declared.broken.Broken.TheVariants as broken
 use Rattle.script_run.specs.declared.place.Place.TheVariants.{Doing, Failed}
 use Rattle.script_run.specs.RunPlaces.{around}
@@ -11,7 +11,7 @@ returns-in-Failed c = λ now before h.
     let self = c.args.self.now in
     let k = broken_as self.kept.scene c.args.what before c.args.broken (broken.Failed c.in-Failed.cause) now c.in-Failed.is h in
     step_from (Doing c.args.line c.args.what) self before _ now _ refl
-    (move_step (Failed c.args.line c.in-Failed.cause) self _ before _ _ now _ c.fail.ensures (omega arith) tt (omega (arith, k.only.started)) (k.prepares c.args.line (around self)))
+    (move_step (Failed c.args.line true c.in-Failed.cause) self _ before _ _ now _ c.fail.ensures (omega arith) tt (omega (arith, k.only.started)) (k.prepares c.args.line (around self)))
 
 pub returns-in-Memory : goal.returns-in-Memory
 returns-in-Memory c = λ now before h.

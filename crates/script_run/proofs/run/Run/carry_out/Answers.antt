@@ -1,5 +1,5 @@
 use Rattle.std.proofs.Common.{refl, arith}
-use Rattle.script_run.specs.declared.lines.Prepared.TheVariants.{Passes, Held, Sets, Does, Awaits}
+use Rattle.script_run.specs.declared.lines.Prepared.TheVariants.{Passes, Held, Sets, Undated, Does, Awaits}
 use Rattle.script_run.specs.declared.place.Place.TheVariants.{Ready, Doing}
 use Rattle.script_run.specs.declared.ran.Ran.TheVariants as ran
 use Rattle.script_run.specs.RunPlaces.{around}
@@ -23,7 +23,10 @@ returns-in-Held g c = λ before h.
     (stop_step place self _ before (ran.Held c.args.line) _ _ (moved_stands place self _ refl) (k.prepares c.args.line (around self)) (refl, tt) tt (omega (arith, k.only.started)))
 
 pub returns-in-Sets : goal.returns-in-Sets
-returns-in-Sets g c = λ before h. c.set.ensures _ before (prepared_as c.args.self.now.kept.scene c.args.what before c.args.prepared (Sets c.in-Sets.name c.in-Sets.value) _ c.in-Sets.is h)
+returns-in-Sets g c = λ before h. c.set.ensures _ before (prepared_as c.args.self.now.kept.scene c.args.what before c.args.prepared (Sets c.in-Sets.midway c.in-Sets.name c.in-Sets.value) _ c.in-Sets.is h)
+
+pub returns-in-Undated : goal.returns-in-Undated
+returns-in-Undated g c = λ before h. c.undated.ensures _ before (prepared_as c.args.self.now.kept.scene c.args.what before c.args.prepared (Undated c.in-Undated.midway) _ c.in-Undated.is h)
 
 pub returns-in-Does : goal.returns-in-Does
 returns-in-Does g c = λ before h. c.act.ensures before (prepared_as c.args.self.now.kept.scene c.args.what before c.args.prepared (Does c.in-Does.command) _ c.in-Does.is h)

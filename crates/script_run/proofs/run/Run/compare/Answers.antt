@@ -1,4 +1,4 @@
-use Rattle.std.proofs.Common.{refl, sym, ap, length, ◌∙◌, arith}
+use Rattle.std.proofs.Common.{true, refl, sym, ap, length, ◌∙◌, arith}
 use Rattle.script_run.specs.declared.place.Place.TheVariants.{Placing, Supplied, Failed}
 use Rattle.script_run.specs.Asking.{when_of, known_in}
 use Rattle.script_run.specs.RunPlaces.{around}
@@ -19,7 +19,7 @@ pub returns-in-Ok-Some : goal.returns-in-Ok-Some
 returns-in-Ok-Some c = λ machine.
     let self = c.args.self.now in
     step_from (Supplied c.args.fetch c.args.bytes) self machine _ machine _ refl
-    (move_step (Failed c.args.fetch.line c.in-Ok-Some.cause) self _ machine _ _ machine _ c.differs.ensures (omega arith) tt (omega arith)
+    (move_step (Failed c.args.fetch.line true c.in-Ok-Some.cause) self _ machine _ _ machine _ c.differs.ensures (omega arith) tt (omega arith)
     (reach_none Any (when_of self.kept.scene) machine _ _
     (λ more. compared_other c.args.fetch c.args.bytes c.as_slice.result.now c.in-Ok-Some.cause (around self) (known_in self.kept.scene) more c.as_slice.ensures (rw c.in-Ok-Some.field-0-is at c.in-Ok-Some.ensures))))
 

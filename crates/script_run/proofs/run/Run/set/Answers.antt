@@ -16,12 +16,12 @@ returns-then-has c = λ now before h.
     let self = c.args.self.now in
     let known = known_in self.kept.scene in
     let walk = line_walk c.args.line c.args.what (around self) known in
-    let sets = setting c.args.line c.args.name c.args.value (around self) known in
+    let sets = setting c.args.line c.args.midway c.args.name c.args.value (around self) known in
     let reach = reach_any (IsTextOf c.args.line) (when_of self.kept.scene) before walk now sets (h.prepares c.args.line (around self)) in
     step_from (Doing c.args.line c.args.what) self before _ now _ refl
-    (move_step (Failed c.args.line ParameterTwice) self _ before walk _ now _ c.fail.ensures (omega arith) tt (omega (arith, h.only.started))
-    (reach_same Any (when_of self.kept.scene) before walk now sets (failing c.args.line ParameterTwice known) reach
-    (λ more. set_twice c.args.line c.as_str.result.now c.args.name c.args.value (around self) known c.has.result more c.as_str.ensures c.has.ensures c.if-has.true)))
+    (move_step (Failed c.args.line c.args.midway ParameterTwice) self _ before walk _ now _ c.fail.ensures (omega arith) tt (omega (arith, h.only.started))
+    (reach_same Any (when_of self.kept.scene) before walk now sets (failing c.args.line c.args.midway ParameterTwice known) reach
+    (λ more. set_twice c.args.line c.args.midway c.as_str.result.now c.args.name c.args.value (around self) known c.has.result more c.as_str.ensures c.has.ensures c.if-has.true)))
 
 pub add-requires : goal.add-requires
 add-requires c = name_is_new c.as_str.result.now c.args.name c.args.self.now.kept.scene.parameters c.has.result c.as_str.ensures c.has.ensures c.if-has.false
@@ -31,12 +31,12 @@ returns-in-Ok c = λ now before h.
     let self = c.args.self.now in
     let known = known_in self.kept.scene in
     let walk = line_walk c.args.line c.args.what (around self) known in
-    let sets = setting c.args.line c.args.name c.args.value (around self) known in
+    let sets = setting c.args.line c.args.midway c.args.name c.args.value (around self) known in
     let reach = reach_any (IsTextOf c.args.line) (when_of self.kept.scene) before walk now sets (h.prepares c.args.line (around self)) in
     step_from (Doing c.args.line c.args.what) self before _ now _ refl
     (none_step (when_of self.kept.scene) _ before walk _ now _ refl (ap when_of c.in-Ok.ensures.ok) (omega (arith, ap place_weight c.requires.ready)) (ready_waits _ _ c.requires.ready) (omega (arith, h.only.started))
     (reach_same Any (when_of self.kept.scene) before walk now sets _ reach
-    (λ more. set_once c.args.line c.as_str.result.now c.args.name c.args.value (around self) known c.has.result more c.as_str.ensures c.has.ensures c.if-has.false
+    (λ more. set_once c.args.line c.args.midway c.as_str.result.now c.args.name c.args.value (around self) known c.has.result more c.as_str.ensures c.has.ensures c.if-has.false
     ∙ set_walk self.place (around self) c.args.name c.args.value self.kept.scene c.add.new.self.scene more c.requires.ready c.in-Ok.ensures.ok)))
 
 pub returns-in-Err : goal.returns-in-Err

@@ -34,4 +34,4 @@ pub returns-in-Done : goal.returns-in-Done
 returns-in-Done g c = steps_at c.args.self.now.place Done c.args.self.now _ _ _ _ _ (sym c.replace.ensures.value ∙ c.in-Done.is) (c.end.ensures _)
 
 pub returns-in-Failed : goal.returns-in-Failed
-returns-in-Failed g c = steps_at c.args.self.now.place (Failed c.in-Failed.line c.in-Failed.cause) c.args.self.now _ _ _ _ _ (sym c.replace.ensures.value ∙ c.in-Failed.is) (c.tell.ensures _)
+returns-in-Failed g c = steps_at c.args.self.now.place (Failed c.in-Failed.line c.in-Failed.midway c.in-Failed.cause) c.args.self.now _ _ _ _ _ (sym c.replace.ensures.value ∙ c.in-Failed.is) (c.tell.ensures _)

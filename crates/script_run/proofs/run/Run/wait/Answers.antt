@@ -1,4 +1,4 @@
-use Rattle.std.proofs.Common.{rules, SFits, w64, refl, ap, arith}
+use Rattle.std.proofs.Common.{true, rules, SFits, w64, refl, ap, arith}
 use Rattle.std.proofs.lemmas.Int.{to_z-of_z}
 use Rattle.script_run.specs.declared.cause.Cause.TheVariants.{MachineFault}
 use Rattle.script_run.specs.declared.place.Place.TheVariants.{Waiting, Failed}
@@ -33,5 +33,5 @@ returns-in-Failed g c =
     let self = c.args.self.now in
     let e = c.in-Failed.ensures in
     step_from (Waiting c.args.line c.args.process) self _ _ _ _ refl
-    (move_step (Failed c.args.line MachineFault) self _ _ _ _ _ _ c.fail.ensures (omega arith) tt (omega (arith, e.started))
+    (move_step (Failed c.args.line true MachineFault) self _ _ _ _ _ _ c.fail.ensures (omega arith) tt (omega (arith, e.started))
     (poll_fails (when_of self.kept.scene) c.args.line c.args.process.0 (around self) (known_in self.kept.scene) _ _ e))
