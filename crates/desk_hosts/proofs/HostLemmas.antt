@@ -1,6 +1,6 @@
 -- What holds of every call of a host.
 use Rattle.std.proofs.Common.{◌≡◌, ℕ, List, Bool, true, false, refl, ap, ◌∙◌, subst, inl, inr, arith}
-use Rattle.std.specs.Prelude.{◌==◌, ◌&&◌, bytes_eq, if◌then◌else◌, None, Some, codes}
+use Rattle.std.specs.Prelude.{◌==◌, bytes_eq, if◌then◌else◌, None, Some, codes}
 use Rattle.std.specs.declared.option.Option.{Option}
 use Rattle.std.proofs.lemmas.Slice.Eq.{bytes_eq-Decides}
 use Rattle.sha2.specs.Sha256.{sha256}
@@ -21,9 +21,13 @@ use Rattle.server_text.specs.declared.reply.Reply.TheVariants as reply
 use Rattle.http_replies.specs.declared.answer.Answer.{Answer}
 use Rattle.http_replies.specs.declared.answer.Answer.TheVariants as answer
 use Rattle.http_replies.specs.Statuses.{IsCalled, answer_status, reply_status}
-use Rattle.desk_hosts.specs.HostCalls.{no_such}
+use Rattle.relay_cache.specs.CachedFiles.{CacheState, cached}
+use Rattle.desk_hosts.specs.declared.file.Came.{Came}
+use Rattle.desk_hosts.specs.declared.file.Came.TheVariants as came
+use Rattle.desk_hosts.specs.HostCalls.{no_such, no_memory}
+use Rattle.desk_hosts.specs.RelayFiles.{AsksFile, ComesOf, FilesTell, KeepsGiven, TellsBy, TellsBytes, TellsLooked, given, given_or, no_file}
 use Rattle.desk_hosts.specs.ServerCalls.{ServerCalls, ServerTells, ServerAnswers}
-use Rattle.desk_hosts.specs.RelayCalls.{RelayCalls, RelayTells, RelayAnswers, AsksFile, AnswersExchange}
+use Rattle.desk_hosts.specs.RelayCalls.{RelayCalls, RelayTells, RelayAnswers}
 
 -- ---- a fault of the keeper
 
@@ -104,26 +108,73 @@ ok_404 h = omega (arith, h)
 ok_502 : ◌≡◌ {A = ℕ} 200 502 → ⊥
 ok_502 h = omega (arith, h)
 
--- a file's bytes are passed on only where they have the digest
-passed : (digest body text : List ℕ) (missing good same : Bool) → (same ≡ true → sha256 body ≡ digest)
-    → IsCalled (if missing then no_such else (if good && same then answer.Reply (reply.Content body) else answer.BadAnswer)) (called.Answer 200 text) → sha256 text ≡ digest
-passed digest body text true good same so is = absurd (ok_404 is.1)
-passed digest body text false true true so is = ap sha256 is.2 ∙ so refl
-passed digest body text false true false so is = absurd (ok_502 is.1)
-passed digest body text false false same so is = absurd (ok_502 is.1)
+module _ (text : List ℕ) where
+  abbrev Is200 : Answer → Type 0
+  Is200 it = IsCalled it (called.Answer 200 text)
 
-file_exchanged : (digest text : List ℕ) (exchanged : Exchanged) (it : Answer) → AnswersExchange digest exchanged it → IsCalled it (called.Answer 200 text) → sha256 text ≡ digest
-file_exchanged digest text of_exchange.Failed it same is = absurd (ok_502 (is.1 ∙ ap answer_status same))
-file_exchanged digest text of_exchange.Memory it same is = absurd (is.0 same)
-file_exchanged digest text (of_exchange.Reply bytes) it (inl same) is = absurd (is.0 same)
-file_exchanged digest text (of_exchange.Reply bytes) it (inr (inl (none, same))) is = absurd (ok_502 (is.1 ∙ ap answer_status same))
-file_exchanged digest text (of_exchange.Reply bytes) it (inr (inr (status, body, reply, same))) is =
-    let P : Answer → Type 0 = λ a. IsCalled a (called.Answer 200 text) in
-    passed digest body text (status == 404) (status == 200) (bytes_eq (sha256 body) digest) (bytes_eq-Decides (sha256 body) digest).0 (subst P same is)
+  -- where no file comes the status is none of a file's
+  no_memory_200 : (it : Answer) → it ≡ no_memory → Is200 it → ⊥
+  no_memory_200 it same is = is.0 same
 
-file_asked : (old new : LinkView) (digest text : List ℕ) (it : Answer) → AsksFile old digest it new → IsCalled it (called.Answer 200 text) → sha256 text ≡ digest
-file_asked old new digest text it (inl short) is = absurd (is.0 short.0)
-file_asked old new digest text it (inr (exchanged, asks, answers)) is = file_exchanged digest text exchanged it answers is
+  bad_answer_200 : (it : Answer) → it ≡ answer.BadAnswer → Is200 it → ⊥
+  bad_answer_200 it same is = ok_502 (is.1 ∙ ap answer_status same)
+
+  of_status_200 : (body : List ℕ) (missing good : Bool)
+      → Is200 (no_file (if missing then came.Nothing no_such else (if good then came.File body else came.Nothing answer.BadAnswer))) → ⊥
+  of_status_200 body true good is = ok_404 is.1
+  of_status_200 body false true is = ok_502 is.1
+  of_status_200 body false false is = ok_502 is.1
+
+  comes_200 : (exchanged : Exchanged) (gave : Came) → ComesOf exchanged gave → Is200 (no_file gave) → ⊥
+  comes_200 of_exchange.Failed gave same is = ok_502 (is.1 ∙ ap (λ (g : Came). answer_status (no_file g)) same)
+  comes_200 of_exchange.Memory gave same is = no_memory_200 (no_file gave) (ap no_file same) is
+  comes_200 (of_exchange.Reply bytes) gave (inl same) is = no_memory_200 (no_file gave) (ap no_file same) is
+  comes_200 (of_exchange.Reply bytes) gave (inr (inl (none, same))) is = bad_answer_200 (no_file gave) (ap no_file same) is
+  comes_200 (of_exchange.Reply bytes) gave (inr (inr (status, body, reply, same))) is =
+      of_status_200 body (status == 404) (status == 200) (subst (λ (g : Came). Is200 (no_file g)) same is)
+
+  asks_200 : (old new : LinkView) (digest : List ℕ) (gave : Came) → AsksFile old digest gave new → Is200 (no_file gave) → ⊥
+  asks_200 old new digest gave (inl short) is = no_memory_200 (no_file gave) (ap no_file short.0) is
+  asks_200 old new digest gave (inr (exchanged, asks, comes)) is = comes_200 exchanged gave comes is
+
+chosen : (digest bytes other : List ℕ) (same : Bool) → (same ≡ true → sha256 bytes ≡ digest) → ◌≡◌ {A = Option (List ℕ)} (if same then Some bytes else None) (Some other) → sha256 other ≡ digest
+chosen digest bytes other true so e = let h : bytes ≡ other = cc in subst (λ (b : List ℕ). sha256 b ≡ digest) h (so refl)
+chosen digest bytes other false so e = cc
+
+-- what is given has the digest
+given_digest : (digest bytes : List ℕ) (gave : Came) → given digest gave ≡ Some bytes → sha256 bytes ≡ digest
+given_digest digest bytes (came.File others) e = chosen digest others bytes (bytes_eq (sha256 others) digest) (bytes_eq-Decides (sha256 others) digest).0 e
+given_digest digest bytes (came.Nothing it) e = cc
+
+module _ (digest text : List ℕ) where
+  content_200 : (bytes : List ℕ) (it : Answer) → sha256 bytes ≡ digest → it ≡ answer.Reply (reply.Content bytes) → Is200 text it → sha256 text ≡ digest
+  content_200 bytes it has same is = let h = subst (Is200 text) same is in ap sha256 h.2 ∙ has
+
+  given_200 : (gave : Came) (it : Answer) (o : Option (List ℕ)) → given digest gave ≡ o → (Is200 text (no_file gave) → ⊥) → it ≡ given_or (no_file gave) o
+      → Is200 text it → sha256 text ≡ digest
+  given_200 gave it None e never same is = absurd (never (subst (Is200 text) same is))
+  given_200 gave it (Some bytes) e never same is = content_200 bytes it (given_digest digest bytes gave e) same is
+
+  kept_200 : (gave : Came) (it : Answer) (old new : CacheState) (o : Option (List ℕ)) → given digest gave ≡ o → (Is200 text (no_file gave) → ⊥)
+      → KeepsGiven old digest (no_file gave) o it new → Is200 text it → sha256 text ≡ digest
+  kept_200 gave it old new None e never (same, stays) is = absurd (never (subst (Is200 text) same is))
+  kept_200 gave it old new (Some bytes) e never (inl (same, after)) is = content_200 bytes it (given_digest digest bytes gave e) same is
+  kept_200 gave it old new (Some bytes) e never (inr (short, stays)) is = absurd (no_memory_200 text it short is)
+
+  told_200 : (bytes : List ℕ) (it : Answer) → sha256 bytes ≡ digest → TellsBytes bytes it → Is200 text it → sha256 text ≡ digest
+  told_200 bytes it has (inl same) is = content_200 bytes it has same is
+  told_200 bytes it has (inr short) is = absurd (no_memory_200 text it short is)
+
+  looked_200 : (o : Option (List ℕ)) (old new : LinkView) (cache after : CacheState) (it : Answer) → TellsLooked digest o old cache it new after → Is200 text it
+      → sha256 text ≡ digest
+  looked_200 (Some bytes) old new cache after it tells is = told_200 bytes it tells.0.genuine tells.0.answers is
+  looked_200 None old new cache after it tells is =
+      kept_200 tells.gave it cache after (given digest tells.gave) refl (asks_200 text old new digest tells.gave tells.asks) tells.keeps is
+
+  file_200 : (cache : Option CacheState) (old : LinkView) (it : Answer) (new : FilesTell) → TellsBy digest cache old it new → Is200 text it → sha256 text ≡ digest
+  file_200 None old it new (passes, none) is =
+      given_200 passes.gave it (given digest passes.gave) refl (asks_200 text old new.link digest passes.gave passes.asks) passes.answers is
+  file_200 (Some cache) old it new (after, tells, kept) is = looked_200 (cached digest cache.files) old new.link cache after it tells is
 
 pub file_digest : OneRoute → (old new : RelayTells) (digest body text : List ℕ) → IsDigestValue digest → RelayCalls old Get (file_path digest) body (called.Answer 200 text) new → sha256 text ≡ digest
 file_digest one old new digest body text forms (inl short) = let e = short.0 in cc
@@ -131,4 +182,4 @@ file_digest one old new digest body text forms (inr (route, it, found, answered,
     let mine : IsRoute of_routes.Relay (method_word Get) (file_path digest) (of_route.AskFile digest) = record { asked = refl; named = refl; forms = forms; here = refl } in
     let same = one of_routes.Relay (method_word Get) (file_path digest) route (Some (of_route.AskFile digest)) found mine in
     let P : Option Route → Type 0 = λ r. RelayAnswers old r body it new in
-    file_asked old.link new.link digest text it (subst P same answered).0 is
+    file_200 digest text old.files.cache old.files.link it new.files (subst P same answered).0 is

@@ -1,3 +1,4 @@
 pub mod HostCalls
 pub mod ServerCalls
+pub mod RelayFiles
 pub mod RelayCalls

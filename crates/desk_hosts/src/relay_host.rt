@@ -1,23 +1,25 @@
 ghost use Rattle.std.specs.Prelude.{◌≡◌};
 ghost use Rattle.desk_hosts.specs.RelayCalls.{CarriesReport, IsPathOf, RelayAnswers, TellsSite, TellsSites, verdict_answer};
 
-use crate::file::ask_upstream;
+use crate::file::tell_file;
 use crate::site_list::versions_of;
 use desk_http::{Asking, Called, Link, Paths, Route, Routes, Site2, find_route};
 use fix_site::write_site;
 use http_replies::Answer;
 use rel_lexer::Text;
+use relay_cache::FileCache;
 use relay_core::{Asked, Relay, RelayAnswer, Verdict};
 use server_text::{Reply, TextError, read_reported};
 use std::alloc::Global;
 
-/// A relay that answers calls, and asks its upstream for files by a link.
+/// A relay that answers calls, and asks its upstream for files by a link, where its cache doesn't keep them, if it has one.
 #[derive(Drop)]
 pub struct RelayHost<'a, L: Link> {
     pub alloc: Global,
     pub paths: &'a Paths,
     pub relay: &'a mut Relay,
     pub link: &'a mut L,
+    pub cache: &'a mut Option<FileCache>,
 }
 
 impl<'a, L: Link> Site2 for RelayHost<'a, L> {
@@ -26,9 +28,9 @@ impl<'a, L: Link> Site2 for RelayHost<'a, L> {
 
     ghost Told = { RelayTells };
 
-    ghost told = { λ h. record { relay = h.relay.now; link = L.told h.link.now } };
+    ghost told = { λ h. record { relay = h.relay.now; files = record { link = L.told h.link.now; cache = h.cache.now } } };
 
-    ghost holds = { λ h. h.relay.ghost_name ∷ h.link.ghost_name ∷ [] };
+    ghost holds = { λ h. h.relay.ghost_name ∷ h.link.ghost_name ∷ h.cache.ghost_name ∷ [] };
 
     ghost calls = { RelayCalls };
 
@@ -41,7 +43,10 @@ impl<'a, L: Link> Site2 for RelayHost<'a, L> {
             path,
         ) {
             Ok(route) => {
-                answer(self.alloc, self.relay, self.link, route, path, body).called(self.alloc)
+                let answer = answer(
+                    self.alloc, self.relay, self.link, self.cache, route, path, body,
+                );
+                answer.called(self.alloc)
             }
             Err(_) => Called::Memory,
         }
@@ -53,18 +58,19 @@ fn answer<L: Link>(
     alloc: Global,
     relay: &mut Relay,
     link: &mut L,
+    cache: &mut Option<FileCache>,
     route: Option<Route>,
     path: &[u8],
     body: &[u8],
 ) -> Answer
     requires { IsPathOf route path.now }
-    ensures { RelayAnswers (record { relay = relay.old; link = L.told link.old }) route body.now result
-        (record { relay = relay.new; link = L.told link.new }) }
+    ensures { RelayAnswers (record { relay = relay.old; files = record { link = L.told link.old; cache = cache.old } }) route body.now
+        result (record { relay = relay.new; files = record { link = L.told link.new; cache = cache.new } }) }
 {
     match route {
         Some(Route::AskSites) => tell_sites(alloc, relay),
         Some(Route::AskSite(name, version)) => tell_site(alloc, relay, &name, version),
-        Some(Route::AskFile(digest)) => ask_upstream(alloc, link, path, &digest),
+        Some(Route::AskFile(digest)) => tell_file(alloc, cache, link, path, &digest),
         Some(Route::Report) => carry_report(alloc, relay, body),
         _ => Answer::Reply(Reply::NoSuch),
     }

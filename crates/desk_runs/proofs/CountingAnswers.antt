@@ -28,7 +28,7 @@ no_refusal refusal.BadRequest h = not_400 h
 no_refusal refusal.NoSuch h = not_404 h
 no_refusal refusal.TooLong h = not_413 h
 
-fault_answered : (host host' : RelayTells) (heard : Heard) (whole : Bool) → Responds RelayCalls host heard whole 502 (codes "link fault\n") host' → Rose host.link.faults host'.link.faults
+fault_answered : (host host' : RelayTells) (heard : Heard) (whole : Bool) → Responds RelayCalls host heard whole 502 (codes "link fault\n") host' → Rose host.files.link.faults host'.files.link.faults
 fault_answered host host' (Call asking path body) whole responds = link_fault_counted host host' asking path body responds.1
 fault_answered host host' (Refused it) whole responds = absurd (no_refusal it responds.0)
 

@@ -1,7 +1,6 @@
 -- A relay that answers a link fault asked its upstream, which failed.
-use Rattle.std.proofs.Common.{◌≡◌, ℕ, Bool, true, false, List, [], ◌∷◌, None, Some, inl, inr, refl, sym, ap, ◌∙◌, subst, arith}
-use Rattle.std.specs.Prelude.{codes, bytes_eq, ◌==◌, ◌&&◌, if◌then◌else◌}
-use Rattle.sha2.specs.Sha256.{sha256}
+use Rattle.std.proofs.Common.{◌≡◌, ℕ, Bool, true, false, List, [], ◌∷◌, Option, None, Some, inl, inr, refl, sym, ap, ◌∙◌, subst, arith}
+use Rattle.std.specs.Prelude.{codes, ◌==◌, if◌then◌else◌}
 use Rattle.desk_base.specs.Counts.{Rose}
 use Rattle.desk_door.specs.Links.{LinkView}
 use Rattle.desk_door.specs.declared.link.Exchanged.TheVariants as of_exchange
@@ -17,8 +16,12 @@ use Rattle.http_replies.specs.declared.answer.Answer.{Answer}
 use Rattle.http_replies.specs.declared.answer.Answer.TheVariants as answer
 use Rattle.http_replies.specs.Statuses.{answer_body, answer_status, reply_status}
 use Rattle.relay_core.specs.ReportsUp.{up_verdict}
-use Rattle.desk_hosts.specs.HostCalls.{no_such}
-use Rattle.desk_hosts.specs.RelayCalls.{AnswersExchange, AsksUpstream, RelayAnswers, RelayCalls, RelayTells, file_answer, verdict_answer}
+use Rattle.relay_cache.specs.CachedFiles.{CacheState, cached}
+use Rattle.desk_hosts.specs.declared.file.Came.{Came}
+use Rattle.desk_hosts.specs.declared.file.Came.TheVariants as came
+use Rattle.desk_hosts.specs.HostCalls.{no_such, no_memory}
+use Rattle.desk_hosts.specs.RelayFiles.{AsksFile, FilesTell, KeepsGiven, TellsBy, TellsBytes, TellsLooked, given, given_or, no_file}
+use Rattle.desk_hosts.specs.RelayCalls.{RelayAnswers, RelayCalls, RelayTells, verdict_answer}
 
 -- ---- which answer it is
 not_200 : ◌≡◌ {A = ℕ} 502 200 → ⊥
@@ -81,14 +84,6 @@ reply_not it e = cc
 bad_not : answer.BadAnswer ≡ answer.LinkFault → ⊥
 bad_not e = cc
 
-picks : (a b : Bool) (bytes : List ℕ) → (if a then no_such else (if b then answer.Reply (reply.Content bytes) else answer.BadAnswer)) ≡ answer.LinkFault → ⊥
-picks true b bytes e = reply_not reply.NoSuch e
-picks false true bytes e = reply_not (reply.Content bytes) e
-picks false false bytes e = bad_not e
-
-file_not : (digest : List ℕ) (status : ℕ) (body : List ℕ) → file_answer digest status body ≡ answer.LinkFault → ⊥
-file_not digest status body e = picks (status == 404) (status == 200 && bytes_eq (sha256 body) digest) body e
-
 verdict_not : (it : Verdict) → verdict_answer it ≡ answer.LinkFault → ⊥
 verdict_not verdict.Stored e = cc
 verdict_not verdict.Carried e = cc
@@ -96,14 +91,52 @@ verdict_not (verdict.Conflict digest) e = cc
 verdict_not (verdict.Full limit) e = cc
 
 -- ---- an exchange
-asked_rose : (old new : LinkView) (digest : List ℕ) → AsksUpstream old digest answer.LinkFault new → Rose old.faults new.faults
-asked_rose old new digest (of_exchange.Reply bytes, asks, inl memory) = absurd (reply_not reply.Memory (sym memory))
-asked_rose old new digest (of_exchange.Reply bytes, asks, inr (inl (none, bad))) = absurd (bad_not (sym bad))
-asked_rose old new digest (of_exchange.Reply bytes, asks, inr (inr (status, body, is, it))) = absurd (file_not digest status body (sym it))
-asked_rose old new digest (of_exchange.Failed, asks, it) = asks.counts.rose refl
-asked_rose old new digest (of_exchange.Memory, asks, it) = absurd (reply_not reply.Memory (sym it))
+of_status_not : (body : List ℕ) (missing good : Bool)
+    → no_file (if missing then came.Nothing no_such else (if good then came.File body else came.Nothing answer.BadAnswer)) ≡ answer.LinkFault → ⊥
+of_status_not body true good e = reply_not reply.NoSuch e
+of_status_not body false true e = bad_not e
+of_status_not body false false e = bad_not e
 
-answered_rose : (old new : RelayTells) (route : Route) (body : List ℕ) → RelayAnswers old (Some route) body answer.LinkFault new → Rose old.link.faults new.link.faults
+no_memory_not : (gave : Came) → gave ≡ came.Nothing no_memory → no_file gave ≡ answer.LinkFault → ⊥
+no_memory_not gave same e = reply_not reply.Memory (sym (ap no_file same) ∙ e)
+
+asked_rose : (old new : LinkView) (digest : List ℕ) (gave : Came) → AsksFile old digest gave new → no_file gave ≡ answer.LinkFault → Rose old.faults new.faults
+asked_rose old new digest gave (inl (memory, same)) e = absurd (no_memory_not gave memory e)
+asked_rose old new digest gave (inr (of_exchange.Reply bytes, asks, inl memory)) e = absurd (no_memory_not gave memory e)
+asked_rose old new digest gave (inr (of_exchange.Reply bytes, asks, inr (inl (none, bad)))) e = absurd (bad_not (sym (ap no_file bad) ∙ e))
+asked_rose old new digest gave (inr (of_exchange.Reply bytes, asks, inr (inr (status, body, is, same)))) e =
+    absurd (of_status_not body (status == 404) (status == 200) (sym (ap no_file same) ∙ e))
+asked_rose old new digest gave (inr (of_exchange.Failed, asks, failed)) e = asks.counts.rose refl
+asked_rose old new digest gave (inr (of_exchange.Memory, asks, memory)) e = absurd (no_memory_not gave memory e)
+
+-- ---- a file
+-- without a cache
+passed_rose : (old new : LinkView) (digest : List ℕ) (gave : Came) (o : Option (List ℕ)) → AsksFile old digest gave new
+    → answer.LinkFault ≡ given_or (no_file gave) o → Rose old.faults new.faults
+passed_rose old new digest gave None asks is = asked_rose old new digest gave asks (sym is)
+passed_rose old new digest gave (Some bytes) asks is = absurd (reply_not (reply.Content bytes) (sym is))
+
+-- with one that doesn't keep it
+kept_rose : (old new : LinkView) (digest : List ℕ) (gave : Came) (o : Option (List ℕ)) (cache after : CacheState) → AsksFile old digest gave new
+    → KeepsGiven cache digest (no_file gave) o answer.LinkFault after → Rose old.faults new.faults
+kept_rose old new digest gave None cache after asks (is, stays) = asked_rose old new digest gave asks (sym is)
+kept_rose old new digest gave (Some bytes) cache after asks (inl (is, kept)) = absurd (reply_not (reply.Content bytes) (sym is))
+kept_rose old new digest gave (Some bytes) cache after asks (inr (is, stays)) = absurd (reply_not reply.Memory (sym is))
+
+bytes_not : (bytes : List ℕ) → TellsBytes bytes answer.LinkFault → ⊥
+bytes_not bytes (inl is) = reply_not (reply.Content bytes) (sym is)
+bytes_not bytes (inr is) = reply_not reply.Memory (sym is)
+
+looked_rose : (digest : List ℕ) (o : Option (List ℕ)) (old new : LinkView) (cache after : CacheState)
+    → TellsLooked digest o old cache answer.LinkFault new after → Rose old.faults new.faults
+looked_rose digest (Some bytes) old new cache after tells = absurd (bytes_not bytes tells.0.answers)
+looked_rose digest None old new cache after tells = kept_rose old new digest tells.gave (given digest tells.gave) cache after tells.asks tells.keeps
+
+file_rose : (digest : List ℕ) (cache : Option CacheState) (old : LinkView) (new : FilesTell) → TellsBy digest cache old answer.LinkFault new → Rose old.faults new.link.faults
+file_rose digest None old new (passes, none) = passed_rose old new.link digest passes.gave (given digest passes.gave) passes.asks passes.answers
+file_rose digest (Some cache) old new (after, tells, kept) = looked_rose digest (cached digest cache.files) old new.link cache after tells
+
+answered_rose : (old new : RelayTells) (route : Route) (body : List ℕ) → RelayAnswers old (Some route) body answer.LinkFault new → Rose old.files.link.faults new.files.link.faults
 answered_rose old new of_route.Publish body (is, same) = absurd (reply_not reply.NoSuch (sym is))
 answered_rose old new of_route.Act body (is, same) = absurd (reply_not reply.NoSuch (sym is))
 answered_rose old new (of_route.Stop id) body (is, same) = absurd (reply_not reply.NoSuch (sym is))
@@ -113,15 +146,14 @@ answered_rose old new of_route.AskSites body (inr told, same) = absurd (reply_no
 answered_rose old new (of_route.AskSite name version) body (inl memory, same) = absurd (reply_not reply.Memory (sym memory))
 answered_rose old new (of_route.AskSite name version) body (inr (inl (site, kept, above, told)), same) = absurd (reply_not _ (sym told))
 answered_rose old new (of_route.AskSite name version) body (inr (inr (newest, told)), same) = absurd (reply_not reply.Same (sym told))
-answered_rose old new (of_route.AskFile digest) body (inl (memory, same), kept) = absurd (reply_not reply.Memory (sym memory))
-answered_rose old new (of_route.AskFile digest) body (inr asks, kept) = asked_rose old.link new.link digest asks
+answered_rose old new (of_route.AskFile digest) body (tells, stays) = file_rose digest old.files.cache old.files.link new.files tells
 answered_rose old new of_route.Report body (inl (inl memory, same), kept) = absurd (reply_not reply.Memory (sym memory))
 answered_rose old new of_route.Report body (inl (inr (line, reads, told), same), kept) = absurd (reply_not (reply.BadText line) (sym told))
 answered_rose old new of_route.Report body (inr (report, reads, told, after), kept) = absurd (verdict_not (up_verdict old.relay report) (sym told))
 answered_rose old new (of_route.Results name) body (is, same) = absurd (reply_not reply.NoSuch (sym is))
 
 pub link_fault_counted : (old new : RelayTells) (asking : Asking) (path body : List ℕ) → RelayCalls old asking path body (called.Answer 502 (codes "link fault\n")) new
-    → Rose old.link.faults new.link.faults
+    → Rose old.files.link.faults new.files.link.faults
 link_fault_counted old new asking path body (inl short) = let e = short.0 in absurd (cc)
 link_fault_counted old new asking path body (inr (None, it, finds, answers, is)) = absurd (not_404 (is.1 ∙ ap answer_status answers.0))
 link_fault_counted old new asking path body (inr (Some route, it, finds, answers, is)) =

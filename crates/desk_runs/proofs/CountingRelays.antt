@@ -1,5 +1,5 @@
 -- What runs of relays do to the counts of faults.
-use Rattle.std.proofs.Common.{◌≡◌, ◌≤◌, ℕ, ◌+◌, Bool, List, None, Some, Result, Ok, Err, inl, inr, refl, ap, ◌∙◌, subst, arith}
+use Rattle.std.proofs.Common.{◌≡◌, ◌≤◌, ℕ, ◌+◌, Bool, List, Option, None, Some, Result, Ok, Err, inl, inr, refl, ap, ◌∙◌, subst, arith}
 use Rattle.desk_base.specs.Counts.{Rose}
 use Rattle.desk_base.specs.Views.{SinkView}
 use Rattle.desk_base.specs.declared.sink.Put.{Put}
@@ -8,7 +8,11 @@ use Rattle.bf_machine.specs.Rises.{RoseBy}
 use Rattle.bf_machine.proofs.Telling.{RoseBy-later, later-RoseBy}
 use Rattle.desk_door.specs.Doors.{DoorView}
 use Rattle.desk_door.specs.Links.{LinkView}
+use Rattle.desk_hosts.specs.declared.file.Came.{Came}
 use Rattle.desk_hosts.specs.RelayCalls.{RelayCalls, RelayTells}
+use Rattle.desk_hosts.specs.RelayFiles.{AsksFile, FilesTell, TellsBy, TellsLooked}
+use Rattle.http_replies.specs.declared.answer.Answer.{Answer}
+use Rattle.relay_cache.specs.CachedFiles.{CacheState, cached}
 use Rattle.route_rules.specs.declared.method.Asking.{Asking}
 use Rattle.route_rules.specs.declared.route.Route.TheVariants as of_route
 use Rattle.route_rules.specs.declared.route.Routes.TheVariants as of_routes
@@ -29,11 +33,25 @@ use Rattle.desk_runs.specs.RelayRuns.{Begun, BreaksNext, RelayRun, RelaysAll, Ru
 use Rattle.desk_runs.specs.RelaySteps.{BreaksRound, BreaksTalk, RelayScene, Talks, TellsRound, TellsTalk, host_of, upstream_of}
 use Rattle.desk_runs.proofs.CountingRounds.{relay_round_counts, unanswered}
 
--- ---- the link, in a conversation
-same_later : (old new : RelayTells) → new ≡ old → old.link.faults ≤ new.link.faults
-same_later old new same = let e = ap (λ (t : RelayTells). t.link.faults) same in omega (arith, e)
+-- ---- the link, where a file is asked for
+asks_later : (old new : LinkView) (digest : List ℕ) (gave : Came) → AsksFile old digest gave new → old.faults ≤ new.faults
+asks_later old new digest gave (inl (memory, same)) = let e = ap (λ (l : LinkView). l.faults) same in omega (arith, e)
+asks_later old new digest gave (inr (exchanged, asks, comes)) = asks.counts.later
 
-call_later : (old new : RelayTells) (asking : Asking) (path body : List ℕ) (it : Called) → RelayCalls old asking path body it new → old.link.faults ≤ new.link.faults
+looked_later : (digest : List ℕ) (o : Option (List ℕ)) (old new : LinkView) (cache after : CacheState) (it : Answer)
+    → TellsLooked digest o old cache it new after → old.faults ≤ new.faults
+looked_later digest (Some bytes) old new cache after it tells = let e = ap (λ (l : LinkView). l.faults) tells.1 in omega (arith, e)
+looked_later digest None old new cache after it tells = asks_later old new digest tells.gave tells.asks
+
+file_later : (digest : List ℕ) (cache : Option CacheState) (old : LinkView) (it : Answer) (new : FilesTell) → TellsBy digest cache old it new → old.faults ≤ new.link.faults
+file_later digest None old it new tells = asks_later old new.link digest tells.0.gave tells.0.asks
+file_later digest (Some cache) old it new (after, tells, kept) = looked_later digest (cached digest cache.files) old new.link cache after it tells
+
+-- ---- and in a conversation
+same_later : (old new : RelayTells) → new ≡ old → old.files.link.faults ≤ new.files.link.faults
+same_later old new same = let e = ap (λ (t : RelayTells). t.files.link.faults) same in omega (arith, e)
+
+call_later : (old new : RelayTells) (asking : Asking) (path body : List ℕ) (it : Called) → RelayCalls old asking path body it new → old.files.link.faults ≤ new.files.link.faults
 call_later old new asking path body it (inl short) = same_later old new short.1
 call_later old new asking path body it (inr (None, given, finds, answers, is)) = same_later old new answers.1
 call_later old new asking path body it (inr (Some of_route.Publish, given, finds, answers, is)) = same_later old new answers.1
@@ -42,21 +60,20 @@ call_later old new asking path body it (inr (Some (of_route.Stop id), given, fin
 call_later old new asking path body it (inr (Some of_route.File, given, finds, answers, is)) = same_later old new answers.1
 call_later old new asking path body it (inr (Some of_route.AskSites, given, finds, answers, is)) = same_later old new answers.1
 call_later old new asking path body it (inr (Some (of_route.AskSite name version), given, finds, answers, is)) = same_later old new answers.1
-call_later old new asking path body it (inr (Some (of_route.AskFile digest), given, finds, (inl (memory, same), kept), is)) =
-    let e = ap (λ (l : LinkView). l.faults) same in omega (arith, e)
-call_later old new asking path body it (inr (Some (of_route.AskFile digest), given, finds, (inr (exchanged, asks, answered), kept), is)) = asks.counts.later
+call_later old new asking path body it (inr (Some (of_route.AskFile digest), given, finds, (tells, stays), is)) =
+    file_later digest old.files.cache old.files.link given new.files tells
 call_later old new asking path body it (inr (Some of_route.Report, given, finds, answers, is)) =
-    let e = ap (λ (l : LinkView). l.faults) answers.1 in omega (arith, e)
+    let e = ap (λ (f : FilesTell). f.link.faults) answers.1 in omega (arith, e)
 call_later old new asking path body it (inr (Some (of_route.Results name), given, finds, answers, is)) = same_later old new answers.1
 
-answer_later : (host host' : RelayTells) (heard : Heard) (whole : Bool) (status : ℕ) (text : List ℕ) → Responds RelayCalls host heard whole status text host' → host.link.faults ≤ host'.link.faults
+answer_later : (host host' : RelayTells) (heard : Heard) (whole : Bool) (status : ℕ) (text : List ℕ) → Responds RelayCalls host heard whole status text host' → host.files.link.faults ≤ host'.files.link.faults
 answer_later host host' (Call asking path body) whole status text responds = call_later host host' asking path body (called.Answer status text) responds.1
 answer_later host host' (Refused it) whole status text responds = same_later host host' responds.2
 
 -- what a conversation leaves of the counts, none of which falls
 pub record IsLater (old new : DoorView) (host host' : RelayTells) : Type 0 where
   pub door : old.faults ≤ new.faults
-  pub link : host.link.faults ≤ host'.link.faults
+  pub link : host.files.link.faults ≤ host'.files.link.faults
 
 pub talk_later : (old new : DoorView) (host host' : RelayTells) (ended : Met) → Converses RelayCalls of_routes.Relay old host ended new host' → IsLater old new host host'
 talk_later old new host host' (met.Answered status) (text, due, writes) =

@@ -6,11 +6,13 @@ mod CountingRuns
 mod CountingRelays
 mod CountingLines
 mod CountingFiles
+mod KeepingFiles
 mod CountingAnswers
 mod ShownTurns
 mod CountingFaults
 mod OneReplies
 mod OneExchanges
+mod OneFiles
 mod OneParts
 mod OneRelays
 mod OneRelayRuns

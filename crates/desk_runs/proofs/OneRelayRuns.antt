@@ -13,6 +13,7 @@ use Rattle.desk_runs.specs.OneRelaying.{IsSteadyRelay, RelayTold, RelaysAlike, T
 use Rattle.desk_runs.specs.RelayRuns.{Begun, RelayRun, Runs, Then, talk_count}
 use Rattle.desk_runs.specs.RelaySteps.{RelayScene, Talks, TellsRound, TellsTalk, host_of, upstream_of}
 use Rattle.desk_runs.proofs.CountingRelays.{NoneFalls, runs_whole, talk_falls, talk_later, told_falls}
+use Rattle.desk_runs.proofs.OneFiles.{FilesTold}
 use Rattle.desk_runs.proofs.OneRelays.{RelayLaws, TalksAlike, round_once, talked_once}
 
 -- ---- an upstream round
@@ -21,7 +22,11 @@ record SameRounds (lines lines' : List Line) (new new' : RelayScene) : Type 0 wh
   alike : RelaysAlike new new'
 
 abbrev told_with : RelayTold → LinkTold → RelayState → RelayTold
-told_with told link relay = record { coming = told.coming; written = told.written; link = link; relay = relay }
+told_with told link relay = record { coming = told.coming; written = told.written; link = link; relay = relay; cache = told.cache }
+
+-- what the link tells, and the files that are kept
+abbrev files_told : RelayTold → FilesTold
+files_told told = record { link = told.link; cache = told.cache }
 
 door_stays : (told : RelayTold) (old new : RelayScene) → new.door ≡ old.door → TellsRelay told old → TellsDoor told.coming told.written new.door
 door_stays told old new same tells = let P : DoorView → Type 0 = λ d. TellsDoor told.coming told.written d in subst P (sym same) tells.door
@@ -36,8 +41,8 @@ round_told laws told old old' new new' lines lines' tells tells' steady steady' 
       same = once.lines_are;
       alike = (
         told_with told once.told once.k,
-        record { door = door_stays told old new round.door tells; link = once.one.link; relay = once.one.client; kept = once.one.good },
-        record { door = door_stays told old' new' round'.door tells'; link = once.other.link; relay = once.other.client; kept = once.other.good },
+        record { door = door_stays told old new round.door tells; link = once.one.link; relay = once.one.client; cache = round.cache ∙ tells.cache; kept = once.one.good },
+        record { door = door_stays told old' new' round'.door tells'; link = once.other.link; relay = once.other.client; cache = round'.cache ∙ tells'.cache; kept = once.other.good },
       );
     }
 
@@ -61,7 +66,7 @@ begun_steady old new ended talks steady =
 
 -- what this conversation begins with
 begins_so : (told : RelayTold) (said : List ℕ) (more : List (List ℕ)) (old new : RelayScene) (ended : Met) (talks : Talks old ended new) → told.coming ≡ said ∷ more → TellsRelay told old → IsSteadyRelay old new → ended ≢ met.Memory
-    → TalksAlike said told.written told.relay told.link talks.begun new.door (host_of old) (host_of new) ended
+    → TalksAlike said told.written told.relay (files_told told) talks.begun new.door (host_of old) (host_of new) ended
 begins_so told said more old new ended talks is tells steady whole =
     let next = next_comes old.door.coming said more talks.begun.coming talks.begun.left (tells.door.comes ∙ ap (λ (l : List (List ℕ)). Some l) is) talks.begins.begins.0 in
     let begun = begun_steady old new ended talks steady.door in
@@ -71,7 +76,7 @@ begins_so told said more old new ended talks is tells steady whole =
       says = next.1;
       holds = begun_holds old.door.written talks.begun.written told.written tells.door.holds talks.begins.begins.1;
       only = talks.only;
-      stands = record { relay = tells.relay; good = tells.kept; link = tells.link };
+      stands = record { relay = tells.relay; good = tells.kept; files = record { link = tells.link; cache = tells.cache } };
       steady = steady.link;
       rises = omega (arith, rises, first);
       opened = begun.1;
@@ -99,19 +104,21 @@ talk_told : RelayLaws → (coming : List (List ℕ)) (told : RelayTold) (old old
 talk_told laws [] told old old' new new' ended ended' is tells tells' steady steady' talk talk' =
     absurd (nobody old.door.coming talk.talks.begun.coming talk.talks.begun.left (tells.door.comes ∙ ap (λ (l : List (List ℕ)). Some l) is) talk.talks.begins.begins.0)
 talk_told laws (said ∷ more) told old old' new new' ended ended' is tells tells' steady steady' talk talk' =
-    let once = talked_once laws said told.written told.relay told.link talk.talks.begun talk'.talks.begun new.door new'.door (host_of old) (host_of old') (host_of new) (host_of new') ended ended'
+    let once = talked_once laws said told.written told.relay (files_told told) talk.talks.begun talk'.talks.begun new.door new'.door (host_of old) (host_of old') (host_of new) (host_of new') ended ended'
     (begins_so told said more old new ended talk.talks is tells steady talk.whole) (begins_so told said more old' new' ended' talk'.talks is tells' steady' talk'.whole) in
-    let after : RelayTold = record { coming = more; written = once.written.0; link = once.hosts.told; relay = once.hosts.k } in
+    let after : RelayTold = record { coming = more; written = once.written.0; link = once.hosts.told.link; relay = once.hosts.k; cache = once.hosts.told.cache } in
     let one : TellsRelay after new = record {
       door = record { comes = still_comes told said more old new ended talk.talks is tells; holds = once.written.1; rises = door_rises told old new tells steady };
-      link = once.hosts.first.link;
+      link = once.hosts.first.files.link;
       relay = once.hosts.first.relay;
+      cache = once.hosts.first.files.cache;
       kept = once.hosts.first.good;
     } in
     let other : TellsRelay after new' = record {
       door = record { comes = still_comes told said more old' new' ended' talk'.talks is tells'; holds = once.written.2; rises = door_rises told old' new' tells' steady' };
-      link = once.hosts.second.link;
+      link = once.hosts.second.files.link;
       relay = once.hosts.second.relay;
+      cache = once.hosts.second.files.cache;
       kept = once.hosts.second.good;
     } in
     record { same = once.same; alike = (after, one, other) }

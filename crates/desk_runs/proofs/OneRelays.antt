@@ -1,14 +1,11 @@
 -- What a relay does is one thing, where its devices tell one thing and don't fail, and memory suffices.
-use Rattle.std.proofs.Common.{◌≡◌, ◌≢◌, ◌≤◌, ◌<◌, ◌-◌, ◌^◌, ℕ, ◌+◌, List, [], ◌∷◌, ◌++◌, length, Bool, true, false, None, Some, Result, Ok, Err, inl, inr, refl, sym, ap, ap₂, ◌∙◌, subst, arith, length-append}
+use Rattle.std.proofs.Common.{◌≡◌, ◌≢◌, ◌≤◌, ◌<◌, ◌-◌, ◌^◌, ℕ, ◌+◌, List, [], ◌∷◌, ◌++◌, length, Bool, true, false, None, Some, Result, Ok, Err, inl, inr, refl, sym, ap, ◌∙◌, subst, arith, length-append}
 use Rattle.std.specs.Prelude.{if◌then◌else◌}
 use Rattle.std.specs.Cmp.Lexicographic.{nat_list_cmp_total}
 use Rattle.std.proofs.lemmas.Map.Lookups.{exact_bytes}
 use Rattle.std.specs.declared.option.Option.{Option}
 use Rattle.std.specs.Io.KnownBytes.{Appends, IsAtEnd}
 use Rattle.desk_door.specs.Doors.{DoorView, earlier, here}
-use Rattle.desk_door.specs.Links.{AsksOnce, LinkView}
-use Rattle.desk_door.specs.declared.link.Exchanged.{Exchanged}
-use Rattle.desk_door.specs.declared.link.Exchanged.TheVariants as of_exchange
 use Rattle.fix_site.specs.Sites.{IsSite, site_text}
 use Rattle.fix_site.specs.declared.site.Site.{Site}
 use Rattle.report_text.specs.declared.report.Report.{Report}
@@ -20,13 +17,11 @@ use Rattle.report_text.specs.declared.answer.Gathered.{Gathered}
 use Rattle.report_text.specs.declared.answer.Gathered.TheVariants as gathered
 use Rattle.line_forms.proofs.Sorted.{one_of_key}
 use Rattle.route_rules.specs.declared.method.Asking.{Asking}
-use Rattle.route_rules.specs.declared.method.Asking.TheVariants.{Get}
 use Rattle.route_rules.specs.declared.route.Route.{Route}
 use Rattle.route_rules.specs.declared.route.Route.TheVariants as of_route
 use Rattle.route_rules.specs.declared.route.Routes.{Routes}
 use Rattle.route_rules.specs.declared.route.Routes.TheVariants as of_routes
-use Rattle.route_rules.specs.Routes.{FindsRoute, file_path, method_word}
-use Rattle.desk_http.specs.Asked.{ask_text}
+use Rattle.route_rules.specs.Routes.{FindsRoute, method_word}
 use Rattle.desk_http.specs.declared.host.Called.TheVariants as called
 use Rattle.desk_http.specs.declared.talk.Met.{Met}
 use Rattle.desk_http.specs.declared.talk.Met.TheVariants as met
@@ -42,14 +37,15 @@ use Rattle.http_replies.specs.declared.answer.Answer.{Answer}
 use Rattle.http_replies.specs.declared.answer.Answer.TheVariants as answer
 use Rattle.http_replies.specs.Statuses.{answer_body, answer_status}
 use Rattle.desk_hosts.specs.HostCalls.{no_memory, no_such}
-use Rattle.desk_hosts.specs.RelayCalls.{AnswersExchange, AsksFile, CarriesReport, PassesOn, RelayAnswers, RelayCalls, RelayTells, TellsSite, TellsSites, file_answer, verdict_answer}
+use Rattle.desk_hosts.specs.RelayCalls.{CarriesReport, RelayAnswers, RelayCalls, RelayTells, TellsSite, TellsSites, verdict_answer}
+use Rattle.desk_hosts.specs.RelayFiles.{FilesTell}
 use Rattle.desk_rounds.specs.Clients.{held_of, relay_client, relay_told}
 use Rattle.desk_rounds.specs.Gathering.{GathersAll}
 use Rattle.desk_rounds.specs.Posting.{PostsAll}
 use Rattle.desk_rounds.specs.RelayRounds.{RelayRound}
-use Rattle.desk_runs.specs.OneExchanges.{LinkTold, TellAlike, TellsLink}
 use Rattle.desk_runs.proofs.CountingRounds.{gathering_counts, posting_counts}
-use Rattle.desk_runs.proofs.OneExchanges.{OneReply, none_failed, not_risen, reply_once}
+use Rattle.desk_runs.proofs.OneExchanges.{not_risen}
+use Rattle.desk_runs.proofs.OneFiles.{FilesStand, FilesTold, file_once}
 use Rattle.desk_runs.proofs.OneParts.{IsOne, OneClient, RoundLaws, both_once, gathering_once, posting_once}
 
 -- the laws that this stands on
@@ -106,23 +102,23 @@ round_once laws =
     both_once Good (GathersAll relay_client) (PostsAll relay_client) (gathering_once laws.round relay_client Good client) (posting_once laws.round relay_client Good client) (gathering_counts relay_client) (posting_counts relay_client)
 
 -- ---- one answer to a call
--- the host keeps this relay, and its link tells this
-pub record HostStands (k : RelayState) (told : LinkTold) (host : RelayTells) : Type 0 where
+-- the host keeps this relay and these files, and its link tells this
+pub record HostStands (k : RelayState) (told : FilesTold) (host : RelayTells) : Type 0 where
   pub relay : host.relay ≡ k
   pub good : Good k
-  pub link : TellsLink told host.link
+  pub files : FilesStand told host.files
 
 -- both keep one thing, and their links tell one thing
 pub record SameHosts (one other : RelayTells) : Type 0 where
   pub k : RelayState
-  pub told : LinkTold
+  pub told : FilesTold
   pub first : HostStands k told one
   pub second : HostStands k told other
 
-stays_so : (k : RelayState) (told : LinkTold) (old new : RelayTells) → new ≡ old → HostStands k told old → HostStands k told new
+stays_so : (k : RelayState) (told : FilesTold) (old new : RelayTells) → new ≡ old → HostStands k told old → HostStands k told new
 stays_so k told old new same stands = let P : RelayTells → Type 0 = λ t. HostStands k told t in subst P (sym same) stands
 
-stay_so : (k : RelayState) (told : LinkTold) (old old' new new' : RelayTells) → new ≡ old → new' ≡ old' → HostStands k told old → HostStands k told old' → SameHosts new new'
+stay_so : (k : RelayState) (told : FilesTold) (old old' new new' : RelayTells) → new ≡ old → new' ≡ old' → HostStands k told old → HostStands k told old' → SameHosts new new'
 stay_so k told old old' new new' same same' stands stands' =
     record { k = k; told = told; first = stays_so k told old new same stands; second = stays_so k told old' new' same' stands' }
 
@@ -151,44 +147,6 @@ site_once sites name version it it' are ample ample' (inr (inl (site, kept, abov
 site_once sites name version it it' are ample ample' (inr (inl (site, kept, above, is))) (inr (inr (newest, is'))) = absurd (not_newest version site.version above (newest site kept))
 site_once sites name version it it' are ample ample' (inr (inr (newest, is))) (inr (inl (site', kept', above', is'))) = absurd (not_newest version site'.version above' (newest site' kept'))
 site_once sites name version it it' are ample ample' (inr (inr (newest, is))) (inr (inr (newest', is'))) = is ∙ sym is'
-
-passed_once : OneReply → (digest bytes : List ℕ) (it it' : Answer) → PassesOn digest bytes it → PassesOn digest bytes it' → it ≡ it'
-passed_once law digest bytes it it' (inl (none, is)) (inl (none', is')) = is ∙ sym is'
-passed_once law digest bytes it it' (inl (none, is)) (inr (status, body, reply, is')) = absurd (none status body reply)
-passed_once law digest bytes it it' (inr (status, body, reply, is)) (inl (none', is')) = absurd (none' status body reply)
-passed_once law digest bytes it it' (inr (status, body, reply, is)) (inr (code, rest, reply', is')) =
-    let same = law bytes status code body rest reply reply' in
-    is ∙ ap₂ (λ s b. file_answer digest s b) same.0 same.1 ∙ sym is'
-
-abbrev file_request : List ℕ → List ℕ
-file_request digest = ask_text Get (file_path digest) []
-
-record SameFile (it it' : Answer) (new new' : LinkView) : Type 0 where
-  same : it ≡ it'
-  alike : TellAlike new new'
-
-exchanged_once : OneReply → (digest : List ℕ) (told : LinkTold) (old old' new new' : LinkView) (it it' : Answer) (came came' : Exchanged) → TellsLink told old → TellsLink told old' → it ≢ no_memory → it' ≢ no_memory
-    → new.faults ≡ old.faults → new'.faults ≡ old'.faults → AsksOnce (file_request digest) old came new → AnswersExchange digest came it
-    → AsksOnce (file_request digest) old' came' new' → AnswersExchange digest came' it' → SameFile it it' new new'
-exchanged_once law digest told old old' new new' it it' of_exchange.Memory came' tells tells' ample ample' steady steady' asks is asks' is' = absurd (ample is)
-exchanged_once law digest told old old' new new' it it' of_exchange.Failed came' tells tells' ample ample' steady steady' asks is asks' is' =
-    absurd (none_failed (file_request digest) told old new tells steady asks)
-exchanged_once law digest told old old' new new' it it' (of_exchange.Reply bytes) of_exchange.Memory tells tells' ample ample' steady steady' asks is asks' is' = absurd (ample' is')
-exchanged_once law digest told old old' new new' it it' (of_exchange.Reply bytes) of_exchange.Failed tells tells' ample ample' steady steady' asks is asks' is' =
-    absurd (none_failed (file_request digest) told old' new' tells' steady' asks')
-exchanged_once law digest told old old' new new' it it' (of_exchange.Reply bytes) (of_exchange.Reply bytes') tells tells' ample ample' steady steady' asks (inl memory) asks' is' = absurd (ample memory)
-exchanged_once law digest told old old' new new' it it' (of_exchange.Reply bytes) (of_exchange.Reply bytes') tells tells' ample ample' steady steady' asks (inr passes) asks' (inl memory) = absurd (ample' memory)
-exchanged_once law digest told old old' new new' it it' (of_exchange.Reply bytes) (of_exchange.Reply bytes') tells tells' ample ample' steady steady' asks (inr passes) asks' (inr passes') =
-    let once = reply_once (file_request digest) bytes bytes' told old old' new new' tells tells' steady steady' asks asks' in
-    let P : List ℕ → Type 0 = λ b. PassesOn digest b it in
-    record { same = passed_once law digest bytes' it it' (subst P once.same passes) passes'; alike = once.alike }
-
-file_once : OneReply → (digest : List ℕ) (told : LinkTold) (old old' new new' : LinkView) (it it' : Answer) → TellsLink told old → TellsLink told old' → it ≢ no_memory → it' ≢ no_memory
-    → new.faults ≡ old.faults → new'.faults ≡ old'.faults → AsksFile old digest it new → AsksFile old' digest it' new' → SameFile it it' new new'
-file_once law digest told old old' new new' it it' tells tells' ample ample' steady steady' (inl (memory, same)) again = absurd (ample memory)
-file_once law digest told old old' new new' it it' tells tells' ample ample' steady steady' (inr asks) (inl (memory, same)) = absurd (ample' memory)
-file_once law digest told old old' new new' it it' tells tells' ample ample' steady steady' (inr (came, asks, is)) (inr (came', asks', is')) =
-    exchanged_once law digest told old old' new new' it it' came came' tells tells' ample ample' steady steady' asks is asks' is'
 
 -- ---- a report
 reads_once : RelayLaws → (text : List ℕ) (one other : Result Report ℕ) → ReadsReported text one → ReadsReported text other → asked_of Reported one ≡ asked_of Reported other
@@ -229,12 +187,12 @@ carried_once laws k text it it' new new' good ample ample' (inr (report, reads, 
     }
 
 -- ---- by the route
-none_such : (k : RelayState) (told : LinkTold) (old old' new new' : RelayTells) (it it' : Answer) → HostStands k told old → HostStands k told old' → (it ≡ no_such) × (new ≡ old) → (it' ≡ no_such) × (new' ≡ old')
+none_such : (k : RelayState) (told : FilesTold) (old old' new new' : RelayTells) (it it' : Answer) → HostStands k told old → HostStands k told old' → (it ≡ no_such) × (new ≡ old) → (it' ≡ no_such) × (new' ≡ old')
     → SameAnswers it it' new new'
 none_such k told old old' new new' it it' stands stands' (is, same) (is', same') = record { same = is ∙ sym is'; hosts = stay_so k told old old' new new' same same' stands stands' }
 
-answered_once : RelayLaws → (k : RelayState) (told : LinkTold) (old old' new new' : RelayTells) (route : Option Route) (body : List ℕ) (it it' : Answer) → HostStands k told old → HostStands k told old' → it ≢ no_memory → it' ≢ no_memory
-    → new.link.faults ≡ old.link.faults → new'.link.faults ≡ old'.link.faults → RelayAnswers old route body it new → RelayAnswers old' route body it' new' → SameAnswers it it' new new'
+answered_once : RelayLaws → (k : RelayState) (told : FilesTold) (old old' new new' : RelayTells) (route : Option Route) (body : List ℕ) (it it' : Answer) → HostStands k told old → HostStands k told old' → it ≢ no_memory → it' ≢ no_memory
+    → new.files.link.faults ≡ old.files.link.faults → new'.files.link.faults ≡ old'.files.link.faults → RelayAnswers old route body it new → RelayAnswers old' route body it' new' → SameAnswers it it' new new'
 answered_once laws k told old old' new new' None body it it' stands stands' ample ample' steady steady' did did' = none_such k told old old' new new' it it' stands stands' did did'
 answered_once laws k told old old' new new' (Some of_route.Publish) body it it' stands stands' ample ample' steady steady' did did' = none_such k told old old' new new' it it' stands stands' did did'
 answered_once laws k told old old' new new' (Some of_route.Act) body it it' stands stands' ample ample' steady steady' did did' = none_such k told old old' new new' it it' stands stands' did did'
@@ -252,29 +210,29 @@ answered_once laws k told old old' new new' (Some (of_route.AskSite name version
       same = site_once k.sites name version it it' stands.good ample ample' (subst P stands.relay tells) (subst Q stands'.relay tells');
       hosts = stay_so k told old old' new new' same same' stands stands';
     }
-answered_once laws k told old old' new new' (Some (of_route.AskFile digest)) body it it' stands stands' ample ample' steady steady' (asks, kept) (asks', kept') =
-    let once = file_once laws.round.reply digest told old.link old'.link new.link new'.link it it' stands.link stands'.link ample ample' steady steady' asks asks' in
+answered_once laws k told old old' new new' (Some (of_route.AskFile digest)) body it it' stands stands' ample ample' steady steady' (tells, kept) (tells', kept') =
+    let once = file_once laws.round.reply digest told old.files old'.files new.files new'.files it it' stands.files stands'.files ample ample' steady steady' tells tells' in
     record {
       same = once.same;
       hosts = record {
         k = k;
-        told = once.alike.0;
-        first = record { relay = kept ∙ stands.relay; good = stands.good; link = once.alike.1 };
-        second = record { relay = kept' ∙ stands'.relay; good = stands'.good; link = once.alike.2 };
+        told = once.told;
+        first = record { relay = kept ∙ stands.relay; good = stands.good; files = once.first };
+        second = record { relay = kept' ∙ stands'.relay; good = stands'.good; files = once.second };
       };
     }
 answered_once laws k told old old' new new' (Some of_route.Report) body it it' stands stands' ample ample' steady steady' (carries, same) (carries', same') =
     let P : RelayState → Type 0 = λ r. CarriesReport r body it new.relay in
     let Q : RelayState → Type 0 = λ r. CarriesReport r body it' new'.relay in
     let once = carried_once laws k body it it' new.relay new'.relay stands.good ample ample' (subst P stands.relay carries) (subst Q stands'.relay carries') in
-    let T : LinkView → Type 0 = λ l. TellsLink told l in
+    let T : FilesTell → Type 0 = λ f. FilesStand told f in
     record {
       same = once.same;
       hosts = record {
         k = new.relay;
         told = told;
-        first = record { relay = refl; good = once.good; link = subst T (sym same) stands.link };
-        second = record { relay = sym once.relay; good = once.good; link = subst T (sym same') stands'.link };
+        first = record { relay = refl; good = once.good; files = subst T (sym same) stands.files };
+        second = record { relay = sym once.relay; good = once.good; files = subst T (sym same') stands'.files };
       };
     }
 
@@ -284,8 +242,8 @@ record SameResponse (status status' : ℕ) (text text' : List ℕ) (new new' : R
   text_is : text ≡ text'
   hosts : SameHosts new new'
 
-called_once : RelayLaws → (k : RelayState) (told : LinkTold) (old old' new new' : RelayTells) (asking : Asking) (path body : List ℕ) (status status' : ℕ) (text text' : List ℕ) → HostStands k told old → HostStands k told old'
-    → new.link.faults ≡ old.link.faults → new'.link.faults ≡ old'.link.faults → RelayCalls old asking path body (called.Answer status text) new → RelayCalls old' asking path body (called.Answer status' text') new'
+called_once : RelayLaws → (k : RelayState) (told : FilesTold) (old old' new new' : RelayTells) (asking : Asking) (path body : List ℕ) (status status' : ℕ) (text text' : List ℕ) → HostStands k told old → HostStands k told old'
+    → new.files.link.faults ≡ old.files.link.faults → new'.files.link.faults ≡ old'.files.link.faults → RelayCalls old asking path body (called.Answer status text) new → RelayCalls old' asking path body (called.Answer status' text') new'
     → SameResponse status status' text text' new new'
 called_once laws k told old old' new new' asking path body status status' text text' stands stands' steady steady' (inl short) again = let e = short.0 in absurd (cc)
 called_once laws k told old old' new new' asking path body status status' text text' stands stands' steady steady' (inr first) (inl short) = let e = short.0 in absurd (cc)
@@ -295,8 +253,8 @@ called_once laws k told old old' new new' asking path body status status' text t
     let once = answered_once laws k told old old' new new' route body it it' stands stands' is.0 is'.0 steady steady' answers (subst P same answers') in
     record { status_is = is.1 ∙ ap answer_status once.same ∙ sym is'.1; text_is = is.2 ∙ ap answer_body once.same ∙ sym is'.2; hosts = once.hosts }
 
-responded_once : RelayLaws → (k : RelayState) (told : LinkTold) (old old' new new' : RelayTells) (heard : Heard) (whole whole' : Bool) (status status' : ℕ) (text text' : List ℕ) → HostStands k told old → HostStands k told old'
-    → new.link.faults ≡ old.link.faults → new'.link.faults ≡ old'.link.faults → Responds RelayCalls old heard whole status text new → Responds RelayCalls old' heard whole' status' text' new'
+responded_once : RelayLaws → (k : RelayState) (told : FilesTold) (old old' new new' : RelayTells) (heard : Heard) (whole whole' : Bool) (status status' : ℕ) (text text' : List ℕ) → HostStands k told old → HostStands k told old'
+    → new.files.link.faults ≡ old.files.link.faults → new'.files.link.faults ≡ old'.files.link.faults → Responds RelayCalls old heard whole status text new → Responds RelayCalls old' heard whole' status' text' new'
     → SameResponse status status' text text' new new'
 responded_once laws k told old old' new new' (Call asking path body) whole whole' status status' text text' stands stands' steady steady' responds again =
     called_once laws k told old old' new new' asking path body status status' text text' stands stands' steady steady' responds.1 again.1
@@ -341,12 +299,12 @@ abbrev pub SameWritten : DoorView → DoorView → Type 0
 SameWritten one other = (written : List (List ℕ)) × (one.written ≡ Some written) × (other.written ≡ Some written)
 
 -- what two conversations begin with and leave
-pub record TalksAlike (said : List ℕ) (before : List (List ℕ)) (k : RelayState) (told : LinkTold) (door new_door : DoorView) (host new : RelayTells) (ended : Met) : Type 0 where
+pub record TalksAlike (said : List ℕ) (before : List (List ℕ)) (k : RelayState) (told : FilesTold) (door new_door : DoorView) (host new : RelayTells) (ended : Met) : Type 0 where
   pub says : door.left ≡ Some said
   pub holds : door.written ≡ Some ([] ∷ before)
   pub only : OnlyTalks door new_door
   pub stands : HostStands k told host
-  pub steady : new.link.faults ≡ host.link.faults
+  pub steady : new.files.link.faults ≡ host.files.link.faults
   pub rises : door.faults < 2 ^ 64 - 1
   pub opened : new_door.faults ≡ door.faults
   pub whole : ended ≢ met.Memory
@@ -361,7 +319,7 @@ no_door : (old new : DoorView) (host host' : RelayTells) → old.faults < 2 ^ 64
 no_door old new host host' rises steady (inl (breaks, same)) = not_risen old.faults new.faults rises steady breaks.rose
 no_door old new host host' rises steady (inr (status, was)) = not_risen old.faults new.faults rises steady (was.2.counts.rose refl)
 
-pub talked_once : RelayLaws → (said : List ℕ) (before : List (List ℕ)) (k : RelayState) (told : LinkTold) (door door' new_door new_door' : DoorView) (host host' new new' : RelayTells) (ended ended' : Met)
+pub talked_once : RelayLaws → (said : List ℕ) (before : List (List ℕ)) (k : RelayState) (told : FilesTold) (door door' new_door new_door' : DoorView) (host host' new new' : RelayTells) (ended ended' : Met)
     → TalksAlike said before k told door new_door host new ended → TalksAlike said before k told door' new_door' host' new' ended' → SameTalk ended ended' new new' new_door new_door'
 talked_once laws said before k told door door' new_door new_door' host host' new new' met.DoorFault ended' a b = absurd (no_door door new_door host new a.rises a.opened a.talks)
 talked_once laws said before k told door door' new_door new_door' host host' new new' met.Memory ended' a b = absurd (a.whole refl)

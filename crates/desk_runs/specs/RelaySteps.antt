@@ -1,11 +1,13 @@
 -- The steps of a relay: upstream rounds and conversations, each with its lines, and the broken one that ends a run.
 use Rattle.std.specs.Prelude.{◌≡◌, ◌≢◌, List}
+use Rattle.std.specs.declared.option.Option.{Option}
 use Rattle.desk_base.specs.Flow.{Writes}
 use Rattle.desk_base.specs.Views.{SinkView}
 use Rattle.desk_base.specs.declared.sink.Put.{Put}
 use Rattle.desk_base.specs.declared.sink.Put.TheVariants as put
 use Rattle.desk_door.specs.Doors.{DoorView, BeginsNext}
 use Rattle.desk_door.specs.Links.{LinkView}
+use Rattle.relay_cache.specs.CachedFiles.{CacheState}
 use Rattle.relay_core.specs.Relays.{RelayState}
 use Rattle.route_rules.specs.declared.route.Routes.TheVariants as routes
 use Rattle.desk_http.specs.declared.talk.Met.{Met}
@@ -21,15 +23,16 @@ use Rattle.desk_rounds.specs.Clients.{At, at}
 use Rattle.desk_rounds.specs.Lines.{Line, lines_text}
 use Rattle.desk_rounds.specs.RelayRounds.{RelayRound}
 
--- what the door, the link and the sink tell, and what the relay keeps
+-- what the door, the link and the sink tell, and what the relay keeps, with the files of its cache, if it has one
 pub record RelayScene : Type 0 where
   pub door : DoorView
   pub relay : RelayState
   pub link : LinkView
+  pub cache : Option CacheState
   pub sink : SinkView
 
-abbrev pub relay_scene : DoorView → RelayState → LinkView → SinkView → RelayScene
-relay_scene door relay link sink = record { door = door; relay = relay; link = link; sink = sink }
+abbrev pub relay_scene : DoorView → RelayState → LinkView → Option CacheState → SinkView → RelayScene
+relay_scene door relay link cache sink = record { door = door; relay = relay; link = link; cache = cache; sink = sink }
 
 -- what a round of it goes on
 abbrev pub upstream_of : RelayScene → At RelayState
@@ -37,7 +40,7 @@ upstream_of scene = at scene.relay scene.link
 
 -- what its host tells
 abbrev pub host_of : RelayScene → RelayTells
-host_of scene = record { relay = scene.relay; link = scene.link }
+host_of scene = record { relay = scene.relay; files = record { link = scene.link; cache = scene.cache } }
 
 -- ---- upstream rounds
 -- A whole round was made, and the sink answered so when its lines were to be written.
@@ -47,6 +50,7 @@ pub record TellsRound (old : RelayScene) (answer : Put) (lines : List Line) (new
   pub round : RelayRound (upstream_of old) then lines (upstream_of new)
   pub writes : Writes (lines_text lines) old.sink answer new.sink
   pub door : new.door ≡ old.door
+  pub cache : new.cache ≡ old.cache
 
 -- A round for which there was no memory broke off. Nothing of it was written.
 pub record LeavesRound (old new : RelayScene) : Type 0 where
@@ -54,6 +58,7 @@ pub record LeavesRound (old new : RelayScene) : Type 0 where
   pub round : RelayRound (upstream_of old) next.Memory lines (upstream_of new)
   pub sink : new.sink ≡ old.sink
   pub door : new.door ≡ old.door
+  pub cache : new.cache ≡ old.cache
 
 -- A broken round: there was no memory for it, or the sink failed.
 abbrev pub BreaksRound : RelayScene → Stop → RelayScene → Type 0
@@ -80,6 +85,7 @@ pub record HasNoTalk (old new : RelayScene) : Type 0 where
   pub begins : BeginsNext old.door put.Failed new.door
   pub relay : new.relay ≡ old.relay
   pub link : new.link ≡ old.link
+  pub cache : new.cache ≡ old.cache
   pub sink : new.sink ≡ old.sink
 
 -- Memory ran out in a conversation, of which nothing was printed.

@@ -1,10 +1,12 @@
 // What holds of every run of a relay and of an agent.
-ghost use Rattle.std.specs.Prelude.{◌≡◌, ℕ, ◌+◌, IsSome, List, codes};
+ghost use Rattle.std.specs.Prelude.{◌≡◌, ℕ, ◌+◌, IsSome, List, [], All, codes};
 ghost use Rattle.desk_base.specs.Counts.{Rose};
 ghost use Rattle.bf_machine.specs.Rises.{RoseBy};
 ghost use Rattle.route_rules.specs.declared.method.Asking.{Asking};
 ghost use Rattle.desk_http.specs.declared.host.Called.TheVariants.{Answer};
+ghost use Rattle.desk_hosts.specs.declared.file.Came.{Came};
 ghost use Rattle.desk_hosts.specs.RelayCalls.{RelayCalls, RelayTells};
+ghost use Rattle.desk_hosts.specs.RelayFiles.{passed_on};
 ghost use Rattle.std.specs.declared.result.Result.{Result};
 ghost use Rattle.desk_rounds.specs.declared.agent_rounds.Rounder.{Rounder};
 ghost use Rattle.desk_serve.specs.declared.step.Stop.{Stop};
@@ -16,6 +18,7 @@ ghost use Rattle.desk_runs.specs.AgentSteps.{AgentScene};
 ghost use Rattle.desk_runs.specs.Counting.{CountsLines, CountsRelayed, CountsRounds, CountsSteps};
 ghost use Rattle.desk_runs.specs.Counting.{ToldLinkFaults, WasOpened, door_faults, no_answer_told, told_of_relay};
 ghost use Rattle.desk_runs.specs.Counting.{told_of_rounds, turn_fault_told};
+ghost use Rattle.desk_runs.specs.KeptFiles.{AsksForFile, FileCall, IsSteady, KeepsFiles, cache_after};
 ghost use Rattle.desk_runs.specs.OneRelaying.{IsSteadyRelay, RelayTold, RelaysAlike, TellsRelay};
 ghost use Rattle.desk_runs.specs.OneRounding.{AgentTold, AgentsAlike, IsSteadyAgent, TellsAgent};
 ghost use Rattle.desk_runs.specs.RelayRuns as relay;
@@ -25,6 +28,7 @@ ghost use Rattle.desk_runs.specs.RelaySteps.{BreaksTalk, RelayScene};
 use agent_core::{devices_go_on_telling, one_change, one_turn, told_faults_are_counted};
 use desk_http::{a_reply_is_one_thing, what_is_heard_is_one_thing};
 use fix_site::one_site;
+use relay_cache::a_steady_upstream_gives_it_again;
 use relay_core::one_keeping;
 use route_rules::one_route;
 use server_text::one_meaning;
@@ -63,8 +67,24 @@ pub fn faults_of_steps_were_counted()
 /// A relay answers a fault of the link only where the upstream was asked and the link counted one.
 pub fn a_link_fault_was_counted()
     ensures { (old new : RelayTells) (asking : Asking) (path body : List ℕ)
-        → RelayCalls old asking path body (Answer 502 (codes "link fault\n")) new → Rose old.link.faults new.link.faults }
+        → RelayCalls old asking path body (Answer 502 (codes "link fault\n")) new → Rose old.files.link.faults new.files.link.faults }
 {}
+
+/// A relay with a cache keeps what is kept after the requests for files of its whole steps. For each of them it asks its upstream exactly
+/// where the file isn't kept after the earlier ones, and answers as a relay without a cache does; else it answers the kept bytes.
+pub fn a_relay_keeps_what_was_asked_for()
+    ensures { (room : ℕ) (old new : RelayScene) (run : RelayRun) → old.cache ≡ cache_after room [] → relay.Runs old run new
+        → (calls : List FileCall) × KeepsFiles room old run calls new }
+{}
+
+/// Where the upstream gives each file always the same, each answer is that of a relay without a cache.
+pub fn answers_are_those_without_a_cache()
+    ensures { (upstream : List ℕ → Came) (room : ℕ) (earlier calls : List FileCall) (old new : RelayScene)
+        (asks : AsksForFile room earlier old calls new) → All (IsSteady upstream) calls
+        → asks.it ≡ passed_on asks.digest (upstream asks.digest) }
+{
+    a_steady_upstream_gives_it_again();
+}
 
 /// What a relay does is one thing: where doors and links tell one thing and none fails, runs of as many conversations end these the same
 /// ways, print the same lines, write the same to each peer, ask the upstream the same, and leave the same.

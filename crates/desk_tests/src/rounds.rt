@@ -10,6 +10,13 @@ use std::mem::drop;
 /// What a peer says that asks for the list of sites.
 const SITES: &str = "GET /sites HTTP/1.1\r\nHost: desk\r\n\r\n";
 
+/// What a peer says that asks for the file `abc`.
+const ABC: &str =
+    "GET /files/ba7816bf8f01cfea414140de5dae2223b00361a396177a9cb410ff61f20015ad HTTP/1.1\r\nHost: desk\r\n\r\n";
+
+/// What an upstream replies that has it.
+const HAS_ABC: &str = "HTTP/1.1 200 OK\r\nContent-Length: 3\r\n\r\nabc";
+
 /// What an upstream replies that has no sites.
 const NONE: &str = "HTTP/1.1 200 OK\r\nContent-Length: 0\r\n\r\n";
 
@@ -42,7 +49,7 @@ const NEVER: Fails = Fails {
 };
 
 /// Worked out by hand from the tables of commands and statuses, and the rules of rounds in docs/HTTP.md.
-const ROWS: [Row; 12] = [
+const ROWS: [Row; 14] = [
     Row {
         words: &["relay", "8081", "u", "1"],
         says: &[SITES],
@@ -60,6 +67,25 @@ const ROWS: [Row; 12] = [
         fails: NEVER,
         status: 8,
         wanted: b"answered 200\nlink: bad answer\n",
+    },
+    // A cache keeps the file, so that the last reply is that to the round.
+    Row {
+        words: &["relay", "8081", "u", "2", "1"],
+        says: &[ABC, ABC],
+        replies: &[NONE, HAS_ABC, NONE, NONE],
+        saved: "",
+        fails: NEVER,
+        status: 0,
+        wanted: b"answered 200\nanswered 200\n",
+    },
+    Row {
+        words: &["relay", "8081", "u", "2"],
+        says: &[ABC, ABC],
+        replies: &[NONE, HAS_ABC, NONE, NONE],
+        saved: "",
+        fails: NEVER,
+        status: 0,
+        wanted: b"answered 200\nanswered 502\nlink: no answer\n",
     },
     Row {
         words: &["relay", "1", "u", "1"],
@@ -175,11 +201,15 @@ const ROWS: [Row; 12] = [
 
 /// Words that ask for nothing: an empty text, an offset or a number out of its range or spelled otherwise, a name that is none, a word too
 /// few or too many.
-const NO_COMMANDS: [&[&str]; 12] = [
+const NO_COMMANDS: [&[&str]; 16] = [
     &["relay", "0", "u", "1"],
     &["relay", "8081", "", "1"],
     &["relay", "8081", "u", "01"],
     &["relay", "8081", "u", "1", "c"],
+    &["relay", "8081", "u", "1", "0"],
+    &["relay", "8081", "u", "1", "65"],
+    &["relay", "8081", "u", "1", "01"],
+    &["relay", "8081", "u", "1", "1", "1"],
     &["agent", "", "p", "w", "pc1", "0", "1"],
     &["agent", "u", "", "w", "pc1", "0", "1"],
     &["agent", "u", "p", "", "pc1", "0", "1"],

@@ -17,6 +17,7 @@ use Rattle.agent_core.specs.Agents.{AgentState, shown_state}
 use Rattle.agent_core.specs.Devices.{Devices, devices}
 use Rattle.agent_core.specs.Opens.{OpensAgent}
 use Rattle.agent_core.specs.declared.opening.Opened.TheVariants as opened
+use Rattle.relay_cache.specs.CachedFiles.{CacheState}
 use Rattle.relay_core.specs.KeptSites.{AreKept}
 use Rattle.relay_core.specs.Relays.{RelayState, desk_queue, empty_relay}
 use Rattle.desk_rounds.specs.declared.agent_rounds.Rounder.{Rounder}
@@ -32,7 +33,7 @@ use Rattle.desk_runs.specs.RelaySteps.{RelayScene}
 use Rattle.desk_top.specs.declared.command.AgentWords.{AgentWords}
 use Rattle.desk_top.specs.declared.command.RelayWords.{RelayWords}
 use Rattle.desk_top.specs.OneWorking.{RelayedAlike, RelayedSteadily, RoundedAlike, RoundedSteadily, TellsRelaying, TellsRounding}
-use Rattle.desk_top.specs.Relayed.{OpensRelay, Relaying, RelaysAt, relay_at, with_upstream}
+use Rattle.desk_top.specs.Relayed.{OpensRelay, Relaying, RelaysAt, empty_cache, relay_at, with_upstream}
 use Rattle.desk_top.specs.Rounded.{OpensRounds, Rounding, RoundsAt, agent_at, rounder_of}
 use Rattle.desk_top.proofs.OneSaid.{bytes_fixed}
 
@@ -74,16 +75,25 @@ none_kept = record { good = All-nil IsSite; ascending = none_sorted }
 
 -- the relay at work, once its door was opened
 abbrev begun_told : RelayWords → List (List ℕ) → List (List ℕ) → LinkTold → RelayTold
-begun_told asked coming written told = record { coming = coming; written = written; link = named asked.upstream.now told; relay = empty_relay desk_queue }
+begun_told asked coming written told = record {
+  coming = coming;
+  written = written;
+  link = named asked.upstream.now told;
+  relay = empty_relay desk_queue;
+  cache = empty_cache asked.room;
+}
 
-record RelayOpenedSo (asked : RelayWords) (coming written : List (List ℕ)) (told : LinkTold) (old begun new : Relaying) (last : RelayState) : Type 0 where
-  tells : TellsRelay (begun_told asked coming written told) (relay_at (empty_relay desk_queue) begun)
-  steady : IsSteadyRelay (relay_at (empty_relay desk_queue) begun) (relay_at last new)
+abbrev begun_at : RelayWords → Relaying → RelayScene
+begun_at asked begun = relay_at (empty_relay desk_queue) (empty_cache asked.room) begun
+
+record RelayOpenedSo (asked : RelayWords) (coming written : List (List ℕ)) (told : LinkTold) (old begun new : Relaying) (last : RelayState) (kept : Option CacheState) : Type 0 where
+  tells : TellsRelay (begun_told asked coming written told) (begun_at asked begun)
+  steady : IsSteadyRelay (begun_at asked begun) (relay_at last kept new)
   held : begun.sink.held ≡ old.sink.held
 
-relay_opened_so : (asked : RelayWords) (coming written : List (List ℕ)) (told : LinkTold) (old begun new : Relaying) (last : RelayState) → OpensRelay asked old put.Done begun → TellsRelaying coming written told old
-    → RelayedSteadily old new → RelayOpenedSo asked coming written told old begun new last
-relay_opened_so asked coming written told old begun new last opens tells steady =
+relay_opened_so : (asked : RelayWords) (coming written : List (List ℕ)) (told : LinkTold) (old begun new : Relaying) (last : RelayState) (kept : Option CacheState) → OpensRelay asked old put.Done begun → TellsRelaying coming written told old
+    → RelayedSteadily old new → RelayOpenedSo asked coming written told old begun new last kept
+relay_opened_so asked coming written told old begun new last kept opens tells steady =
     let door : begun.door.faults ≡ old.door.faults = opens.door.counts.steady (λ e. cc) in
     let link = named_faults asked.upstream.now old.link begun.link opens.link in
     let below = tells.door.rises in
@@ -92,6 +102,7 @@ relay_opened_so asked coming written told old begun new last opens tells steady 
         door = record { comes = opens.door.coming ∙ tells.door.comes; holds = opens.door.written ∙ tells.door.holds; rises = omega (arith, door, below) };
         link = named_so asked.upstream.now told old.link begun.link opens.link tells.link;
         relay = refl;
+        cache = refl;
         kept = none_kept;
       };
       steady = record { door = steady.door ∙ sym door; link = steady.link ∙ sym link };
@@ -100,10 +111,10 @@ relay_opened_so asked coming written told old begun new last opens tells steady 
 
 pub relayed_once : OneRelaying → (asked : RelayWords) (held : List ℕ) (coming written : List (List ℕ)) (told : LinkTold) (old one other : Relaying) → old.sink.held ≡ Some held → TellsRelaying coming written told old
     → RelaysAt asked old (Ok tt) one → RelaysAt asked old (Ok tt) other → RelayedSteadily old one → RelayedSteadily old other → (one.sink.held ≡ other.sink.held) × RelayedAlike one other
-relayed_once law asked held coming written told old one other holds tells (begun, last, opens, (run, is, goes)) (begun', last', opens', (run', is', goes')) steady steady' =
-    let so = relay_opened_so asked coming written told old begun one last opens tells steady in
-    let so' = relay_opened_so asked coming written told old begun' other last' opens' tells steady' in
-    let once = law (begun_told asked coming written told) (relay_at (empty_relay desk_queue) begun) (relay_at (empty_relay desk_queue) begun') (relay_at last one) (relay_at last' other) run run' so.tells so'.tells goes.runs goes'.runs
+relayed_once law asked held coming written told old one other holds tells (begun, last, kept, opens, (run, is, goes)) (begun', last', kept', opens', (run', is', goes')) steady steady' =
+    let so = relay_opened_so asked coming written told old begun one last kept opens tells steady in
+    let so' = relay_opened_so asked coming written told old begun' other last' kept' opens' tells steady' in
+    let once = law (begun_told asked coming written told) (begun_at asked begun) (begun_at asked begun') (relay_at last kept one) (relay_at last' kept' other) run run' so.tells so'.tells goes.runs goes'.runs
     (is ∙ sym is') so.steady so'.steady in
     let alike = once.1 in
     let P : Option (List ℕ) → Type 0 = λ h. Appends h one.sink.held (relay.said run) in

@@ -11,7 +11,8 @@ use Rattle.desk_door.specs.Links.{LinkView}
 use Rattle.desk_keep.specs.Views.{KeeperView}
 use Rattle.desk_serve.specs.declared.step.Stop.{Stop}
 use Rattle.desk_serve.specs.declared.step.Stop.TheVariants as stop
-use Rattle.relay_core.specs.Relays.{RelayState, desk_queue, empty_relay}
+use Rattle.relay_cache.specs.CachedFiles.{CacheState}
+use Rattle.relay_core.specs.Relays.{RelayState}
 use Rattle.desk_runs.specs.Counting.{CountsRelayed}
 use Rattle.desk_top.specs.declared.command.DeskCommand.{DeskCommand}
 use Rattle.desk_top.specs.declared.command.DeskCommand.TheVariants.{Qna, QnaWorld, Check, Office, Make, Serve, Relay, Agent, Help}
@@ -118,10 +119,10 @@ relay_unopened status old new no_sink rose later link sink = record {
 }
 
 -- it was opened, and a relay was at work
-pub relay_opened : (asked : RelayWords) (old opened new : Relaying) (last : RelayState) (result : Result Unit Stop) (status : Status) → OpensRelay asked old put.Done opened
-    → CountsRelayed result (relay_at (empty_relay desk_queue) opened) (relay_at last new)
+pub relay_opened : (asked : RelayWords) (old opened new : Relaying) (first last : RelayState) (cache kept : Option CacheState) (result : Result Unit Stop) (status : Status) → OpensRelay asked old put.Done opened
+    → CountsRelayed result (relay_at first cache opened) (relay_at last kept new)
     → (status ≡ Sink → result ≡ Err stop.Sink) → (result ≡ Err stop.Sink → status ≡ Sink) → (status ≡ Door → result ≡ Err stop.Door) → CountsRelay status old new
-relay_opened asked old opened new last result status opens counts sink_is is_sink door_is =
+relay_opened asked old opened new first last cache kept result status opens counts sink_is is_sink door_is =
     let door_opened = opens.door.counts.later in
     let door_relayed = counts.door in
     let link_opened = ap (λ (l : LinkView). l.faults) opens.link in

@@ -1,25 +1,35 @@
 -- The table of commands.
-use Rattle.std.specs.Prelude.{◌≡◌, ◌<◌, ◌≤◌, ⊤, ℕ, List, [], ◌∷◌, ◌++◌, length, codes, decimal, flat_map}
+use Rattle.std.specs.Prelude.{◌≡◌, ◌<◌, ◌≤◌, ⊤, ℕ, List, [], ◌∷◌, ◌++◌, length, codes, decimal, flat_map, IfSome, None, Some}
+use Rattle.std.specs.declared.option.Option.{Option}
 use Rattle.std.specs.Fmt.{signed_decimal}
 use Rattle.line_forms.specs.Names.{IsName}
 use Rattle.line_forms.specs.Numbers.{IsOffset}
+use Rattle.relay_cache.specs.CachedFiles.{IsRoom}
 use Rattle.desk_top.specs.declared.command.DeskCommand.{DeskCommand}
 use Rattle.desk_top.specs.declared.command.DeskCommand.TheVariants.{Qna, QnaWorld, Check, Office, Make, Serve, Relay, Agent, Help}
 use Rattle.desk_top.specs.declared.command.AgentWords.{AgentWords}
 use Rattle.desk_top.specs.declared.command.RelayWords.{RelayWords}
 use Rattle.desk_top.specs.declared.command.ServeWords.{ServeWords}
 
--- the words of a command, with these three behind it
+-- the words of a command, with these three behind it, and others behind them
+abbrev pub with_others : List ℕ → List ℕ → List ℕ → List ℕ → List (List ℕ) → List (List ℕ)
+with_others command first second third others = command ∷ first ∷ second ∷ third ∷ others
+
 abbrev pub with_three : List ℕ → List ℕ → List ℕ → List ℕ → List (List ℕ)
-with_three command first second third = command ∷ first ∷ second ∷ third ∷ []
+with_three command first second third = with_others command first second third []
 
 -- the words of `serve`, with these behind it
 abbrev pub serve_words : List ℕ → List ℕ → List ℕ → List (List ℕ)
 serve_words port keep count = with_three (codes "serve") port keep count
 
--- the words of `relay`, with these behind it
-abbrev pub relay_words : List ℕ → List ℕ → List ℕ → List (List ℕ)
-relay_words port upstream count = with_three (codes "relay") port upstream count
+-- the words of `relay`, with these behind it, and the last one or none
+abbrev pub relay_words : List ℕ → List ℕ → List ℕ → List (List ℕ) → List (List ℕ)
+relay_words port upstream count last = with_others (codes "relay") port upstream count last
+
+-- the word of how many files there is room for, where there is a cache
+abbrev pub room_words : Option ℕ → List (List ℕ)
+room_words None = []
+room_words (Some room) = decimal room ∷ []
 
 -- the words of `agent`, with these behind it
 abbrev pub agent_words : List ℕ → List ℕ → List ℕ → List ℕ → List ℕ → List ℕ → List (List ℕ)
@@ -34,7 +44,7 @@ words_of Check = codes "check" ∷ []
 words_of Office = codes "office" ∷ []
 words_of (Make number) = codes "make" ∷ decimal number ∷ []
 words_of (Serve asked) = serve_words (decimal asked.port) asked.keep.now (decimal asked.count)
-words_of (Relay asked) = relay_words (decimal asked.port) asked.upstream.now (decimal asked.count)
+words_of (Relay asked) = relay_words (decimal asked.port) asked.upstream.now (decimal asked.count) (room_words asked.room)
 words_of (Agent asked) =
     agent_words asked.upstream.now asked.pocket.now asked.work.now asked.name.now (signed_decimal asked.offset) (decimal asked.count)
 words_of Help = codes "--help" ∷ []
@@ -49,11 +59,12 @@ pub record AreServed (asked : ServeWords) : Type 0 where
   pub keep : 0 < length asked.keep.now
   pub count : IsOneTo 1000000 asked.count
 
--- what stands behind `relay` is a port, a text that isn't empty, and a number of conversations
+-- what stands behind `relay` is a port, a text that isn't empty, a number of conversations, and the room of a cache, if it has one
 pub record AreRelayed (asked : RelayWords) : Type 0 where
   pub port : IsOneTo 65535 asked.port
   pub upstream : 0 < length asked.upstream.now
   pub count : IsOneTo 1000000 asked.count
+  pub room : IfSome asked.room IsRoom
 
 -- the texts of three places, which aren't empty, and a computer's name
 pub record NamesPlaces (upstream pocket work name : List ℕ) : Type 0 where
@@ -161,6 +172,7 @@ help_text =
     ++ help_line (words_of Office)
     ++ help_line (codes "make" ∷ codes "N" ∷ [])
     ++ help_line (serve_words (codes "PORT") (codes "KEEP") (codes "N"))
-    ++ help_line (relay_words (codes "PORT") (codes "UPSTREAM") (codes "N"))
+    ++ help_line (relay_words (codes "PORT") (codes "UPSTREAM") (codes "N") [])
     ++ help_line (agent_words (codes "UPSTREAM") (codes "POCKET") (codes "WORK") (codes "NAME") (codes "OFFSET") (codes "N"))
+    ++ help_line (relay_words (codes "PORT") (codes "UPSTREAM") (codes "N") (codes "CACHE" ∷ []))
     ++ help_line (words_of Help)

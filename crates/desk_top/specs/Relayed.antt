@@ -1,5 +1,6 @@
 -- What `relay` does: it names the upstream, opens the door, and goes between upstream rounds and conversations.
-use Rattle.std.specs.Prelude.{◌≡◌, ◌⊎◌, ℕ, ◌≤◌, List, Some}
+use Rattle.std.specs.Prelude.{◌≡◌, ◌⊎◌, ℕ, ◌≤◌, List, [], None, Some}
+use Rattle.std.specs.declared.option.Option.{Option}
 use Rattle.std.specs.declared.result.Result.{Result}
 use Rattle.std.specs.declared.result.Result.TheVariants.{Ok, Err}
 use Rattle.desk_base.specs.Counts.{CountsFaults}
@@ -8,6 +9,7 @@ use Rattle.desk_base.specs.declared.sink.Put.{Put}
 use Rattle.desk_base.specs.declared.sink.Put.TheVariants as put
 use Rattle.desk_door.specs.Doors.{DoorView, OpensAt}
 use Rattle.desk_door.specs.Links.{LinkView}
+use Rattle.relay_cache.specs.CachedFiles.{CacheState}
 use Rattle.relay_core.specs.Relays.{RelayState, desk_queue, empty_relay}
 use Rattle.desk_serve.specs.declared.step.Stop.{Stop}
 use Rattle.desk_serve.specs.declared.step.Stop.TheVariants as stop
@@ -37,15 +39,20 @@ pub record OpensRelay (asked : RelayWords) (old : Relaying) (answer : Put) (new 
   pub door : OpensAt asked.port old.door answer new.door
   pub sink : new.sink ≡ old.sink
 
--- what the steps of a relay go on that keeps this
-abbrev pub relay_at : RelayState → Relaying → RelayScene
-relay_at relay d = relay_scene d.door relay d.link d.sink
+-- what the steps of a relay go on that keeps this, and these files, if it has a cache
+abbrev pub relay_at : RelayState → Option CacheState → Relaying → RelayScene
+relay_at relay cache d = relay_scene d.door relay d.link cache d.sink
 
--- Both were opened, and then a relay that kept nothing was at work, which ended so.
+-- a cache with so much room that keeps nothing
+abbrev pub empty_cache : Option ℕ → Option CacheState
+empty_cache None = None
+empty_cache (Some room) = Some (record { room = room; files = [] })
+
+-- Both were opened, and then a relay that kept nothing was at work, which ended so. It had a cache where there was room for one.
 abbrev pub RelaysAt : RelayWords → Relaying → Result Unit Stop → Relaying → Type 0
 RelaysAt asked old result new =
-    (opened : Relaying) × (last : RelayState) × OpensRelay asked old put.Done opened
-    × RelaysAll (relay_at (empty_relay desk_queue) opened) asked.count result (relay_at last new)
+    (opened : Relaying) × (last : RelayState) × (kept : Option CacheState) × OpensRelay asked old put.Done opened
+    × RelaysAll (relay_at (empty_relay desk_queue) (empty_cache asked.room) opened) asked.count result (relay_at last kept new)
 
 -- How `relay` ends. Unwritten says that nothing was written, and Unopened that the door is as it was. Only private functions cite this.
 abbrev pub RelayEnds : RelayWords → Status → Relaying → Relaying → Type 0 → Type 0 → Type 0

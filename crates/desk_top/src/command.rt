@@ -25,6 +25,8 @@ pub struct RelayWords<'a> {
     pub upstream: &'a Text,
     /// How many conversations are held, from 1 to 1,000,000.
     pub count: u32,
+    /// For how many files its cache has room, from 1 to 64. Without a number it has no cache.
+    pub room: Option<u32>,
 }
 
 /// What stands behind `agent`.
@@ -114,5 +116,5 @@ fn command_with_devices<'a>(words: &'a [Text]) -> Option<DeskCommand<'a>>
 pub(crate) fn help() -> &'static [u8]
     ensures { result.now ≡ help_text }
 {
-    b"desk qna\ndesk qna --world\ndesk check\ndesk office\ndesk make N\ndesk serve PORT KEEP N\ndesk relay PORT UPSTREAM N\ndesk agent UPSTREAM POCKET WORK NAME OFFSET N\ndesk --help\n"
+    b"desk qna\ndesk qna --world\ndesk check\ndesk office\ndesk make N\ndesk serve PORT KEEP N\ndesk relay PORT UPSTREAM N\ndesk agent UPSTREAM POCKET WORK NAME OFFSET N\ndesk relay PORT UPSTREAM N CACHE\ndesk --help\n"
 }

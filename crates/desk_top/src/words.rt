@@ -1,11 +1,13 @@
 // What the words of the command line spell.
-ghost use Rattle.std.specs.Prelude.{◌≡◌, ◌≢◌, ◌↔◌, ℕ, ◌<◌, List, [], ◌∷◌, length, decimal, map, IsTrue, MatchOption};
+ghost use Rattle.std.specs.Prelude.{◌≡◌, ◌≢◌, ◌↔◌, ℕ, ◌<◌, List, [], ◌∷◌, length, decimal, map, IfSome, IsTrue, MatchOption};
+ghost use Rattle.std.specs.declared.option.Option.{Option};
 ghost use Rattle.std.specs.Fmt.{signed_decimal};
 ghost use Rattle.line_forms.specs.Numbers.{IsOffset};
+ghost use Rattle.relay_cache.specs.CachedFiles.{IsRoom};
 ghost use Rattle.desk_top.specs.declared.command.AgentWords.{AgentWords};
 ghost use Rattle.desk_top.specs.declared.command.RelayWords.{RelayWords};
 ghost use Rattle.desk_top.specs.declared.command.ServeWords.{ServeWords};
-ghost use Rattle.desk_top.specs.Commands.{Asks, IsOneTo, NamesPlaces, agent_words, with_three};
+ghost use Rattle.desk_top.specs.Commands.{Asks, IsOneTo, NamesPlaces, agent_words, room_words, with_others, with_three};
 
 use crate::command::{AgentWords, DeskCommand, RelayWords, ServeWords};
 use line_forms::{read_name, read_number, read_offset};
@@ -19,6 +21,9 @@ const LAST_PORT: u64 = 65_535;
 
 /// The most conversations that `serve` and `relay` hold, and the most rounds that `agent` makes.
 const MOST_STEPS: u64 = 1_000_000;
+
+/// The most files that a relay keeps.
+const MOST_FILES: u64 = 64;
 
 pub(crate) fn are_spelled(words: &[Text], spelled: &[&str]) -> bool
     ensures { IsTrue result ↔ (words.now ≡ map (λ word. word.now) spelled.now) }
@@ -102,16 +107,26 @@ fn behind<'a>(words: &'a [Text], command: &str) -> Option<&'a [Text]>
     Some(others)
 }
 
+/// What stands behind a command, where that is the first of four words or more.
+#[tactic(auto, using(crate::proofs::WordsOfRelay::too_few))]
+fn three_and_others<'a>(words: &'a [Text], command: &str) -> Option<FirstThree<'a>>
+    ensures { MatchOption result
+        ((first second third : List ℕ) (others : List (List ℕ)) → words.now ≢ with_others command.now first second third others)
+        (λ three. words.now ≡ with_others command.now three.first.now three.second.now three.third.now three.others.now) }
+{
+    match behind(words, command) {
+        Some(words) => first_three(words),
+        None => None,
+    }
+}
+
 /// What stands behind a command, where that is the first of four words.
 fn three_behind<'a>(words: &'a [Text], command: &str) -> Option<FirstThree<'a>>
     ensures { MatchOption result
         ((first second third : List ℕ) → words.now ≢ with_three command.now first second third)
         (λ three. words.now ≡ with_three command.now three.first.now three.second.now three.third.now) }
 {
-    let Some(words) = behind(words, command) else {
-        return None;
-    };
-    let Some(three) = first_three(words) else {
+    let Some(three) = three_and_others(words, command) else {
         return None;
     };
     if !three.others.is_empty() {
@@ -185,12 +200,12 @@ pub(crate) fn what_to_serve<'a>(words: &'a [Text]) -> Option<ServeWords<'a>>
 }
 
 /// What the words ask `relay` for.
-#[tactic(auto, using(crate::proofs::WordsOfRelay::no_words, crate::proofs::WordsOfRelay::no_port, crate::proofs::WordsOfRelay::no_count, crate::proofs::WordsOfRelay::no_upstream, crate::proofs::WordsOfRelay::asks_relay))]
+#[tactic(auto, using(crate::proofs::WordsOfRelay::no_words, crate::proofs::WordsOfRelay::no_port, crate::proofs::WordsOfRelay::no_count, crate::proofs::WordsOfRelay::no_upstream, crate::proofs::WordsOfRelay::no_room, crate::proofs::WordsOfRelay::asks_relay))]
 pub(crate) fn what_to_relay<'a>(words: &'a [Text]) -> Option<RelayWords<'a>>
     ensures { MatchOption result ((asked : RelayWords) → ¬ Asks words.now (DeskCommand.Relay asked))
         (λ asked. Asks words.now (DeskCommand.Relay asked)) }
 {
-    let Some(behind) = three_behind(words, "relay") else {
+    let Some(behind) = three_and_others(words, "relay") else {
         return None;
     };
     let Some(port) = number_up_to(behind.first, LAST_PORT) else {
@@ -202,11 +217,33 @@ pub(crate) fn what_to_relay<'a>(words: &'a [Text]) -> Option<RelayWords<'a>>
     if behind.second.as_str().is_empty() {
         return None;
     }
+    let Some(room) = room_in(behind.others) else {
+        return None;
+    };
     Some(RelayWords {
         port: port as u16,
         upstream: behind.second,
         count: count as u32,
+        room,
     })
+}
+
+/// The number of files, from 1 to 64, that the last word spells, or no number where there is no word. None if there are other words.
+#[tactic(auto, using(crate::proofs::WordsOfRelay::too_many, crate::proofs::WordsOfRelay::no_number, crate::proofs::WordsOfRelay::has_room))]
+fn room_in(words: &[Text]) -> Option<Option<u32>>
+    ensures { MatchOption result ((room : Option ℕ) → IfSome room IsRoom → words.now ≢ room_words room)
+        (λ room. IfSome room IsRoom × (words.now ≡ room_words room)) }
+{
+    let Some((word, others)) = words.split_first() else {
+        return Some(None);
+    };
+    if !others.is_empty() {
+        return None;
+    }
+    match number_up_to(word, MOST_FILES) {
+        Some(room) => Some(Some(room as u32)),
+        None => None,
+    }
 }
 
 /// What the words ask `agent` for.

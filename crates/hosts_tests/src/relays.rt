@@ -68,11 +68,13 @@ fn first_untold(
     rows: &[Row],
 ) -> Option<usize> {
     let paths = Paths::new(alloc);
+    let mut cache = None;
     let mut host = RelayHost {
         alloc,
         paths: &paths,
         relay,
         link,
+        cache: &mut cache,
     };
     first_unanswered(&mut host, rows)
 }
@@ -142,11 +144,13 @@ fn replies(alloc: Global) -> Result<Vec<Bytes>, AllocError> {
 /// How many replies before the first that a relay doesn't pass on so.
 fn first_kept_back(alloc: Global, relay: &mut Relay, link: &mut MemoryLink) -> Option<usize> {
     let paths = Paths::new(alloc);
+    let mut cache = None;
     let mut host = RelayHost {
         alloc,
         paths: &paths,
         relay,
         link,
+        cache: &mut cache,
     };
     for (before, (_, status, text)) in REPLIES.iter().enumerate() {
         if !answers(&mut host, &(Asking::Get, ABC, "", *status, *text)) {

@@ -111,6 +111,11 @@ pub returns-in-Relay-clause-counts : goal.returns-in-Relay-clause-counts
 returns-in-Relay-clause-counts g c =
     relay_counts c.in-Relay.asked c.relay_asked.result _ _ _ _ c.relay_asked.ensures.ends refl refl refl refl refl c.relay_asked.ensures.counts
 
+pub relay_asked-requires : goal.relay_asked-requires
+relay_asked-requires g c =
+    let asks = rw c.in-Relay.is at c.in-Some.ensures in
+    asks.0.room
+
 pub returns-in-Agent-clause-ended : goal.returns-in-Agent-clause-ended
 returns-in-Agent-clause-ended g c =
     agent_ended _ c.in-Agent.asked c.agent_asked.result _ _ _ (rw c.in-Agent.is at c.in-Some.ensures) refl refl c.agent_asked.ensures.ends
