@@ -1,0 +1,11 @@
+pub mod Parts
+pub mod Naming
+pub mod Finding
+pub mod Spots
+pub mod Listing
+pub mod Showing
+pub mod Learning
+pub mod Goodness
+pub mod EntryLemmas
+pub mod LookLemmas
+pub mod Paths

@@ -1,0 +1,14 @@
+use Rattle.std.proofs.Common.{[], List, filter, map, refl}
+use Rattle.bf_world.specs.declared.answer.Answer.TheVariants as answer
+use Rattle.desk_keep.specs.declared.change.Change.{Change}
+use Rattle.desk_keep.specs.declared.table.Table.TheVariants as table
+use Rattle.desk_keep.specs.Tables.{is_of, without_text}
+use Rattle.session_tables.specs.Inside.{named_entry, with_names}
+use Rattle.session_tables.proofs.Learning.{learned_of}
+use Rattle.session_tables.proofs.look.list_sites.Goals as goal
+
+pub returns-clause-learns : goal.returns-clause-learns
+returns-clause-learns g c =
+    learned_of (λ rows. map without_text (filter (is_of table.Sites) rows)) (λ rows. answer.Entries (map named_entry (with_names (map without_text (filter (is_of table.Sites) rows)) [])))
+    (λ (l : List Change). answer.Entries (map named_entry (with_names l []))) (g.K.Keeper.told c.args.keeper.now) (g.K.Keeper.told c.versions_of.new.keeper)
+    c.in_ok-rows.rows c.in_ok-row_entries.field-0 c.in_ok-rows.ensures c.in_ok-row_entries.ensures.entries (λ rows. refl)
