@@ -7,12 +7,13 @@ import subprocess
 import time
 
 from desks import IN_A_FILE, LOOPBACK, UNPROVED, NotAsked, Office, ask, check, check_at_most, fixlet, report, row, site
-from loopback import ENVIRONMENT
+from loopback import ABC, ENVIRONMENT, SITE
 from offices import published, turns
 from recorder import Recorder
 
 AGENTS = 25 if UNPROVED else 1000
 LAST = 10  # seconds in which a thousand agents are answered that come within one
+PAUSE = 32  # seconds between the rounds of an agent: an upstream whose connection ran out of time isn't tried again for 30
 
 
 class Crowd:
@@ -27,13 +28,13 @@ class Crowd:
                 file.write(pocket(name))
 
     def begin(self, name, upstream, rounds, waiting):
-        """Begins an agent that waits for a line."""
+        """Begins an agent that waits for a line, and ends where none comes any more."""
         os.mkdir(self.office.path(name))
         words = ['agent', f'{LOOPBACK}:{upstream}', f'{name}.pocket', name, name, '0', str(rounds)]
-        shell = ['sh', '-c', 'read -r line; exec "$@" </dev/null', 'sh']
+        shell = ['sh', '-c', 'read -r line && exec "$@" </dev/null', 'sh']
         with open(self.office.path(f'{name}.lines'), 'wb') as lines:
-            return subprocess.Popen([*shell, self.office.program, *words], cwd=self.office.folder, env={**ENVIRONMENT, 'DESK_EVERY': '5'},
-                                    stdin=waiting, stdout=lines, stderr=subprocess.DEVNULL)
+            return subprocess.Popen([*shell, self.office.program, *words], cwd=self.office.folder, stdin=waiting, stdout=lines,
+                                    stderr=subprocess.DEVNULL, env={**ENVIRONMENT, 'DESK_EVERY': str(PAUSE)})
 
     def go(self, seconds):
         """Lets them go within so many seconds, evenly. When the last one was let go, and when the last one has ended."""
@@ -80,7 +81,7 @@ def thousand_at_once():
         check([answer for answer in held if answer != (200, b'7 1 fixed 1000 1060 0 - - 1\n')], [], 'what the server does not have of them')
         failed = [found.count('link: no answer') for found in lines]
         return (f'{AGENTS} agents, let go within {let_go:.2f} s; {sum(failed)} exchanges of {len(failed) - failed.count(0)} agents failed; '
-                f'with the second round, 5 s behind the first, all was over after {spent:.1f} s')
+                f'with the second round, {PAUSE} s behind the first, all was over after {spent:.1f} s')
 
 
 @contextlib.contextmanager
@@ -123,29 +124,57 @@ def waits():
               (0, 'turn pc1 M: began 7, held at line 1', 1, 'turn pc1 M: idle'), f'the agent, whose lines are {lines}')
 
 
+DISK = 16  # MB, of which the log of SQLite takes some 4 before it is put into the file and written anew
+
+
+@contextlib.contextmanager
+def small_disk(it):
+    """A folder of a file system of its own, which can be filled."""
+    os.mkdir(it.path('small'))
+    mount = ['mount', '-t', 'tmpfs', '-o', f'size={DISK}m', 'none', it.path('small')]
+    if subprocess.run(mount, capture_output=True, check=False).returncode:
+        raise NotAsked(f'a file system of {DISK} MB can not be mounted here, which root may')
+    try:
+        yield
+    finally:
+        subprocess.run(['umount', '-l', it.path('small')], check=False)
+
+
 def fill(path):
     """Leaves no room on the disk of this file."""
     with contextlib.suppress(OSError), open(path, 'wb', buffering=0) as ballast:
         while True:
-            ballast.write(bytes(4096))
+            ballast.write(bytes(1048576))  # or as much of it as there is room for
 
 
-@row('a server whose disk fills under load answers 200 again when it is freed', IN_A_FILE, long=True)
-def full_disk(reports=2000):
-    with Office() as it, contextlib.ExitStack() as stack, concurrent.futures.ThreadPoolExecutor(4) as clients:
-        os.mkdir(it.path('small'))
-        mount = ['mount', '-t', 'tmpfs', '-o', 'size=2m', 'none', it.path('small')]
-        if subprocess.run(mount, capture_output=True, check=False).returncode:
-            raise NotAsked('a file system of 2 MB can not be mounted here, which root may')
-        stack.callback(subprocess.run, ['umount', '-l', it.path('small')], check=False)
-        server = it.serve(keep='small/keep')
-        answers = [ask(server.port, 'POST', '/reports', report('pc1', 1))]
-        fill(it.path('small', 'ballast'))
-        answers += clients.map(lambda number: ask(server.port, 'POST', '/reports', report('pc1', number)), range(2, reports))
-        check((answers[0], answers[-1], set(answers)), ((200, b'ok\n'), (500, b'keeper fault\n'), {answers[0], answers[-1]}), 'the answers')
-        os.remove(it.path('small', 'ballast'))
-        check(ask(server.port, 'POST', '/reports', report('pc1', reports)), (200, b'ok\n'), 'when it is freed')
+@row('a server whose disk fills under load, time after time, answers 200 again when it is freed', IN_A_FILE, long=True)
+def full_disk(times=6, reports=600):
+    with Office() as it, small_disk(it), concurrent.futures.ThreadPoolExecutor(4) as clients:
+        server, answers = it.serve(keep='small/keep'), []
+
+        def post(number):
+            return ask(server.port, 'POST', '/reports', report('pc1', number))
+
+        for _ in range(times):
+            check(post(len(answers) + 1), (200, b'ok\n'), f'report {len(answers) + 1}, for which there is room')
+            coming = clients.map(post, range(len(answers) + 2, len(answers) + reports + 1))
+            fill(it.path('small', 'ballast'))
+            answers += [(200, b'ok\n'), *coming]
+            check(answers[-1], (500, b'keeper fault\n'), f'report {len(answers)}, for which there is none')
+            os.remove(it.path('small', 'ballast'))
+        check(set(answers), {(200, b'ok\n'), (500, b'keeper fault\n')}, 'the answers')
         for number, (status, _) in enumerate(answers, 1):
-            wanted = 200, b'again\n' if status == 200 else b'ok\n'
-            check(ask(server.port, 'POST', '/reports', report('pc1', number)), wanted, f'report {number}, which was answered {status}')
-        return f'{sum(status == 500 for status, _ in answers)} of {len(answers)} reports found no room'
+            check(post(number), (200, b'again\n' if status == 200 else b'ok\n'), f'report {number}, which was answered {status}')
+        return f'{sum(status == 500 for status, _ in answers)} of {len(answers)} reports found no room, in {times} times'
+
+
+@row('fifty agents that fetch one file through a relay with a cache ask the server for it once', long=True)
+def one_exchange(agents=50):
+    with Office() as it:
+        server = published(it, SITE, b'abc')
+        recorder = Recorder(server.port)
+        relay = it.relay(recorder.port, room=1)
+        with concurrent.futures.ThreadPoolExecutor(8) as pool:
+            ends = list(pool.map(lambda n: turns(it.agent(f'pc{n}', relay.port, 1)), range(agents)))
+        check(ends, [(0, [f'turn pc{n} M: began 7, fixed']) for n in range(agents)], 'the agents')
+        check(recorder.asked.count(f'GET /files/{ABC}'.encode()), 1, 'how often the server was asked')

@@ -185,8 +185,9 @@ class Office:
     def serve(self, count=1000000, keep='keep', port=None):
         return self.open('serve', port or free_port(), keep, count)
 
-    def relay(self, upstream, count=1000000, port=None):
-        return self.open('relay', port or free_port(), f'{LOOPBACK}:{upstream}', count)
+    def relay(self, upstream, count=1000000, port=None, room=None):
+        """A relay, with a cache where there is room for files."""
+        return self.open('relay', port or free_port(), f'{LOOPBACK}:{upstream}', count, *([] if room is None else [room]))
 
     def agent(self, name, upstream, count, every=None, offset=0):
         """An agent whose pocket and work folder have its name; between its rounds it pauses for as many seconds as `every` says."""

@@ -1,6 +1,7 @@
 """Rows of servers, relays and agents that are killed at random moments while reports come: nothing that was answered is lost."""
 import concurrent.futures
 import contextlib
+import fcntl
 import random
 import re
 import threading
@@ -108,6 +109,16 @@ def check_attempts(name, pocket, done):
     return len(commands)
 
 
+def is_free(path):
+    """Whether nobody has the lock on a file."""
+    with contextlib.suppress(FileNotFoundError), open(path, 'rb') as file:
+        try:
+            fcntl.flock(file, fcntl.LOCK_EX | fcntl.LOCK_NB)
+        except BlockingIOError:
+            return False
+    return True
+
+
 class Watched:
     """An office of a server, a relay and agents, in which each report goes through a recorder, and which can be killed."""
 
@@ -116,13 +127,18 @@ class Watched:
         self.recorders = {'server': Recorder(self.port), 'relay': Recorder(relay_port)}
         server = it.serve(port=self.port)
         check(ask(self.port, 'POST', '/sites', site(1, *fixlets)), (200, b'ok\n'), 'the site')
-        begins = {name: lambda name=name: it.agent(name, self.recorders['relay'].port, 1000000) for name in AGENTS}
+        begins = {name: lambda name=name: self.begin_agent(name) for name in AGENTS}
         begins['relay'] = lambda: it.relay(self.recorders['server'].port, port=relay_port)
         # an unproved server has its tables in memory alone, so that it has to live
         if not UNPROVED:
             server.kill()
             begins['server'] = lambda: it.serve(port=self.port)
         self.killed = Killed(begins)
+
+    def begin_agent(self, name):
+        """Begins an agent, when its pocket is free: a program that it was about to start when it was killed has the lock for a moment."""
+        wait_for(lambda: is_free(self.it.path(f'{name}.pocket.lock')), SECONDS, f'the pocket of {name} is free')
+        return self.it.agent(name, self.recorders['relay'].port, 1000000)
 
     def judged(self):
         """Ends all but the server, and judges what pockets and server have. How many commands were done, and reports made."""

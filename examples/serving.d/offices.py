@@ -1,4 +1,5 @@
 """Rows of relays and agents: a whole office, upstreams that are gone, pockets that are another's."""
+import hashlib
 import re
 import socket
 import threading
@@ -123,6 +124,37 @@ def relay_alone():
         # of each round the sites, and where there is one the report
         lines = [gone, 'answered 200', gone, 'answered 200', gone, gone, 'answered 502', gone, gone]
         check(relay.end(), (0, lines), 'the end')
+
+
+@row('a relay with a cache asks for a file once, however often it is asked')
+def kept_file():
+    port, asked_for = upstream([b'', b'abc', b'', b'', b''])
+    with Office() as it:
+        relay = it.relay(port, 3, room=1)
+        for _ in range(3):
+            check(ask(relay.port, 'GET', f'/files/{ABC}'), (200, b'abc'), 'the file')
+        check(relay.end(), (0, ['answered 200'] * 3), 'the end')
+        check(asked_for, ['GET /sites', f'GET /files/{ABC}', 'GET /sites', 'GET /sites', 'GET /sites'], 'what it asks')
+
+
+@row('a relay with room for one file, of two that are asked for by turns, answers the one that it keeps when its upstream is gone')
+def kept_by_turns():
+    abd = hashlib.sha256(b'abd').hexdigest()
+    with Office() as it:
+        server = it.serve()
+        for file in (b'abc', b'abd'):
+            check(ask(server.port, 'POST', '/files', file)[0], 200, f'{file} is put')
+        relay = it.relay(server.port, 6, room=1)
+        for digest, file in ((ABC, b'abc'), (abd, b'abd'), (ABC, b'abc')):
+            check(ask(relay.port, 'GET', f'/files/{digest}'), (200, file), f'{file} before')
+        server.kill()
+        check(ask(relay.port, 'GET', f'/files/{ABC}'), (200, b'abc'), 'the kept one')
+        check(ask(relay.port, 'GET', f'/files/{abd}'), (502, b'link fault\n'), 'the other one')
+        check(ask(relay.port, 'GET', f'/files/{ABC}'), (200, b'abc'), 'the kept one again')
+        status, lines = relay.end()
+        # a round may be over before the upstream is gone
+        answered = [line for line in lines if line != 'link: no answer']
+        check((status, answered), (0, ['answered 200'] * 4 + ['answered 502', 'answered 200']), 'the end')
 
 
 @row('an agent whose upstream is gone goes on, and says so; a second one on its pocket is refused')

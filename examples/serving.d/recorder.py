@@ -21,10 +21,11 @@ def whole_request(peer):
 
 
 class Recorder:
-    """Hands requests on to a desk, and its answers back. Keeps what was answered to each report, and how long each answer took."""
+    """Hands requests on to a desk, and its answers back. Keeps what was asked, what was answered to each report, and how long each answer
+    took."""
 
     def __init__(self, upstream):
-        self.upstream, self.answers, self.spent = upstream, {}, []
+        self.upstream, self.asked, self.answers, self.spent = upstream, [], {}, []
         self.listener = socket.create_server((LOOPBACK, 0), backlog=64)
         self.port = self.listener.getsockname()[1]
         threading.Thread(target=self.serve, daemon=True).start()
@@ -39,6 +40,7 @@ class Recorder:
         with peer, contextlib.suppress(OSError):
             peer.settimeout(SECONDS)
             asked, said, body = whole_request(peer)
+            self.asked.append(asked)
             answers = self.answers.setdefault(body, []) if asked == b'POST /reports' else []
             since = time.monotonic()
             with client(self.upstream) as desk:
