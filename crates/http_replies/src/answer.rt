@@ -1,4 +1,4 @@
-ghost use Rattle.std.specs.Prelude.{◌≡◌, ◌++◌, OnOk};
+ghost use Rattle.std.specs.Prelude.{◌≡◌, ◌++◌, IfOk, OnOk};
 ghost use Rattle.desk_http.specs.Calling.{HasStatus};
 ghost use Rattle.http_replies.specs.Statuses.{IsCalled, answer_body, answer_status, reply_status};
 
@@ -24,18 +24,38 @@ pub enum Answer {
 
 impl Answer {
     /// Its status and its body, as a host gives them. Want of memory is the host's, and so is that of this call.
-    pub fn called(&self, alloc: Global) -> Called
-        ensures called { IsCalled self.now result }
+    pub fn called(self, alloc: Global) -> Called
+        ensures called { IsCalled self result }
         ensures status { HasStatus result }
     {
         if matches!(self, Answer::Reply(Reply::Memory)) {
             return Called::Memory;
         }
-        let mut body = Bytes::new(alloc);
-        match self.say(&mut body) {
-            Ok(()) => Called::Answer(self.status(), body),
+        let status = self.status();
+        match self.into_body(alloc) {
+            Ok(body) => Called::Answer(status, body),
             Err(_) => Called::Memory,
         }
+    }
+
+    /// Its body. Bytes that it holds are moved, not copied. The error is want of memory.
+    fn into_body(self, alloc: Global) -> Result<Bytes, AllocError>
+        ensures { IfOk result (λ body. body ≡ answer_body self) }
+    {
+        match self {
+            Answer::Reply(Reply::Content(bytes)) => Ok(bytes),
+            Answer::Reply(Reply::Site(text)) => Ok(text),
+            other => other.said(alloc),
+        }
+    }
+
+    /// Its body, as a text of its own. The error is want of memory.
+    fn said(&self, alloc: Global) -> Result<Bytes, AllocError>
+        ensures { IfOk result (λ body. body ≡ answer_body self.now) }
+    {
+        let mut body = Bytes::new(alloc);
+        self.say(&mut body)?;
+        Ok(body)
     }
 
     fn status(&self) -> u16

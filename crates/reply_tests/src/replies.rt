@@ -57,7 +57,6 @@ fn is_called(alloc: Global, answer: Answer, status: u16, body: &str) -> bool {
         Called::Memory => false,
     };
     drop(called);
-    drop(answer);
     is
 }
 
