@@ -1,3 +1,4 @@
+use crate::opening::Opening;
 use crate::row::Row;
 use crate::stop::Stop;
 
@@ -21,8 +22,9 @@ pub enum Answer {
 
 /// A database of SQL in a file, as much of one as a keeper needs. It tells nothing of what it holds.
 pub trait Database: Sized + Drop {
-    /// Opens the database in a file. Where the file is missing it is made, for its owner alone; where it holds nothing, so does the database.
-    fn open(rt: &HostRuntime, place: &str) -> Result<Self, Stop>;
+    /// Opens the database in a file. Where the file is missing it is made, for its owner alone, and where it holds nothing, so does the
+    /// database; one that is to be found is refused there, and nothing is made.
+    fn open(rt: &HostRuntime, place: &str, opening: Opening) -> Result<Self, Stop>;
 
     /// Runs a statement with the values of its parameters. A query begins with SELECT.
     fn run(&mut self, statement: &str, values: &[Value<'_>]) -> Result<Answer, Stop>;

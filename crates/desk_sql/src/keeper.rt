@@ -7,6 +7,7 @@ ghost use Rattle.desk_keep.specs.Tables.{is_of, is_result_of, without_text, AreR
 
 use crate::database::Database;
 use crate::open_keep::OpenKeep;
+use crate::opening::Opening;
 use crate::stop::Stop;
 use desk_keep::{Applied, Change, Changes, Counted, Find, Found, Keeper, Listed, Table};
 use rel_lexer::Text;
@@ -16,6 +17,7 @@ use rel_lexer::Text;
 #[derive(Drop)]
 pub struct SqlKeeper<'a, D: Database> {
     rt: &'a HostRuntime,
+    opening: Opening,
     /// The file that was opened last. None where that failed, and after closing.
     place: Option<Text>,
     keep: Option<OpenKeep<D>>,
@@ -23,12 +25,13 @@ pub struct SqlKeeper<'a, D: Database> {
 }
 
 impl<'a, D: Database> SqlKeeper<'a, D> {
-    /// A keeper of no file yet. Its faults are told on standard error.
-    pub fn new(rt: &'a HostRuntime) -> SqlKeeper<'a, D>
+    /// A keeper of no file yet, which opens files so. Its faults are told on standard error.
+    pub fn new(rt: &'a HostRuntime, opening: Opening) -> SqlKeeper<'a, D>
         ensures { result.faults ≡ 0 }
     {
         SqlKeeper {
             rt,
+            opening,
             place: None,
             keep: None,
             faults: 0,
@@ -70,7 +73,7 @@ impl<'a, D: Database> SqlKeeper<'a, D> {
         let Some(place) = &self.place else {
             return Err(Stop::NotOpen);
         };
-        self.keep = Some(OpenKeep::open(self.rt, place.as_str())?);
+        self.keep = Some(OpenKeep::open(self.rt, place.as_str(), self.opening)?);
         Ok(())
     }
 

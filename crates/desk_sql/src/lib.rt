@@ -8,6 +8,7 @@ mod database;
 mod keeper;
 mod listing;
 mod open_keep;
+mod opening;
 mod reading;
 mod row;
 mod schema;
@@ -18,5 +19,6 @@ mod writing;
 
 pub use database::{Answer, Database, Value};
 pub use keeper::SqlKeeper;
+pub use opening::Opening;
 pub use row::{Cell, Row};
 pub use stop::Stop;

@@ -8,6 +8,7 @@ use crate::columns::{digits, text};
 use crate::counting::table_counts;
 use crate::database::{Database, Value, ask};
 use crate::listing::{listed, listed_results, listed_versions};
+use crate::opening::Opening;
 use crate::reading::row_of;
 use crate::row::Row;
 use crate::schema::make_tables;
@@ -28,10 +29,14 @@ pub(crate) struct OpenKeep<D: Database> {
 }
 
 impl<D: Database> OpenKeep<D> {
-    /// Opens the database in a file, and makes or migrates its tables where that is needed.
-    pub(crate) fn open(rt: &HostRuntime, place: &str) -> Result<OpenKeep<D>, Stop> {
-        let mut base = D::open(rt, place)?;
-        make_tables(&mut base)?;
+    /// Opens the database in a file, and makes or migrates its tables where that is needed; none are made where they are to be found.
+    pub(crate) fn open(
+        rt: &HostRuntime,
+        place: &str,
+        opening: Opening,
+    ) -> Result<OpenKeep<D>, Stop> {
+        let mut base = D::open(rt, place, opening)?;
+        make_tables(&mut base, opening)?;
         let counts = table_counts(&mut base)?;
         Ok(OpenKeep {
             alloc: rt.alloc(),

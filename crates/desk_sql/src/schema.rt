@@ -1,4 +1,5 @@
 use crate::database::{Database, ask};
+use crate::opening::Opening;
 use crate::stop::Stop;
 use crate::transaction::{begin, end};
 
@@ -36,13 +37,13 @@ enum Schema {
     Foreign,
 }
 
-/// Makes the tables in a file that holds nothing, and migrates those of schema 1, each in one transaction. Those of schema 2 are taken as
-/// they are, and all else is refused.
-pub(crate) fn make_tables<D: Database>(base: &mut D) -> Result<(), Stop> {
-    match schema_of(base)? {
-        Schema::Nothing => run_all(base, MAKE),
-        Schema::Number(1) => run_all(base, MIGRATE),
-        Schema::Number(2) => Ok(()),
+/// Makes the tables in a file that holds nothing, unless they are to be found, and migrates those of schema 1, each in one transaction.
+/// Those of schema 2 are taken as they are, and all else is refused.
+pub(crate) fn make_tables<D: Database>(base: &mut D, opening: Opening) -> Result<(), Stop> {
+    match (schema_of(base)?, opening) {
+        (Schema::Nothing, Opening::Make) => run_all(base, MAKE),
+        (Schema::Number(1), _) => run_all(base, MIGRATE),
+        (Schema::Number(2), _) => Ok(()),
         _ => Err(Stop::OtherForm),
     }
 }

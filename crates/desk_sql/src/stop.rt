@@ -8,6 +8,8 @@ pub enum Stop {
     Memory,
     /// The file was missing and couldn't be made.
     NotMade(io::Error),
+    /// The file was to be found, and is missing or can't be read and written.
+    NotFound(io::Error),
     /// The file can't be opened.
     CannotOpen,
     /// Another has the file open.
@@ -53,6 +55,7 @@ impl fmt::Display for Stop {
         f.write_str(match self {
             Stop::Memory => "out of memory",
             Stop::NotMade(error) => return write!(f, "{error}"),
+            Stop::NotFound(error) => return write!(f, "{error}"),
             Stop::CannotOpen => "the file can't be opened",
             Stop::Busy => "another process has the file open",
             Stop::NoDatabase => "the file is no database, or its rows break its schema",

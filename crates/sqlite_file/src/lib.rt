@@ -2,7 +2,7 @@
 #![tactic(auto)]
 
 mod calls;
-mod make;
+mod place;
 mod rows;
 mod sqlite_file;
 mod stop;

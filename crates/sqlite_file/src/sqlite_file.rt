@@ -1,7 +1,7 @@
 use crate::calls::run;
-use crate::make::make;
+use crate::place::prepare;
 use crate::stop::stop_of;
-use desk_sql::{Answer, Database, Stop, Value};
+use desk_sql::{Answer, Database, Opening, Stop, Value};
 use sqlite::{Connection, File, FileStore};
 use std::alloc::Global;
 
@@ -13,8 +13,8 @@ pub struct SqliteFile {
 }
 
 impl Database for SqliteFile {
-    fn open(rt: &HostRuntime, place: &str) -> Result<SqliteFile, Stop> {
-        make(rt, place)?;
+    fn open(rt: &HostRuntime, place: &str, opening: Opening) -> Result<SqliteFile, Stop> {
+        prepare(rt, place, opening)?;
         match Connection::open(rt, place) {
             Ok(connection) => Ok(SqliteFile {
                 alloc: rt.alloc(),
