@@ -1,9 +1,10 @@
-"""What the scripts that talk to a desk over loopback share."""
-import contextlib
+"""What the scripts that talk to a desk over loopback share.
+  examples/loopback.py COUNT   for a script in another language: writes so many free ports, and holds them as long as its input lasts"""
 import hashlib
 import os
 import random
 import socket
+import sys
 import time
 
 SECONDS = 60  # how long an answer, or the end of a process, is waited for
@@ -49,16 +50,23 @@ def ports():
     return iter(random.sample(found, len(found)))
 
 
-PORTS = ports()
+PORTS, HELD = ports(), []
 
 
 def free_port():
-    """A port that is free, and that wasn't given before."""
+    """A port that is free, and that nobody else is given: a socket that doesn't listen has it as long as this process runs. So whoever
+    connects is refused, until a desk listens there beside it."""
     for port in PORTS:
-        with contextlib.suppress(OSError), socket.socket() as it:
-            it.setsockopt(socket.SOL_SOCKET, socket.SO_REUSEADDR, 1)
+        it = socket.socket()
+        try:
             it.bind(('127.0.0.1', port))
-            return port
+        except OSError:
+            it.close()
+            continue
+        # with this a desk may take it too; set before, it would be given a port that another process holds
+        it.setsockopt(socket.SOL_SOCKET, socket.SO_REUSEADDR, 1)
+        HELD.append(it)
+        return port
     raise OSError('no port is free')
 
 
@@ -80,3 +88,8 @@ def talk(port, said):
         while piece := it.recv(65536):
             read += piece
         return read
+
+
+if __name__ == '__main__':
+    print(*(free_port() for _ in range(int(sys.argv[1]))), flush=True)
+    sys.stdin.read()
