@@ -6,6 +6,7 @@ import socket
 import subprocess
 import sys
 import tempfile
+import threading
 import time
 
 from faulting.server import request, sealed
@@ -103,6 +104,19 @@ def ask(port, method, path, body=b'', seconds=SECONDS):
 
 # ---- desks
 
+# one program is started at a time: until it runs it has whatever is open here, a lock too
+STARTS = threading.Lock()
+
+
+def has_read(port, peer):
+    """Whether the desk at this port has taken a client's connection and all that came by it, by the system's table."""
+    wanted = [f'0100007F:{port:04X}', f'0100007F:{peer.getsockname()[1]:04X}']
+    with open('/proc/net/tcp', encoding='ascii') as table:
+        found = [row for row in map(str.split, table) if row[1:3] == wanted]
+    # what a connection has that wasn't read yet, and the file that it is of one who took it
+    return any(row[4].endswith(':00000000') and row[9] != '0' for row in found)
+
+
 def listens(port):
     """Whether somebody listens there, by the system's table."""
     wanted = f'0100007F:{port:04X} 00000000:0000 0A'
@@ -116,8 +130,9 @@ class Desk:
     def __init__(self, words, folder, port, variables):
         self.port = port
         self.printed = tempfile.TemporaryFile(dir=folder)
-        self.process = subprocess.Popen(words, cwd=folder, env={**ENVIRONMENT, **variables}, stdin=subprocess.DEVNULL,
-                                        stdout=self.printed, stderr=subprocess.DEVNULL)
+        with STARTS:
+            self.process = subprocess.Popen(words, cwd=folder, env={**ENVIRONMENT, **variables}, stdin=subprocess.DEVNULL,
+                                            stdout=self.printed, stderr=subprocess.DEVNULL)
 
     @property
     def lines(self):

@@ -7,7 +7,7 @@ import re
 import threading
 import time
 
-from desks import IN_A_FILE, UNPROVED, Office, action, ask, check, fixlet, report, row, site, wait_for
+from desks import IN_A_FILE, STARTS, UNPROVED, Office, action, ask, check, fixlet, report, row, site, wait_for
 from loopback import SECONDS, free_port
 from recorder import Recorder
 
@@ -110,8 +110,8 @@ def check_attempts(name, pocket, done):
 
 
 def is_free(path):
-    """Whether nobody has the lock on a file."""
-    with contextlib.suppress(FileNotFoundError), open(path, 'rb') as file:
+    """Whether nobody has the lock on a file. A program that is started meanwhile would keep it for a moment."""
+    with STARTS, contextlib.suppress(FileNotFoundError), open(path, 'rb') as file:
         try:
             fcntl.flock(file, fcntl.LOCK_EX | fcntl.LOCK_NB)
         except BlockingIOError:

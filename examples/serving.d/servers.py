@@ -1,10 +1,9 @@
 """Rows of a server: its routes and lines, what it keeps, how it is refused."""
 import os
 import socket
-import time
 
-from desks import IN_A_FILE, Office, action, ask, check, client, everything, fixlet, report, row, site
-from loopback import ABC, free_port
+from desks import IN_A_FILE, Office, action, ask, check, client, everything, fixlet, has_read, report, row, site, wait_for
+from loopback import ABC, SECONDS, free_port
 
 SITE = site(1, *fixlet(1, '// nothing'))
 ROUTES = (
@@ -62,7 +61,7 @@ def odd_clients():
             check(everything(peer), b'', 'what is read')
         with client(server.port) as peer:
             peer.sendall(b'GET /si')
-            time.sleep(0.5)
+            wait_for(lambda: has_read(server.port, peer), SECONDS, 'the server has read what came')
             peer.setsockopt(socket.SOL_SOCKET, socket.SO_LINGER, b'\1\0\0\0\0\0\0\0')
         check(ask(server.port, 'GET', '/sites'), (200, b''), 'the next one')
         check(server.end(), (0, ['closed', 'door fault', 'answered 200']), 'the end')
