@@ -1,10 +1,14 @@
 -- The parts of an agent's round, one after another, and what is printed of each.
-use Rattle.std.proofs.Common.{◌≡◌, ◌≢◌, ◌⊎◌, inl, inr, ℕ, ℤ, FitsSigned, of_z, to_z, w64, List, [], ◌∷◌, ◌++◌, Option, Some, Err, refl, sym, ap, ◌∙◌, subst}
+use Rattle.std.proofs.Common.{◌≡◌, ◌≢◌, ◌⊎◌, inl, inr, ℕ, ℤ, FitsSigned, of_z, to_z, w64, List, [], ◌∷◌, ◌++◌, Option, Some, None, Ok, Err, refl, sym, ap, ◌∙◌, subst}
+use Rattle.std.specs.declared.result.Result.{Result}
+use Rattle.std.specs.declared.alloc.AllocError.{AllocError}
 use Rattle.std.proofs.lemmas.Int.{to_z-of_z}
 use Rattle.desk_base.specs.Moments.{AsksMoment}
 use Rattle.desk_base.specs.Views.{ClockView}
 use Rattle.desk_base.specs.declared.clock.Told.TheVariants as told
 use Rattle.desk_door.specs.Links.{LinkView}
+use Rattle.desk_rounds.specs.Ways.{OpensLink, Way, switched, way}
+use Rattle.desk_rounds.specs.declared.way.Upstreams.{Upstreams}
 use Rattle.agent_state.specs.States.{State}
 use Rattle.agent_core.specs.Devices.{Devices}
 use Rattle.agent_core.specs.declared.turned.Turned.{Turned}
@@ -19,8 +23,8 @@ use Rattle.desk_rounds.specs.declared.asking.Miss.{Miss}
 use Rattle.desk_rounds.specs.declared.asking.Miss.TheVariants as miss
 use Rattle.desk_rounds.specs.declared.part.Next.{Next}
 use Rattle.desk_rounds.specs.declared.part.Next.TheVariants as next
-use Rattle.desk_rounds.specs.AgentRounds.{AgentPoint, EndsQuietly, Ending, IsPrinted, Makes, PrintsRound, PrintsTurns, SaysLines, SaysMissed, TakesTurn, Then, TurnsAt, Within, end_of, lines_of_turns, missed_lines}
-use Rattle.desk_rounds.specs.Clients.{At, at}
+use Rattle.desk_rounds.specs.AgentRounds.{AgentPoint, AgentRound, EndsQuietly, Ending, IsPrinted, Makes, OpensFirst, PrintsRound, PrintsTurns, SaysBefore, SaysLines, SaysMissed, TakesTurn, Then, TurnsAt, WholeRound, Within, agent_point, end_of, lines_of_turns, missed_lines, point, short_end}
+use Rattle.desk_rounds.specs.Clients.{At, at, at_rest}
 use Rattle.desk_rounds.specs.Files.{GivenBy, GivesFromLink, files_at, unasked}
 use Rattle.desk_rounds.specs.Lines.{Line, lines_text, turned}
 use Rattle.desk_rounds.specs.Parts.{Part, Prints}
@@ -157,16 +161,62 @@ quiet_memory rounder moment answer missed out is =
     subst (λ a. PrintedTurns rounder moment a missed end.Memory out out) (sym is) ([], record { ended_is = refl; quiet = refl }, tt)
 
 -- ---- turns
+said_before : (said : List Line) (answer : Turned) (prints : RoundEnd → List Line → Type 0) (ended : RoundEnd) (more : List Line) → prints ended more
+    → SaysBefore said answer prints ended (said ++ more)
+said_before [] answer prints ended more is = is
+said_before (line ∷ said) answer prints ended more is = inl (more, is, refl)
+
+short_before : (said : List Line) (answer : Turned) (prints : RoundEnd → List Line → Type 0) (ended : RoundEnd) → said ≢ [] → ended ≡ short_end answer
+    → SaysBefore said answer prints ended []
+short_before [] answer prints ended some is = absurd (some refl)
+short_before (line ∷ said) answer prints ended some is = inr (record { ended_is = is; quiet = refl })
+
+prints_nothing : (ended : RoundEnd) (before after : List ℕ) → after ≡ before → PrintsRound ended [] before after
+prints_nothing end.Done before after same = same ∙ printed_first before
+prints_nothing end.ClockFault before after same = same ∙ printed_first before
+prints_nothing end.PocketFault before after same = same ∙ printed_first before
+prints_nothing end.Memory before after same = tt
+
+-- the line of the second upstream was said, where a file turned to it, and then what is printed of the turns
 pub turns_made : (rounder : Rounder) (moment : ℤ) (old : AgentPoint) (answer : Turned) (agent : State) (devices : Devices) (asked : List FileAsked)
-    (link : LinkView) (missed : Option Miss) (ended : RoundEnd) (before after : List ℕ)
-    → TurnsWithFiles GivesFromLink (record { moment = moment; offset = rounder.offset }) old.at.client old.devices (unasked old.at.link) answer agent
-    devices (files_at asked link missed)
-    → PrintedTurns rounder moment answer missed ended before after
-    → Makes (TurnsAt rounder moment) old before ended (record old { at = at agent link; devices = devices }) after
-turns_made rounder moment old answer agent devices asked link missed ended before after turns printed = record {
-  lines = printed.0;
-  does = (answer, agent, devices, files_at asked link missed, turns, printed.1, refl);
-  printed = printed.2;
+    (by : Way) (missed : Option Miss) (ended : RoundEnd) (before mid after : List ℕ)
+    → TurnsWithFiles GivesFromLink (record { moment = moment; offset = rounder.offset }) old.at.client old.devices (unasked old.at.way) answer agent
+    devices (files_at asked by missed)
+    → mid ≡ before ++ lines_text (switched old.at.way by) → PrintedTurns rounder moment answer missed ended mid after
+    → Makes (TurnsAt rounder moment) old before ended (record old { at = at agent by; devices = devices }) after
+turns_made rounder moment old answer agent devices asked by missed ended before mid after turns said printed = record {
+  lines = switched old.at.way by ++ printed.0;
+  does = (
+    answer,
+    agent,
+    devices,
+    files_at asked by missed,
+    turns,
+    said_before (switched old.at.way by) answer (PrintsTurns rounder moment answer missed) ended printed.0 printed.1,
+    refl,
+  );
+  printed = prints_both ended (switched old.at.way by) printed.0 before mid after said printed.2;
+}
+
+-- for that line there was no memory
+pub turns_short : (rounder : Rounder) (moment : ℤ) (old : AgentPoint) (answer : Turned) (agent : State) (devices : Devices) (asked : List FileAsked)
+    (by : Way) (missed : Option Miss) (ended : RoundEnd) (before after : List ℕ)
+    → TurnsWithFiles GivesFromLink (record { moment = moment; offset = rounder.offset }) old.at.client old.devices (unasked old.at.way) answer agent
+    devices (files_at asked by missed)
+    → switched old.at.way by ≢ [] → ended ≡ short_end answer → after ≡ before
+    → Makes (TurnsAt rounder moment) old before ended (record old { at = at agent by; devices = devices }) after
+turns_short rounder moment old answer agent devices asked by missed ended before after turns some is same = record {
+  lines = [];
+  does = (
+    answer,
+    agent,
+    devices,
+    files_at asked by missed,
+    turns,
+    short_before (switched old.at.way by) answer (PrintsTurns rounder moment answer missed) ended some is,
+    refl,
+  );
+  printed = prints_nothing ended before after same;
 }
 
 pub clock_made : (rounder : Rounder) (moment : ℤ) (old new : AgentPoint) (clock : ClockView) (ended : RoundEnd) (before after : List ℕ)
@@ -187,3 +237,59 @@ clock_failed rounder old clock out asks = record {
 pub line_at : (name : List ℕ) (moment : ℤ) (answer : Turned) (before after : List ℕ) → FitsSigned w64 moment
     → after ≡ before ++ turn_line name (to_z w64 (of_z w64 moment)) answer → after ≡ before ++ turn_line name moment answer
 line_at name moment answer before after fits is = is ∙ ap (λ m. before ++ turn_line name m answer) (to_z-of_z w64 moment fits)
+
+-- ---- the beginning and the end
+ok_ok : (second other : Option (List ℕ)) → ◌≡◌ {A = Result (Option (List ℕ)) AllocError} (Ok second) (Ok other) → second ≡ other
+ok_ok second other e = cc
+
+err_ok : (error : AllocError) (other : Option (List ℕ)) → ◌≡◌ {A = Result (Option (List ℕ)) AllocError} (Err error) (Ok other) → ⊥
+err_ok error other e = cc
+
+pub opened_first : (upstreams : Option Upstreams) (agent : State) (devices : Devices) (clock : ClockView) (old new : LinkView)
+    (second : Option (List ℕ)) (out : List ℕ) → OpensLink upstreams old (Ok second) new
+    → Makes (OpensFirst upstreams) (agent_point agent old devices clock) out end.Done (point agent (way new second) devices clock) out
+opened_first None agent devices clock old new second out opens = record {
+  lines = [];
+  does = (
+    record { ended_is = refl; quiet = refl },
+    ap (λ (l : LinkView). point agent (way l second) devices clock) opens.1
+        ∙ ap (λ (s : Option (List ℕ)). point agent (way old s) devices clock) (ok_ok second None opens.0),
+  );
+  printed = printed_first out;
+}
+opened_first (Some two) agent devices clock old new second out opens = record {
+  lines = [];
+  does = inl (
+    record { ended_is = refl; quiet = refl },
+    ap (λ (l : LinkView). point agent (way l second) devices clock) opens.1
+        ∙ ap (λ (s : Option (List ℕ)). point agent (way (record old { upstream = Some two.first }) s) devices clock) opens.0,
+  );
+  printed = printed_first out;
+}
+
+not_opened : (upstreams : Option Upstreams) (agent : State) (devices : Devices) (clock : ClockView) (old new : LinkView) (error : AllocError)
+    (out : List ℕ) → OpensLink upstreams old (Err error) new
+    → Makes (OpensFirst upstreams) (agent_point agent old devices clock) out end.Memory (agent_point agent new devices clock) out
+not_opened None agent devices clock old new error out opens = absurd (err_ok error None opens.0)
+not_opened (Some two) agent devices clock old new error out opens = record {
+  lines = [];
+  does = inr (record { ended_is = refl; quiet = refl }, ap (λ (l : LinkView). agent_point agent l devices clock) opens);
+  printed = tt;
+}
+
+pub unopened : (upstreams : Option Upstreams) (agent : State) (devices : Devices) (clock : ClockView) (old new : LinkView)
+    (result : Result (Option (List ℕ)) AllocError) (out : List ℕ) → ((second : Option (List ℕ)) → result ≢ Ok second)
+    → OpensLink upstreams old result new
+    → Makes (OpensFirst upstreams) (agent_point agent old devices clock) out end.Memory (agent_point agent new devices clock) out
+unopened upstreams agent devices clock old new (Ok second) out never opens = absurd (never second refl)
+unopened upstreams agent devices clock old new (Err error) out never opens = not_opened upstreams agent devices clock old new error out opens
+
+pub memory_done : end.Memory ≢ end.Done
+memory_done e = cc
+
+-- the next round begins with the first upstream
+pub makes_round : (rounder : Rounder) (old last : AgentPoint) (before after : List ℕ) (ended : RoundEnd)
+    → Makes (WholeRound rounder) old before ended last after
+    → Makes (AgentRound rounder) old before ended (record last { at = at_rest last.at }) after
+makes_round rounder old last before after ended made =
+    record { lines = made.lines; does = (last, made.does, refl); printed = made.printed }

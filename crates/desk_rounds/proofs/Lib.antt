@@ -6,3 +6,5 @@ mod Narrowing
 mod Parting
 mod Queues
 mod Rounding
+mod Saying
+mod Opening

@@ -5,7 +5,7 @@ use Rattle.std.specs.declared.result.Result.{Result}
 use Rattle.std.specs.declared.alloc.AllocError.{AllocError}
 use Rattle.std.proofs.lemmas.Bool.Decides.{nat_tests}
 use Rattle.std.proofs.lemmas.List.{length-append}
-use Rattle.desk_door.specs.Links.{LinkView}
+use Rattle.desk_rounds.specs.Ways.{Way, switched}
 use Rattle.fix_site.specs.Sites.{IsSite}
 use Rattle.fix_site.specs.declared.site.Site.{Site}
 use Rattle.report_text.specs.declared.report.Report.{Report}
@@ -22,7 +22,7 @@ use Rattle.desk_rounds.specs.Clients.{At, Client, SettlesAt, at}
 use Rattle.desk_rounds.specs.Gathering.{AsksWhere, GathersAll, GathersOne, KeepsCame, version_at}
 use Rattle.desk_rounds.specs.Lines.{Line, bad_answer, line_text, lines_text, no_answer}
 use Rattle.desk_rounds.specs.Parts.{DoesBoth, DoesEach, MissedBy, Part, Prints, SaysLine}
-use Rattle.desk_rounds.specs.Posting.{PostsAll, PostsAt, PostsOne, missed, next_posted, place_after, settled}
+use Rattle.desk_rounds.specs.Posting.{PostsAll, PostsAt, PostsOne, SettlesCame, missed, next_posted, place_after, settled}
 use Rattle.desk_rounds.specs.Replies.{JudgesReport, ListsSites, TellsSite}
 use Rattle.desk_rounds.specs.Requests.{report_request, site_request, sites_request}
 use Rattle.desk_rounds.proofs.Queues.{there_in}
@@ -129,30 +129,35 @@ module _ {K : Type 0} (c : Client K) where
       let test : nat_lt (version_at c old.client site.name) site.version ≡ false = grind (arith, nat_tests) in
       subst (λ b. AsksWhere c b site.name old next.Item [] old) (sym test) (record { then_is = refl; quiet = refl }, refl)
 
-  pub site_newer : (site : SiteVersion) (kept : ℕ) (old new : At K) (came : Result (Option Site) Miss) (then : Next) (lines : List Line)
-      → kept ≡ version_at c old.client site.name → kept < site.version
-      → AsksFor (site_request site.name kept) (TellsSite site.name) old.link came new.link → KeepsCame c came old.client then lines new.client
-      → GathersOne c site old then lines new
-  site_newer site kept old new came then lines is less asks keeps =
+  pub site_newer : (site : SiteVersion) (kept : ℕ) (old : At K) (between : Way) (client : K) (came : Result (Option Site) Miss) (then : Next)
+      (lines : List Line) → kept ≡ version_at c old.client site.name → kept < site.version
+      → AsksFor (site_request site.name kept) (TellsSite site.name) old.way came between → KeepsCame c came old.client then lines client
+      → GathersOne c site old then (switched old.way between ++ lines) (at client between)
+  site_newer site kept old between client came then lines is less asks keeps =
       let test : nat_lt (version_at c old.client site.name) site.version ≡ true = grind (arith, nat_tests) in
-      subst (λ b. AsksWhere c b site.name old then lines new) (sym test)
-      (came, subst (λ n. AsksFor (site_request site.name n) (TellsSite site.name) old.link came new.link) is asks, keeps)
+      subst (λ b. AsksWhere c b site.name old then (switched old.way between ++ lines) (at client between)) (sym test) (
+        came,
+        between,
+        subst (λ n. AsksFor (site_request site.name n) (TellsSite site.name) old.way came between) is asks,
+        (lines, (keeps, refl), refl),
+      )
 
-  pub came_good : (request name : List ℕ) (old new : LinkView) (came : Option Site) → AsksFor request (TellsSite name) old (Ok came) new
+  pub came_good : (request name : List ℕ) (old new : Way) (came : Option Site) → AsksFor request (TellsSite name) old (Ok came) new
       → IfSome came IsSite
   came_good request name old new None asks = tt
   came_good request name old new (Some site) asks = asks.2.3.good
 
   -- which sites there are
-  pub listed_gathered : (old new : At K) (link : LinkView) (sites shown : List SiteVersion) (then : Next) (lines : List Line)
-      → AsksFor sites_request ListsSites old.link (Ok sites) link → shown ≡ sites
-      → DoesEach (GathersOne c) shown (at old.client link) then lines new → GathersAll c old then lines new
-  listed_gathered old new link sites shown then lines asks is does =
-      (Ok sites, link, asks, subst (λ l. DoesEach (GathersOne c) l (at old.client link) then lines new) is does)
+  pub listed_gathered : (old new : At K) (between : Way) (sites shown : List SiteVersion) (then : Next) (lines : List Line)
+      → AsksFor sites_request ListsSites old.way (Ok sites) between → shown ≡ sites
+      → DoesEach (GathersOne c) shown (at old.client between) then lines new → GathersAll c old then (switched old.way between ++ lines) new
+  listed_gathered old new between sites shown then lines asks is does =
+      (Ok sites, between, asks, (lines, subst (λ l. DoesEach (GathersOne c) l (at old.client between) then lines new) is does, refl))
 
-  pub listed_missed : (old : At K) (link : LinkView) (why : Miss) (then : Next) (lines : List Line)
-      → AsksFor sites_request ListsSites old.link (Err why) link → MissedBy why then lines → GathersAll c old then lines (at old.client link)
-  listed_missed old link why then lines asks missed = (Err why, link, asks, (missed, refl))
+  pub listed_missed : (old : At K) (between : Way) (why : Miss) (then : Next) (lines : List Line)
+      → AsksFor sites_request ListsSites old.way (Err why) between → MissedBy why then lines
+      → GathersAll c old then (switched old.way between ++ lines) (at old.client between)
+  listed_missed old between why then lines asks missed = (Err why, between, asks, (lines, (missed, refl), refl))
 
   pub gathers_first : (sites : List SiteVersion) (old : At K) (out : List ℕ) → Gathered c sites old out 0 old out
   gathers_first sites old out = record { said = []; goes = goes_first (GathersOne c) sites old; printed = printed_first out }
@@ -219,42 +224,50 @@ module _ {K : Type 0} (c : Client K) where
   )
 
   -- ---- posting
-  asks_there : (there report : Report) (old new : LinkView) (came : Result Judged Miss) → there ≡ report
+  asks_there : (there report : Report) (old new : Way) (came : Result Judged Miss) → there ≡ report
       → AsksFor (report_request there) (JudgesReport c.asker) old came new → AsksFor (report_request report) (JudgesReport c.asker) old came new
   asks_there there report old new came is asks = subst (λ r. AsksFor (report_request r) (JudgesReport c.asker) old came new) is asks
 
-  -- something was said of the report at a place, and it was settled
-  pub posts_settled : (place : ℕ) (old new : At K) (there : Report) (said : Judged) (answer : Result Bool AllocError)
+  -- the report at a place was posted, and this came of it
+  posts_one : (old : At K) (between : Way) (client : K) (there report : Report) (came : Result Judged Miss) (then : Next) (lines : List Line)
+      → there ≡ report → AsksFor (report_request there) (JudgesReport c.asker) old.way came between
+      → SettlesCame c report came old.client then lines client
+      → PostsOne c report old then (switched old.way between ++ lines) (at client between)
+  posts_one old between client there report came then lines is asks settles =
+      (came, between, asks_there there report old.way between came is asks, (lines, (settles, refl), refl))
+
+  -- something was said of it, and it was settled
+  pub posts_settled : (place : ℕ) (old : At K) (between : Way) (client : K) (there : Report) (said : Judged) (answer : Result Bool AllocError)
       → there ≡ get_or (c.reports old.client) place there
-      → AsksFor (report_request there) (JudgesReport c.asker) old.link (Ok said) new.link
-      → SettlesAt c place said old.client answer new.client → PostsAt c place old (settled answer) [] new
-  posts_settled place old new there said (Ok true) is asks settles before after report split len =
+      → AsksFor (report_request there) (JudgesReport c.asker) old.way (Ok said) between → SettlesAt c place said old.client answer client
+      → PostsAt c place old (settled answer) (switched old.way between ++ []) (at client between)
+  posts_settled place old between client there said (Ok true) is asks settles before after report split len =
       let here = there_in (c.reports old.client) before after report there place split len is in
       let it = settles before after report split len in
-      ((Ok said, asks_there there report old.link new.link (Ok said) here asks, inl (record { then_is = refl; quiet = refl }, it.0)), it.1)
-  posts_settled place old new there said (Ok false) is asks settles before after report split len =
+      (posts_one old between client there report (Ok said) next.Item [] here asks (inl (record { then_is = refl; quiet = refl }, it.0)), it.1)
+  posts_settled place old between client there said (Ok false) is asks settles before after report split len =
       let here = there_in (c.reports old.client) before after report there place split len is in
       let it = settles before after report split len in
-      ((Ok said, asks_there there report old.link new.link (Ok said) here asks, inl (record { then_is = refl; quiet = refl }, it.0)), it.1)
-  posts_settled place old new there said (Err error) is asks settles before after report split len =
+      (posts_one old between client there report (Ok said) next.Item [] here asks (inl (record { then_is = refl; quiet = refl }, it.0)), it.1)
+  posts_settled place old between client there said (Err error) is asks settles before after report split len =
       let here = there_in (c.reports old.client) before after report there place split len is in
       let it = settles before after report split len in
-      (Ok said, asks_there there report old.link new.link (Ok said) here asks, inr (record { then_is = refl; quiet = refl }, it))
+      posts_one old between client there report (Ok said) next.Memory [] here asks (inr (record { then_is = refl; quiet = refl }, it))
 
   -- nothing came of posting it
-  pub posts_missed : (place : ℕ) (old : At K) (link : LinkView) (there : Report) (why : Miss) (then : Next) (lines : List Line)
+  pub posts_missed : (place : ℕ) (old : At K) (between : Way) (there : Report) (why : Miss) (then : Next) (lines : List Line)
       → there ≡ get_or (c.reports old.client) place there
-      → AsksFor (report_request there) (JudgesReport c.asker) old.link (Err why) link → MissedBy why then lines
-      → PostsAt c place old (missed then) lines (at old.client link)
-  posts_missed place old link there why next.Item lines is asks by before after report split len =
+      → AsksFor (report_request there) (JudgesReport c.asker) old.way (Err why) between → MissedBy why then lines
+      → PostsAt c place old (missed then) (switched old.way between ++ lines) (at old.client between)
+  posts_missed place old between there why next.Item lines is asks by before after report split len =
       let here = there_in (c.reports old.client) before after report there place split len is in
-      ((Err why, asks_there there report old.link link (Err why) here asks, (by, refl)), refl)
-  posts_missed place old link there why next.Part lines is asks by before after report split len =
+      (posts_one old between old.client there report (Err why) next.Item lines here asks (by, refl), refl)
+  posts_missed place old between there why next.Part lines is asks by before after report split len =
       let here = there_in (c.reports old.client) before after report there place split len is in
-      (Err why, asks_there there report old.link link (Err why) here asks, (by, refl))
-  posts_missed place old link there why next.Memory lines is asks by before after report split len =
+      posts_one old between old.client there report (Err why) next.Part lines here asks (by, refl)
+  posts_missed place old between there why next.Memory lines is asks by before after report split len =
       let here = there_in (c.reports old.client) before after report there place split len is in
-      (Err why, asks_there there report old.link link (Err why) here asks, (by, refl))
+      posts_one old between old.client there report (Err why) next.Memory lines here asks (by, refl)
 
   pub prints_missed : (then : Next) (lines : List Line) (before after : List ℕ) → Prints then lines before after
       → Prints (next_posted (missed then)) lines before after

@@ -12,26 +12,32 @@ use Rattle.agent_core.specs.declared.turned.Turned.TheVariants as of_turn
 use Rattle.turn_lines.specs.Givers.{GiverView}
 use Rattle.turn_lines.specs.TurnsWithFiles.{TurnsWithFiles}
 use Rattle.desk_rounds.specs.declared.agent_rounds.Rounder.{Rounder}
+use Rattle.desk_rounds.specs.declared.way.Upstreams.{Upstreams}
 use Rattle.desk_rounds.specs.declared.agent_rounds.RoundEnd.{RoundEnd}
 use Rattle.desk_rounds.specs.declared.agent_rounds.RoundEnd.TheVariants as end
 use Rattle.desk_rounds.specs.declared.asking.Miss.{Miss}
 use Rattle.desk_rounds.specs.declared.part.Next.{Next}
 use Rattle.desk_rounds.specs.declared.part.Next.TheVariants as next
-use Rattle.desk_rounds.specs.Clients.{At, agent_client, at}
+use Rattle.desk_rounds.specs.Clients.{At, agent_client, at, at_rest}
 use Rattle.desk_rounds.specs.Files.{FileSource, GivesFromLink, unasked}
 use Rattle.desk_rounds.specs.Gathering.{GathersAll}
 use Rattle.desk_rounds.specs.Lines.{Line, lines_text, miss_lines, turned}
 use Rattle.desk_rounds.specs.Parts.{Part}
 use Rattle.desk_rounds.specs.Posting.{PostsAll}
+use Rattle.desk_rounds.specs.Ways.{Way, switched, way}
 
--- what an agent's round goes on: the agent and what its link tells, what its machine and its pocket tell, and what its clock tells
+-- what an agent's round goes on: the agent and what it asks, what its machine and its pocket tell, and what its clock tells
 pub record AgentPoint : Type 0 where
   pub at : At State
   pub devices : Devices
   pub clock : ClockView
 
+abbrev pub point : State → Way → Devices → ClockView → AgentPoint
+point agent by devices clock = record { at = at agent by; devices = devices; clock = clock }
+
+-- between two rounds
 abbrev pub agent_point : State → LinkView → Devices → ClockView → AgentPoint
-agent_point agent link devices clock = record { at = at agent link; devices = devices; clock = clock }
+agent_point agent link devices clock = point agent (way link None) devices clock
 
 -- From what a round goes on to how it ends, the lines that are printed, and what it goes on then. Of a part it is whole where the round
 -- goes on with the next one.
@@ -60,6 +66,20 @@ abbrev pub Within : Part (At State) → Ending
 Within part old ended lines new =
     (then : Next) × (after : At State) × part old.at then lines after × (ended ≡ end_of then) × (new ≡ record old { at = after })
 
+-- it ends so, and no line of it is printed
+pub record EndsQuietly (wanted ended : RoundEnd) (lines : List Line) : Type 0 where
+  pub ended_is : ended ≡ wanted
+  pub quiet : lines ≡ []
+
+-- ---- the beginning
+-- Where there are two upstreams the link is opened to the first. Before that there may be no memory.
+abbrev pub OpensFirst : Option Upstreams → Ending
+OpensFirst None old ended lines new = EndsQuietly end.Done ended lines × (new ≡ old)
+OpensFirst (Some two) old ended lines new =
+    (EndsQuietly end.Done ended lines
+    × (new ≡ record old { at = at old.at.client (way (record old.at.way.link { upstream = Some two.first }) (Some two.second)) }))
+    ⊎ (EndsQuietly end.Memory ended lines × (new ≡ old))
+
 -- ---- the second part
 -- why a wanted file didn't come, where one didn't, and the turn
 abbrev pub missed_lines : Option Miss → List Line
@@ -78,11 +98,6 @@ lines_of_turns rounder moment answer missed = missed_lines missed ++ turned roun
 abbrev pub SaysLines : List Line → RoundEnd → List ℕ → List ℕ → Type 0
 SaysLines lines ended before after = ((ended ≡ end.Done) × (after ≡ before ++ lines_text lines)) ⊎ (ended ≡ end.Memory)
 
--- it ends so, and no line of it is printed
-pub record EndsQuietly (wanted ended : RoundEnd) (lines : List Line) : Type 0 where
-  pub ended_is : ended ≡ wanted
-  pub quiet : lines ≡ []
-
 -- it is whole, and this is printed of it
 pub record IsPrinted (said : List Line) (ended : RoundEnd) (lines : List Line) : Type 0 where
   pub ended_is : ended ≡ end.Done
@@ -95,17 +110,29 @@ PrintsTurns rounder moment of_turn.Memory missed ended lines = EndsQuietly end.M
 PrintsTurns rounder moment answer missed ended lines =
     IsPrinted (lines_of_turns rounder moment answer missed) ended lines ⊎ EndsQuietly end.Memory ended lines
 
+-- how it ends where there is no memory for a line of it: a fault of the pocket is told all the same
+abbrev pub short_end : Turned → RoundEnd
+short_end of_turn.PocketFault = end.PocketFault
+short_end answer = end.Memory
+
+-- Before that stands the line of the second upstream, where a file turned to it. For that there may be no memory either.
+abbrev pub SaysBefore : List Line → Turned → (RoundEnd → List Line → Type 0) → RoundEnd → List Line → Type 0
+SaysBefore [] answer prints ended lines = prints ended lines
+SaysBefore (line ∷ said) answer prints ended lines =
+    ((more : List Line) × prints ended more × (lines ≡ line ∷ said ++ more)) ⊎ EndsQuietly (short_end answer) ended lines
+
 -- what is left after turns, by what the giver of files told
 abbrev pub after_turns : AgentPoint → State → Devices → GiverView FileSource → AgentPoint
-after_turns old agent devices files = record old { at = at agent files.source.link; devices = devices }
+after_turns old agent devices files = record old { at = at agent files.source.way; devices = devices }
 
 -- Turns are made at the moment, with files from the link, while one is wanted.
 abbrev pub TurnsAt : Rounder → ℤ → Ending
 TurnsAt rounder moment old ended lines new =
     (answer : Turned) × (agent : State) × (devices : Devices) × (files : GiverView FileSource)
-    × TurnsWithFiles GivesFromLink (record { moment = moment; offset = rounder.offset }) old.at.client old.devices (unasked old.at.link)
+    × TurnsWithFiles GivesFromLink (record { moment = moment; offset = rounder.offset }) old.at.client old.devices (unasked old.at.way)
     answer agent devices files
-    × PrintsTurns rounder moment answer files.source.missed ended lines × (new ≡ after_turns old agent devices files)
+    × SaysBefore (switched old.at.way files.source.way) answer (PrintsTurns rounder moment answer files.source.missed) ended lines
+    × (new ≡ after_turns old agent devices files)
 
 -- what comes after the clock was asked
 abbrev pub AfterClock : Rounder → Told → Ending
@@ -123,10 +150,19 @@ TakesTurn rounder old ended lines new =
 abbrev pub RestOfRound : Rounder → Ending
 RestOfRound rounder = Then (TakesTurn rounder) (Within (PostsAll agent_client))
 
--- The newer sites are gathered, and then that. Where the round ends by a fault of the clock or the pocket, or by want of memory, this is
--- how far it came.
+-- The newer sites are gathered, and then that.
+abbrev pub GathersFirst : Rounder → Ending
+GathersFirst rounder = Then (Within (GathersAll agent_client)) (RestOfRound rounder)
+
+-- The link is opened to the first upstream, where there are two, and then that. Where the round ends by a fault of the clock or the pocket,
+-- or by want of memory, this is how far it came.
+abbrev pub WholeRound : Rounder → Ending
+WholeRound rounder = Then (OpensFirst rounder.upstreams) (GathersFirst rounder)
+
+-- A round, after which the next one begins with the first upstream.
 abbrev pub AgentRound : Rounder → Ending
-AgentRound rounder = Then (Within (GathersAll agent_client)) (RestOfRound rounder)
+AgentRound rounder old ended lines new =
+    (last : AgentPoint) × WholeRound rounder old ended lines last × (new ≡ record last { at = at_rest last.at })
 
 -- the text of the lines was appended, unless memory ran out: then what was appended is of no use
 abbrev pub PrintsRound : RoundEnd → List Line → List ℕ → List ℕ → Type 0

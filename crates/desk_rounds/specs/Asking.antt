@@ -1,13 +1,14 @@
 -- What comes of a request that a link is asked.
-use Rattle.std.specs.Prelude.{◌≡◌, ◌⊎◌, ℕ, List, Ok, Err, ⊤}
+use Rattle.std.specs.Prelude.{◌≡◌, ◌⊎◌, ◌++◌, ℕ, Bool, List, Option, Ok, Err, ⊤}
 use Rattle.std.specs.declared.result.Result.{Result}
 use Rattle.desk_door.specs.declared.link.Exchanged.{Exchanged}
 use Rattle.desk_door.specs.declared.link.Exchanged.TheVariants as of_exchange
-use Rattle.desk_door.specs.Links.{AsksOnce, LinkView}
 use Rattle.desk_http.specs.Replied.{IsNoReply, IsReply}
 use Rattle.desk_rounds.specs.declared.asking.Miss.{Miss}
 use Rattle.desk_rounds.specs.declared.asking.Reply.{Reply}
 use Rattle.desk_rounds.specs.declared.asking.Miss.TheVariants.{NoAnswer, BadAnswer, Memory}
+use Rattle.desk_rounds.specs.Lines.{lines_text}
+use Rattle.desk_rounds.specs.Ways.{Exchanges, Way, switched_now}
 
 -- which replies mean a value, by their status and their body: a row of the table
 abbrev pub Means : Type 0 → Type 1
@@ -26,18 +27,24 @@ abbrev pub IsBad : {V : Type 0} → Means V → List ℕ → Type 0
 IsBad means bytes = IsNoReply bytes ⊎ ((status : ℕ) × (body : List ℕ) × IsReply bytes status body × MeansNothing means status body)
 
 -- want of memory: the request was asked, whatever was answered, or it wasn't
-abbrev pub AsksInVain : List ℕ → LinkView → LinkView → Type 0
-AsksInVain request old new = ((answer : Exchanged) × AsksOnce request old answer new) ⊎ (new ≡ old)
+abbrev pub AsksInVain : List ℕ → Way → Way → Type 0
+AsksInVain request old new = ((answer : Exchanged) × Exchanges request old answer new) ⊎ (new ≡ old)
 
--- The link was asked a request, once, and this came of it: the value that the reply means; that there is no reply, as the exchange failed;
+-- A request was asked, and this came of it: the value that the reply means; that there is no reply, as the exchange failed;
 -- that it is none of those which may be; or want of memory.
-abbrev pub AsksFor : {V : Type 0} → List ℕ → Means V → LinkView → Result V Miss → LinkView → Type 0
+abbrev pub AsksFor : {V : Type 0} → List ℕ → Means V → Way → Result V Miss → Way → Type 0
 AsksFor request means old (Ok value) new =
-    (bytes : List ℕ) × AsksOnce request old (of_exchange.Reply bytes) new × IsGood means bytes value
-AsksFor request means old (Err NoAnswer) new = AsksOnce request old of_exchange.Failed new
+    (bytes : List ℕ) × Exchanges request old (of_exchange.Reply bytes) new × IsGood means bytes value
+AsksFor request means old (Err NoAnswer) new = Exchanges request old of_exchange.Failed new
 AsksFor request means old (Err BadAnswer) new =
-    (bytes : List ℕ) × AsksOnce request old (of_exchange.Reply bytes) new × IsBad means bytes
+    (bytes : List ℕ) × Exchanges request old (of_exchange.Reply bytes) new × IsBad means bytes
 AsksFor request means old (Err Memory) new = AsksInVain request old new
+
+-- what came of a request stays, and the line of the second upstream was appended, where that was turned to; or there was no memory for it.
+-- Only a private function cites this.
+abbrev pub Said : {V : Type 0} → Bool → Option (List ℕ) → Result V Miss → Result V Miss → List ℕ → List ℕ → Type 0
+Said before second came result old new =
+    ((result ≡ came) × (new ≡ old ++ lines_text (switched_now before second))) ⊎ (result ≡ Err Memory)
 
 -- the bytes of a reply were read as a value
 abbrev pub ReadsBytes : {V : Type 0} → Means V → List ℕ → Result V Miss → Type 0

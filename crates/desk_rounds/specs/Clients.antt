@@ -2,7 +2,6 @@
 use Rattle.std.specs.Prelude.{◌≡◌, ℕ, Bool, true, false, List, ◌∷◌, ◌++◌, length, Option, Some, None, Ok, Err}
 use Rattle.std.specs.declared.result.Result.{Result}
 use Rattle.std.specs.declared.alloc.AllocError.{AllocError}
-use Rattle.desk_door.specs.Links.{LinkView}
 use Rattle.fix_site.specs.declared.site.Site.{Site}
 use Rattle.report_text.specs.declared.answer.Gathered.{Gathered}
 use Rattle.report_text.specs.declared.answer.Verdict.{Verdict}
@@ -19,6 +18,9 @@ use Rattle.desk_rounds.specs.declared.judged.Asker.{Asker}
 use Rattle.desk_rounds.specs.declared.judged.Asker.TheVariants as asker
 use Rattle.desk_rounds.specs.declared.judged.Judged.{Judged}
 use Rattle.desk_rounds.specs.declared.judged.Judged.TheVariants as judged
+use Rattle.desk_rounds.specs.Lines.{Line}
+use Rattle.desk_rounds.specs.Parts.{Part}
+use Rattle.desk_rounds.specs.Ways.{Way, way}
 
 -- How a client goes about it, by what it keeps: its sort; its sites, and what becomes of one that it is to keep; the reports that it has to
 -- post, the oldest first, and what becomes of one of which an upstream said this.
@@ -86,13 +88,25 @@ agent_client = record {
   settles = λ agent report said after. (dropped : Bool) × SettlesState report.seq (verdict_of said) agent dropped after;
 }
 
--- ---- a client and its link
+-- ---- a client, and what it asks
 pub record At (K : Type 0) : Type 0 where
   pub client : K
-  pub link : LinkView
+  pub way : Way
 
-abbrev pub at : {K : Type 0} → K → LinkView → At K
-at client link = record { client = client; link = link }
+abbrev pub at : {K : Type 0} → K → Way → At K
+at client by = record { client = client; way = by }
+
+-- the round is over, and the next one begins with its first upstream
+abbrev pub at_rest : {K : Type 0} → At K → At K
+at_rest it = at it.client (way it.way.link None)
+
+-- these lines are printed, and then this is done
+abbrev pub AfterSaid : {K : Type 0} → List Line → Part (At K) → Part (At K)
+AfterSaid said rest old then lines new = (more : List Line) × rest old then more new × (lines ≡ said ++ more)
+
+-- what concerns the client alone
+abbrev pub OfClient : {K : Type 0} → Part K → Part (At K)
+OfClient does old then lines new = does old.client then lines new.client × (new.way ≡ old.way)
 
 module _ {K : Type 0} (c : Client K) where
   -- the report was settled, and it has gone from those that there are to post, or all of them are still there; or there was no memory

@@ -1,7 +1,6 @@
 -- Files that a link is asked for.
 use Rattle.std.specs.Prelude.{◌≡◌, ℕ, List, [], Option, Some, None, Ok, Err}
 use Rattle.std.specs.declared.result.Result.{Result}
-use Rattle.desk_door.specs.Links.{LinkView}
 use Rattle.turn_lines.specs.declared.giver.FileAsked.{FileAsked}
 use Rattle.turn_lines.specs.declared.giver.Given.{Given}
 use Rattle.turn_lines.specs.declared.giver.Given.TheVariants as given
@@ -12,10 +11,11 @@ use Rattle.desk_rounds.specs.declared.asking.Miss.TheVariants as miss
 use Rattle.desk_rounds.specs.Asking.{AsksFor}
 use Rattle.desk_rounds.specs.Replies.{TellsFile}
 use Rattle.desk_rounds.specs.Requests.{file_request}
+use Rattle.desk_rounds.specs.Ways.{Way}
 
--- what the link tells, and why the file that was asked for last didn't come, where one didn't
+-- what the files are asked of, and why the one that was asked for last didn't come, where one didn't
 pub record FileSource : Type 0 where
-  pub link : LinkView
+  pub way : Way
   pub missed : Option Miss
 
 -- what is answered by what came of asking for a file, and why it didn't come, where it didn't
@@ -27,13 +27,13 @@ GivenBy (Err why) old answer new = (answer ≡ given.NotGot) × (new ≡ Some wh
 -- The link is asked for the file of a digest.
 abbrev pub GivesFromLink : Gives FileSource
 GivesFromLink old digest answer new =
-    (came : Result (Option (List ℕ)) Miss) × AsksFor (file_request digest) TellsFile old.link came new.link
+    (came : Result (Option (List ℕ)) Miss) × AsksFor (file_request digest) TellsFile old.way came new.way
     × GivenBy came old.missed answer new.missed
 
 -- what a giver of such files tells
-abbrev pub files_at : List FileAsked → LinkView → Option Miss → GiverView FileSource
-files_at asked link missed = record { asked = asked; source = record { link = link; missed = missed } }
+abbrev pub files_at : List FileAsked → Way → Option Miss → GiverView FileSource
+files_at asked by missed = record { asked = asked; source = record { way = by; missed = missed } }
 
 -- nothing was asked for yet
-abbrev pub unasked : LinkView → GiverView FileSource
-unasked link = files_at [] link None
+abbrev pub unasked : Way → GiverView FileSource
+unasked by = files_at [] by None

@@ -2,7 +2,6 @@
 use Rattle.std.specs.Prelude.{◌≡◌, ℕ, nat_lt, List, Bool, true, false, Option, Some, None, Ok, Err}
 use Rattle.std.specs.declared.result.Result.{Result}
 use Rattle.fix_site.specs.declared.site.Site.{Site}
-use Rattle.desk_door.specs.Links.{LinkView}
 use Rattle.report_text.specs.declared.answer.Gathered.{Gathered}
 use Rattle.report_text.specs.declared.answer.Gathered.TheVariants as gathered
 use Rattle.server_text.specs.declared.site_versions.SiteVersion.{SiteVersion}
@@ -12,11 +11,12 @@ use Rattle.desk_rounds.specs.declared.asking.Miss.{Miss}
 use Rattle.desk_rounds.specs.declared.part.Next.{Next}
 use Rattle.desk_rounds.specs.declared.part.Next.TheVariants as next
 use Rattle.desk_rounds.specs.Asking.{AsksFor}
-use Rattle.desk_rounds.specs.Clients.{At, Client, at}
+use Rattle.desk_rounds.specs.Clients.{AfterSaid, At, Client, OfClient, at}
 use Rattle.desk_rounds.specs.Lines.{Line}
 use Rattle.desk_rounds.specs.Parts.{DoesEach, GoesTo, MissedBy, Part}
 use Rattle.desk_rounds.specs.Replies.{ListsSites, TellsSite}
 use Rattle.desk_rounds.specs.Requests.{site_request, sites_request}
+use Rattle.desk_rounds.specs.Ways.{Way, switched}
 
 -- what comes next after a site was to be kept
 abbrev pub next_kept : Gathered → Next
@@ -38,9 +38,9 @@ module _ {K : Type 0} (c : Client K) where
   -- The site of a name is asked for, with the version that is kept of it.
   abbrev pub AsksSite : List ℕ → Part (At K)
   AsksSite name old then lines new =
-      (came : Result (Option Site) Miss)
-      × AsksFor (site_request name (version_at old.client name)) (TellsSite name) old.link came new.link
-      × KeepsCame came old.client then lines new.client
+      (came : Result (Option Site) Miss) × (between : Way)
+      × AsksFor (site_request name (version_at old.client name)) (TellsSite name) old.way came between
+      × AfterSaid (switched old.way between) (OfClient (KeepsCame came)) (at old.client between) then lines new
 
   -- where it is newer
   abbrev pub AsksWhere : Bool → List ℕ → Part (At K)
@@ -59,5 +59,5 @@ module _ {K : Type 0} (c : Client K) where
   -- The newer sites are gathered.
   abbrev pub GathersAll : Part (At K)
   GathersAll old then lines new =
-      (came : Result (List SiteVersion) Miss) × (link : LinkView) × AsksFor sites_request ListsSites old.link came link
-      × GathersListed came (at old.client link) then lines new
+      (came : Result (List SiteVersion) Miss) × (between : Way) × AsksFor sites_request ListsSites old.way came between
+      × AfterSaid (switched old.way between) (GathersListed came) (at old.client between) then lines new

@@ -1,9 +1,10 @@
 pub mod Requests
 pub mod Judgements
 pub mod Replies
+pub mod Lines
+pub mod Ways
 pub mod Asking
 pub mod Listing
-pub mod Lines
 pub mod Parts
 pub mod Clients
 pub mod Gathering

@@ -10,6 +10,8 @@ pub data Line : Type 0 where
   no_answer : Line
   -- a reply is none of those which may be
   bad_answer : Line
+  -- the second upstream was turned to
+  second_upstream : Line
   -- a computer's turn at this moment came to this
   turned : (computer : List ℕ) (moment : ℤ) (answer : Turned) → Line
 
@@ -17,6 +19,7 @@ pub data Line : Type 0 where
 abbrev pub line_text : Line → List ℕ
 line_text no_answer = codes "link: no answer\n"
 line_text bad_answer = codes "link: bad answer\n"
+line_text second_upstream = codes "link: second\n"
 line_text (turned computer moment answer) = turn_line computer moment answer
 
 abbrev pub lines_text : List Line → List ℕ

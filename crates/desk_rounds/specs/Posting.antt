@@ -10,11 +10,12 @@ use Rattle.desk_rounds.specs.declared.part.Next.TheVariants as next
 use Rattle.desk_rounds.specs.declared.posting.Posted.{Posted}
 use Rattle.desk_rounds.specs.declared.posting.Posted.TheVariants as posted
 use Rattle.desk_rounds.specs.Asking.{AsksFor}
-use Rattle.desk_rounds.specs.Clients.{At, Client}
+use Rattle.desk_rounds.specs.Clients.{AfterSaid, At, Client, OfClient, at}
 use Rattle.desk_rounds.specs.Lines.{Line}
 use Rattle.desk_rounds.specs.Parts.{DoesEach, GoesTo, MissedBy, Part}
 use Rattle.desk_rounds.specs.Replies.{JudgesReport}
 use Rattle.desk_rounds.specs.Requests.{report_request}
+use Rattle.desk_rounds.specs.Ways.{Way, switched}
 
 module _ {K : Type 0} (c : Client K) where
   -- what came of posting a report: what was said of it is settled, and no line is printed of it; for that there may be no memory
@@ -26,8 +27,8 @@ module _ {K : Type 0} (c : Client K) where
   -- A report is posted.
   abbrev pub PostsOne : Report → Part (At K)
   PostsOne report old then lines new =
-      (came : Result Judged Miss) × AsksFor (report_request report) (JudgesReport c.asker) old.link came new.link
-      × SettlesCame report came old.client then lines new.client
+      (came : Result Judged Miss) × (between : Way) × AsksFor (report_request report) (JudgesReport c.asker) old.way came between
+      × AfterSaid (switched old.way between) (OfClient (SettlesCame report came)) (at old.client between) then lines new
 
   -- Each report that there is to post as the part begins is posted, the oldest first.
   abbrev pub PostsAll : Part (At K)

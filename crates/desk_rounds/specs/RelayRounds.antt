@@ -5,7 +5,7 @@ use Rattle.std.specs.declared.alloc.AllocError.{AllocError}
 use Rattle.relay_core.specs.Relays.{RelayState}
 use Rattle.desk_rounds.specs.declared.part.Next.{Next}
 use Rattle.desk_rounds.specs.declared.part.Next.TheVariants as next
-use Rattle.desk_rounds.specs.Clients.{At, relay_client}
+use Rattle.desk_rounds.specs.Clients.{At, at_rest, relay_client}
 use Rattle.desk_rounds.specs.Gathering.{GathersAll}
 use Rattle.desk_rounds.specs.Lines.{Line, lines_text}
 use Rattle.desk_rounds.specs.Parts.{DoesBoth, Part}
@@ -13,7 +13,8 @@ use Rattle.desk_rounds.specs.Posting.{PostsAll}
 
 -- The newer sites are gathered, and then the queued reports are posted.
 abbrev pub RelayRound : Part (At RelayState)
-RelayRound = DoesBoth (GathersAll relay_client) (PostsAll relay_client)
+RelayRound old then lines new =
+    (last : At RelayState) × DoesBoth (GathersAll relay_client) (PostsAll relay_client) old then lines last × (new ≡ at_rest last)
 
 -- A whole round was made, and its lines were appended.
 pub record MakesRelayRound (old : At RelayState) (before : List ℕ) (new : At RelayState) (after : List ℕ) : Type 0 where

@@ -5,14 +5,17 @@ ghost use Rattle.desk_rounds.specs.Clients.{at};
 ghost use Rattle.desk_rounds.specs.Gathering.{GathersAll, GathersOne, KeepsCame, next_kept};
 ghost use Rattle.desk_rounds.specs.Lines.{Line};
 ghost use Rattle.desk_rounds.specs.Parts.{DoesEach, Prints};
+ghost use Rattle.desk_rounds.specs.Ways.{way};
 
 use crate::asking::{ask_site, ask_sites};
 use crate::client::Client;
 use crate::line::say_miss;
 use crate::part::Next;
+use crate::way::said;
 use desk_base::Bytes;
 use desk_http::Link;
 use fix_site::Site;
+use rel_lexer::Text;
 use report_text::Gathered;
 use server_text::SiteVersion;
 use std::alloc::Global;
@@ -22,16 +25,19 @@ pub(crate) fn gather_sites<C: Client, L: Link>(
     alloc: Global,
     client: &mut C,
     link: &mut L,
+    second: &mut Option<Text>,
     out: &mut Bytes,
 ) -> Next
     requires { C.sound (C.told client.old) }
-    ensures gathers { (lines : List Line) × GathersAll C.rules (at (C.told client.old) (L.told link.old)) result lines
-        (at (C.told client.new) (L.told link.new)) × Prints result lines out.old out.new }
+    ensures gathers { (lines : List Line) × GathersAll C.rules (at (C.told client.old) (way (L.told link.old) second.old)) result lines
+        (at (C.told client.new) (way (L.told link.new) second.new)) × Prints result lines out.old out.new }
     ensures sound { C.sound (C.told client.new) }
     ensures fixed { C.fixed (C.told client.new) ≡ C.fixed (C.told client.old) }
 {
-    match ask_sites(alloc, link) {
-        Ok(sites) => gather_listed(alloc, client, link, sites.as_slice(), out),
+    let before = second.is_some();
+    let came = ask_sites(alloc, link, second);
+    match said(before, second, came, out) {
+        Ok(sites) => gather_listed(alloc, client, link, second, sites.as_slice(), out),
         Err(miss) => say_miss(miss, out),
     }
 }
@@ -41,17 +47,19 @@ fn gather_listed<C: Client, L: Link>(
     alloc: Global,
     client: &mut C,
     link: &mut L,
+    second: &mut Option<Text>,
     sites: &[SiteVersion],
     out: &mut Bytes,
 ) -> Next
     requires { C.sound (C.told client.old) }
-    ensures gathers { (lines : List Line) × DoesEach (GathersOne C.rules) sites.now (at (C.told client.old) (L.told link.old)) result lines
-        (at (C.told client.new) (L.told link.new)) × Prints result lines out.old out.new }
+    ensures gathers { (lines : List Line) × DoesEach (GathersOne C.rules) sites.now
+        (at (C.told client.old) (way (L.told link.old) second.old)) result lines (at (C.told client.new) (way (L.told link.new) second.new))
+        × Prints result lines out.old out.new }
     ensures sound { C.sound (C.told client.new) }
     ensures fixed { C.fixed (C.told client.new) ≡ C.fixed (C.told client.old) }
 {
     'sites: for site in sites {
-        match gather_site(alloc, client, link, site, out) {
+        match gather_site(alloc, client, link, second, site, out) {
             Next::Item => {}
             Next::Part => return Next::Part,
             Next::Memory => return Next::Memory,
@@ -65,12 +73,13 @@ fn gather_site<C: Client, L: Link>(
     alloc: Global,
     client: &mut C,
     link: &mut L,
+    second: &mut Option<Text>,
     site: &SiteVersion,
     out: &mut Bytes,
 ) -> Next
     requires { C.sound (C.told client.old) }
-    ensures gathers { (lines : List Line) × GathersOne C.rules site.now (at (C.told client.old) (L.told link.old)) result lines
-        (at (C.told client.new) (L.told link.new)) × Prints result lines out.old out.new }
+    ensures gathers { (lines : List Line) × GathersOne C.rules site.now (at (C.told client.old) (way (L.told link.old) second.old)) result
+        lines (at (C.told client.new) (way (L.told link.new) second.new)) × Prints result lines out.old out.new }
     ensures sound { C.sound (C.told client.new) }
     ensures fixed { C.fixed (C.told client.new) ≡ C.fixed (C.told client.old) }
 {
@@ -78,7 +87,9 @@ fn gather_site<C: Client, L: Link>(
     if site.version <= kept {
         return Next::Item;
     }
-    match ask_site(alloc, link, &site.name, kept) {
+    let before = second.is_some();
+    let came = ask_site(alloc, link, second, &site.name, kept);
+    match said(before, second, came, out) {
         Ok(came) => keep_came(alloc, client, came),
         Err(miss) => say_miss(miss, out),
     }

@@ -3,6 +3,7 @@
 #![tactic(auto)]
 
 mod agent_rounds;
+mod agent_turns;
 mod asking;
 mod client;
 mod files;
@@ -15,6 +16,8 @@ mod posting;
 mod relay_rounds;
 mod replies;
 mod requests;
+mod way;
 
 pub use agent_rounds::{RoundEnd, Rounder, agent_round};
 pub use relay_rounds::relay_round;
+pub use way::Upstreams;

@@ -2,6 +2,7 @@
 ghost use Rattle.std.specs.Prelude.{List};
 ghost use Rattle.desk_rounds.specs.Lines.{Line};
 ghost use Rattle.desk_rounds.specs.Parts.{MissedBy, Prints, SaysLine};
+ghost use Rattle.desk_rounds.specs.AgentRounds.{SaysMissed};
 
 use crate::asking::Miss;
 use crate::part::Next;
@@ -26,5 +27,15 @@ fn say(line: &[u8], then: Next, out: &mut Bytes) -> Next
     match out.extend(line) {
         Ok(()) => then,
         Err(_) => Next::Memory,
+    }
+}
+
+/// Appends why a wanted file didn't come, where one didn't.
+pub(crate) fn say_missed(missed: Option<Miss>, out: &mut Bytes) -> Next
+    ensures { SaysMissed missed result out.old out.new }
+{
+    match missed {
+        Some(miss) => say_miss(miss, out),
+        None => Next::Item,
     }
 }

@@ -1,6 +1,8 @@
 // An upstream round of a relay.
+ghost use Rattle.std.specs.Prelude.{None};
 ghost use Rattle.desk_rounds.specs.Clients.{at};
 ghost use Rattle.desk_rounds.specs.RelayRounds.{EndsRelayRound};
+ghost use Rattle.desk_rounds.specs.Ways.{way};
 
 use crate::gathering::gather_sites;
 use crate::part::Next;
@@ -18,13 +20,15 @@ pub fn relay_round<L: Link>(
     link: &mut L,
     out: &mut Bytes,
 ) -> Result<(), AllocError>
-    ensures { EndsRelayRound (at relay.old (L.told link.old)) out.old result (at relay.new (L.told link.new)) out.new }
+    ensures { EndsRelayRound (at relay.old (way (L.told link.old) None)) out.old result
+        (at relay.new (way (L.told link.new) None)) out.new }
 {
-    match gather_sites(alloc, relay, link, out) {
+    let mut second = None;
+    match gather_sites(alloc, relay, link, &mut second, out) {
         Next::Memory => return Err(AllocError),
         _ => {}
     }
-    match post_reports(alloc, relay, link, out) {
+    match post_reports(alloc, relay, link, &mut second, out) {
         Next::Memory => Err(AllocError),
         _ => Ok(()),
     }

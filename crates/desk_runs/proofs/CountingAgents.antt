@@ -1,5 +1,6 @@
 -- What an agent's rounds do to the counts of faults.
 use Rattle.std.proofs.Common.{◌≡◌, ◌≢◌, ◌⊎◌, ◌≤◌, ℕ, ◌+◌, ℤ, Bool, true, false, List, [], ◌∷◌, ◌++◌, map, None, Some, Result, Ok, Err, inl, inr, refl, sym, ap, ◌∙◌, subst, arith}
+use Rattle.std.specs.Prelude.{is_some}
 use Rattle.std.specs.declared.option.Option.{Option}
 use Rattle.desk_base.specs.Counts.{CountsFaults}
 use Rattle.desk_base.specs.Moments.{AsksMoment}
@@ -8,7 +9,7 @@ use Rattle.desk_base.specs.declared.clock.Told.{Told}
 use Rattle.desk_base.specs.declared.clock.Told.TheVariants as told
 use Rattle.bf_machine.specs.Rises.{RoseBy}
 use Rattle.bf_machine.proofs.Telling.{RoseBy-later, RoseBy-more, RoseBy-none, later-RoseBy}
-use Rattle.desk_door.specs.Links.{LinkView}
+use Rattle.script_run.specs.Asking.{When}
 use Rattle.agent_state.specs.States.{State}
 use Rattle.agent_core.specs.Devices.{Devices}
 use Rattle.agent_core.specs.Stops.{MachineHasCause, TurnHasCause}
@@ -26,8 +27,9 @@ use Rattle.desk_rounds.specs.declared.asking.Miss.{Miss}
 use Rattle.desk_rounds.specs.declared.asking.Miss.TheVariants as miss
 use Rattle.desk_rounds.specs.declared.part.Next.{Next}
 use Rattle.desk_rounds.specs.declared.part.Next.TheVariants as next
-use Rattle.desk_rounds.specs.AgentRounds.{AfterClock, AfterWhole, AgentPoint, AgentRound, Ending, EndsQuietly, IsPrinted, PrintsTurns, RestOfRound, TakesTurn, Then, TurnsAt, Within, end_of, lines_of_turns, missed_lines}
-use Rattle.desk_rounds.specs.Clients.{At, agent_client}
+use Rattle.desk_rounds.specs.AgentRounds.{AfterClock, AfterWhole, AgentPoint, AgentRound, Ending, EndsQuietly, GathersFirst, IsPrinted, OpensFirst, PrintsTurns, RestOfRound, SaysBefore, TakesTurn, Then, TurnsAt, WholeRound, Within, end_of, lines_of_turns, missed_lines, short_end}
+use Rattle.desk_rounds.specs.Asking.{AsksFor}
+use Rattle.desk_rounds.specs.Clients.{At, agent_client, at}
 use Rattle.desk_rounds.specs.Files.{FileSource, GivesFromLink, unasked}
 use Rattle.desk_rounds.specs.Gathering.{GathersAll}
 use Rattle.desk_rounds.specs.Lines.{Line, turned}
@@ -35,7 +37,9 @@ use Rattle.desk_rounds.specs.Parts.{Part}
 use Rattle.desk_rounds.specs.Posting.{PostsAll}
 use Rattle.desk_rounds.specs.Replies.{TellsFile}
 use Rattle.desk_rounds.specs.Requests.{file_request}
-use Rattle.desk_runs.proofs.CountingRounds.{Counts, asked_counts, fault_count, fewer, gathering_counts, gathering_quiet, missed_one, no_count, none_rises, of_link, posting_counts, posting_quiet, told_append, unanswered}
+use Rattle.desk_rounds.specs.Ways.{Way, switched, switched_now, way}
+use Rattle.desk_rounds.specs.declared.way.Upstreams.{Upstreams}
+use Rattle.desk_runs.proofs.CountingRounds.{Counts, asked_counts, fault_count, fewer, gathering_counts, gathering_quiet, missed_of, missed_one, no_count, none_rises, none_switched, of_link, posting_counts, posting_quiet, switched_silent, told_append, unanswered}
 use Rattle.desk_runs.specs.Counting.{machine_fault_told, no_answer_told, told_in}
 
 -- how many lines say that a look failed before an attempt began
@@ -44,7 +48,7 @@ unlooked lines = told_in machine_fault_told lines
 
 -- what a part of a round does to the counts: the clock's and the pocket's rise where it ends by their fault alone
 pub record CountsPart (old : AgentPoint) (ended : RoundEnd) (lines : List Line) (new : AgentPoint) : Type 0 where
-  pub link : RoseBy (unanswered lines) old.at.link.faults new.at.link.faults
+  pub link : RoseBy (unanswered lines) old.at.way.link.faults new.at.way.link.faults
   pub clock : CountsFaults (ended ≡ end.ClockFault) old.clock.faults new.clock.faults
   pub pocket : CountsFaults (ended ≡ end.PocketFault) old.devices.pocket.faults new.devices.pocket.faults
   pub machine : RoseBy (unlooked lines) old.devices.machine.faults new.devices.machine.faults
@@ -81,7 +85,7 @@ within part counts quiet old ended lines new (then, after, did, ended_is, new_is
     let clock_is = ap (λ (p : AgentPoint). p.clock.faults) new_is in
     let pocket_is = ap (λ (p : AgentPoint). p.devices.pocket.faults) new_is in
     let machine_is = ap (λ (p : AgentPoint). p.devices.machine.faults) new_is in
-    let Rose1 : AgentPoint → Type 0 = λ p. RoseBy (unanswered lines) old.at.link.faults p.at.link.faults in
+    let Rose1 : AgentPoint → Type 0 = λ p. RoseBy (unanswered lines) old.at.way.link.faults p.at.way.link.faults in
     record {
       link = subst Rose1 (sym new_is) (counts old.at then lines after did);
       clock = stayed old.clock.faults new.clock.faults (ended ≡ end.ClockFault) (λ e. not_clock then (sym ended_is ∙ e)) clock_is;
@@ -103,8 +107,8 @@ both old between new ended said more lines is p q =
     let told = ap unanswered is ∙ told_append no_answer_told said more in
     let looked = ap unlooked is ∙ told_append machine_fault_told said more in
     record {
-      link = fewer (unanswered lines) (unanswered said + unanswered more) old.at.link.faults new.at.link.faults (omega (arith, told))
-          (RoseBy-more (unanswered said) (unanswered more) old.at.link.faults between.at.link.faults new.at.link.faults p.link q.link);
+      link = fewer (unanswered lines) (unanswered said + unanswered more) old.at.way.link.faults new.at.way.link.faults (omega (arith, told))
+          (RoseBy-more (unanswered said) (unanswered more) old.at.way.link.faults between.at.way.link.faults new.at.way.link.faults p.link q.link);
       clock = counts_after old.clock.faults between.clock.faults new.clock.faults (ended ≡ end.ClockFault) (p.clock.steady done_clock) q.clock;
       pocket = counts_after old.devices.pocket.faults between.devices.pocket.faults new.devices.pocket.faults (ended ≡ end.PocketFault) (p.pocket.steady done_pocket) q.pocket;
       machine = fewer (unlooked lines) (unlooked said + unlooked more) old.devices.machine.faults new.devices.machine.faults (omega (arith, looked))
@@ -132,49 +136,61 @@ then_counts First Second f s old ended lines new (end.Memory, said, between, fir
 
 -- ---- files from the link
 -- one where the file that was asked for last didn't come as its exchange failed
-abbrev missed_in : Option Miss → ℕ
+abbrev pub missed_in : Option Miss → ℕ
 missed_in None = 0
 missed_in (Some why) = missed_one why
 
--- the link's count rose by that since it stood so
-abbrev MissedSince : ℕ → FileSource → Type 0
-MissedSince before s = RoseBy (missed_in s.missed) before s.link.faults
+-- since it stood so the link's count rose by that, and by the line of the second upstream, where a file turned to it
+abbrev pub MissedSince : Way → FileSource → Type 0
+MissedSince before s = RoseBy (unanswered (switched before s.way) + missed_in s.missed) before.link.faults s.way.link.faults
 
-kept_missed : (before : ℕ) (old new : FileSource) → old.link.faults ≤ new.link.faults → new.missed ≡ old.missed → MissedSince before old → MissedSince before new
-kept_missed before old new later same since =
-    let e = ap missed_in same in
-    fewer (missed_in new.missed) (missed_in old.missed + 0) before new.link.faults (omega (arith, e))
-    (RoseBy-more (missed_in old.missed) 0 before old.link.faults new.link.faults since (RoseBy-none old.link.faults new.link.faults later))
+-- a second upstream that was turned to in two stretches was turned to in one of them
+turned_in : (x y z : Option (List ℕ)) → unanswered (switched_now (is_some x) z) ≤ unanswered (switched_now (is_some x) y) + unanswered (switched_now (is_some y) z)
+turned_in None y z = omega arith
+turned_in (Some a) None None = omega arith
+turned_in (Some a) None (Some c) = omega arith
+turned_in (Some a) (Some b) None = omega arith
+turned_in (Some a) (Some b) (Some c) = omega arith
 
-now_missed : (before : ℕ) (why : Miss) (old new : FileSource) → before ≤ old.link.faults → new.missed ≡ Some why → RoseBy (missed_one why) old.link.faults new.link.faults
-    → MissedSince before new
-now_missed before why old new later is rose =
-    let e = ap missed_in is in
-    fewer (missed_in new.missed) (missed_one why) before new.link.faults (omega (arith, e))
-    (RoseBy-later (missed_one why) before old.link.faults new.link.faults later rose)
+-- one more file was asked for, and this is told of it
+rose_on : (before : Way) (n : ℕ) (old new : FileSource) → missed_in new.missed ≤ missed_in old.missed + n → MissedSince before old
+    → RoseBy (unanswered (switched old.way new.way) + n) old.way.link.faults new.way.link.faults → MissedSince before new
+rose_on before n old new few since rose =
+    let first = unanswered (switched before old.way) + missed_in old.missed in
+    let more = unanswered (switched old.way new.way) + n in
+    let turned = turned_in before.second old.way.second new.way.second in
+    fewer (unanswered (switched before new.way) + missed_in new.missed) (first + more) before.link.faults new.way.link.faults (omega (arith, few, turned))
+    (RoseBy-more first more before.link.faults old.way.link.faults new.way.link.faults since rose)
 
-gives_one : (before : ℕ) (digest : List ℕ) (old : FileSource) (answer : Given) (new : FileSource) → GivesFromLink old digest answer new → MissedSince before old → MissedSince before new
-gives_one before digest old answer new (Ok came, asks, by) since =
-    kept_missed before old new (later-RoseBy 0 old.link.faults new.link.faults (asked_counts (Option (List ℕ)) (file_request digest) TellsFile old.link (Ok came) new.link asks)) by.1 since
+asked_rose : (digest : List ℕ) (old new : Way) (came : Result (Option (List ℕ)) Miss) → AsksFor (file_request digest) TellsFile old came new
+    → RoseBy (unanswered (switched old new) + missed_of missed_one came) old.link.faults new.link.faults
+asked_rose digest old new came asks = asked_counts (Option (List ℕ)) (file_request digest) TellsFile old came new asks
+
+as_before : (old new : Option Miss) → new ≡ old → missed_in new ≤ missed_in old + 0
+as_before old new same = let e = ap missed_in same in omega (arith, e)
+
+as_now : (why : Miss) (old new : Option Miss) → new ≡ Some why → missed_in new ≤ missed_in old + missed_one why
+as_now why old new is = let e = ap missed_in is in omega (arith, e)
+
+gives_one : (before : Way) (digest : List ℕ) (old : FileSource) (answer : Given) (new : FileSource) → GivesFromLink old digest answer new → MissedSince before old → MissedSince before new
+gives_one before digest old answer new (Ok came, asks, by) since = rose_on before 0 old new (as_before old.missed new.missed by.1) since (asked_rose digest old.way new.way (Ok came) asks)
 gives_one before digest old answer new (Err miss.Memory, asks, by) since =
-    kept_missed before old new (later-RoseBy 0 old.link.faults new.link.faults (asked_counts (Option (List ℕ)) (file_request digest) TellsFile old.link (Err miss.Memory) new.link asks)) by.1 since
+    rose_on before 0 old new (as_before old.missed new.missed by.1) since (asked_rose digest old.way new.way (Err miss.Memory) asks)
 gives_one before digest old answer new (Err miss.NoAnswer, asks, by) since =
-    now_missed before miss.NoAnswer old new (later-RoseBy (missed_in old.missed) before old.link.faults since) by.1
-    (asked_counts (Option (List ℕ)) (file_request digest) TellsFile old.link (Err miss.NoAnswer) new.link asks)
+    rose_on before 1 old new (as_now miss.NoAnswer old.missed new.missed by.1) since (asked_rose digest old.way new.way (Err miss.NoAnswer) asks)
 gives_one before digest old answer new (Err miss.BadAnswer, asks, by) since =
-    now_missed before miss.BadAnswer old new (later-RoseBy (missed_in old.missed) before old.link.faults since) by.1
-    (asked_counts (Option (List ℕ)) (file_request digest) TellsFile old.link (Err miss.BadAnswer) new.link asks)
+    rose_on before 0 old new (as_now miss.BadAnswer old.missed new.missed by.1) since (asked_rose digest old.way new.way (Err miss.BadAnswer) asks)
 
-same_since : (before : ℕ) (old new : GiverView FileSource) → new ≡ old → MissedSince before old.source → MissedSince before new.source
+same_since : (before : Way) (old new : GiverView FileSource) → new ≡ old → MissedSince before old.source → MissedSince before new.source
 same_since before old new same since = let P : GiverView FileSource → Type 0 = λ g. MissedSince before g.source in subst P (sym same) since
 
-gives_all : (before : ℕ) (old : GiverView FileSource) (files : List FileAsked) (new : GiverView FileSource) → GivesAll GivesFromLink old files new → MissedSince before old.source
+gives_all : (before : Way) (old : GiverView FileSource) (files : List FileAsked) (new : GiverView FileSource) → GivesAll GivesFromLink old files new → MissedSince before old.source
     → MissedSince before new.source
 gives_all before old [] new same since = same_since before old new same since
 gives_all before old (asked ∷ files) new (between, gives, more) since =
     gives_all before between files new more (gives_one before asked.digest old.source asked.answer between.source gives.source since)
 
-closed : (before : ℕ) (last : Turned) (g : GiverView FileSource) (answer : Turned) (g2 : GiverView FileSource) → Closes GivesFromLink last g answer g2 → MissedSince before g.source
+closed : (before : Way) (last : Turned) (g : GiverView FileSource) (answer : Turned) (g2 : GiverView FileSource) → Closes GivesFromLink last g answer g2 → MissedSince before g.source
     → MissedSince before g2.source
 closed before of_turn.Idle g answer g2 (same, is) since = same_since before g g2 same since
 closed before (of_turn.Interrupted id) g answer g2 (same, is) since = same_since before g g2 same since
@@ -185,6 +201,16 @@ closed before (of_turn.Ended id began outcome fail) g answer g2 (same, is) since
 closed before of_turn.MachineFault g answer g2 (same, is) since = same_since before g g2 same since
 closed before of_turn.PocketFault g answer g2 (same, is) since = same_since before g g2 same since
 closed before of_turn.Memory g answer g2 (same, is) since = same_since before g g2 same since
+
+-- what turns with files leave
+pub turns_since : (at : When) (s : State) (d : Devices) (before : Way) (answer : Turned) (s2 : State) (d2 : Devices) (files : GiverView FileSource)
+    → TurnsWithFiles GivesFromLink at s d (unasked before) answer s2 d2 files → MissedSince before files.source
+turns_since at s d before answer s2 d2 files turns =
+    let here = before.link.faults in
+    let none = none_switched before.second in
+    let unasked_yet = fewer (unanswered (switched before before) + 0) 0 here here (omega (arith, none)) (RoseBy-none here here (omega arith)) in
+    let asked = gives_all before (unasked before) (map asked_by turns.turns.fetches) turns.told turns.turns.asked unasked_yet in
+    closed before turns.last turns.told answer files turns.closes asked
 
 -- ---- how turns end
 -- an answer is a fault of the pocket exactly where another one is
@@ -256,6 +282,13 @@ whole_or_memory answer said ended lines none (inr quiet) = record {
   to = λ e. absurd (none e);
   from = λ e. absurd (memory_pocket (sym quiet.ended_is ∙ e));
   clock = λ e. memory_clock (sym quiet.ended_is ∙ e);
+}
+
+memory_ends : (answer : Turned) (ended : RoundEnd) → ended ≡ end.Memory → (answer ≡ of_turn.PocketFault → ⊥) → EndsBy answer ended
+memory_ends answer ended is none = record {
+  to = λ e. absurd (none e);
+  from = λ e. absurd (memory_pocket (sym is ∙ e));
+  clock = λ e. memory_clock (sym is ∙ e);
 }
 
 -- the lines of turns tell no more than that a file didn't come
@@ -374,17 +407,53 @@ prints_so rounder moment of_turn.PocketFault missed ended lines quiet =
       looks = omega (arith, dark);
     }
 
+-- what is said before is told too, and how the round ends stays what it is
+record SaysSo (said : List Line) (answer : Turned) (missed : Option Miss) (ended : RoundEnd) (lines : List Line) : Type 0 where
+  ends : EndsBy answer ended
+  told : unanswered lines ≤ unanswered said + missed_in missed
+  looks : unlooked lines ≤ look_fault answer
+
+-- an end for want of memory for that
+short_ends : (answer : Turned) (ended : RoundEnd) → ended ≡ short_end answer → EndsBy answer ended
+short_ends of_turn.PocketFault ended is = record { to = λ e. is; from = λ e. refl; clock = λ e. pocket_clock (sym is ∙ e) }
+short_ends of_turn.Idle ended is = memory_ends of_turn.Idle ended is (λ e. cc)
+short_ends (of_turn.Interrupted id) ended is = memory_ends (of_turn.Interrupted id) ended is (λ e. cc)
+short_ends (of_turn.Held id began component line) ended is = memory_ends (of_turn.Held id began component line) ended is (λ e. cc)
+short_ends (of_turn.Wants id began digest) ended is = memory_ends (of_turn.Wants id began digest) ended is (λ e. cc)
+short_ends (of_turn.Ended id began outcome fail) ended is = memory_ends (of_turn.Ended id began outcome fail) ended is (λ e. cc)
+short_ends of_turn.MachineFault ended is = memory_ends of_turn.MachineFault ended is (λ e. cc)
+short_ends of_turn.Memory ended is = memory_ends of_turn.Memory ended is (λ e. cc)
+
+says_so : (rounder : Rounder) (moment : ℤ) (said : List Line) (answer : Turned) (missed : Option Miss) (ended : RoundEnd) (lines : List Line) → unlooked said ≡ 0
+    → SaysBefore said answer (PrintsTurns rounder moment answer missed) ended lines → SaysSo said answer missed ended lines
+says_so rounder moment [] answer missed ended lines dark prints =
+    let so = prints_so rounder moment answer missed ended lines prints in
+    let told = so.told in
+    record { ends = so.ends; told = omega (arith, told); looks = so.looks }
+says_so rounder moment (line ∷ said) answer missed ended lines dark (inl (more, prints, is)) =
+    let so = prints_so rounder moment answer missed ended more prints in
+    let told = ap unanswered is ∙ told_append no_answer_told (line ∷ said) more in
+    let told_more = so.told in
+    let looks = ap unlooked is ∙ told_append machine_fault_told (line ∷ said) more in
+    let looks_more = so.looks in
+    record { ends = so.ends; told = omega (arith, told, told_more); looks = omega (arith, looks, looks_more, dark) }
+says_so rounder moment (line ∷ said) answer missed ended lines dark (inr quiet) =
+    let none = ap unanswered quiet.quiet in
+    let unlit = ap unlooked quiet.quiet in
+    record { ends = short_ends answer ended quiet.ended_is; told = omega (arith, none); looks = omega (arith, unlit) }
+
 -- ---- the turn of a round
 turns_counted : (rounder : Rounder) (moment : ℤ) → AreCounted (TurnsAt rounder moment)
 turns_counted rounder moment old ended lines new (answer, agent, after, files, turns, prints, new_is) =
     let made = turns.turns in
-    let so = prints_so rounder moment answer files.source.missed ended lines prints in
+    let said = switched old.at.way files.source.way in
+    let dark = switched_silent machine_fault_told refl (is_some old.at.way.second) files.source.way.second in
+    let so = says_so rounder moment said answer files.source.missed ended lines dark prints in
     let by = so.ends in
     let closes = closes_alike turns.last turns.told answer files turns.closes in
     let begun = begun_alike (any_begun made.fetches) made.last in
-    let here = old.at.link.faults in
-    let asked = gives_all here (unasked old.at.link) (map asked_by made.fetches) turns.told made.asked (RoseBy-none here here (omega arith)) in
-    let since = closed here turns.last turns.told answer files turns.closes asked in
+    let here = old.at.way.link.faults in
+    let since = turns_since (record { moment = moment; offset = rounder.offset }) old.at.client old.devices old.at.way answer agent after files turns in
     let machine_last = RoseBy-later (look_fault made.last) old.devices.machine.faults made.devices.machine.faults after.machine.faults made.machine
     (machine_rise made.devices.machine.faults after.machine.faults made.last made.cause.machine) in
     let told_last = closes_fault turns.last turns.told answer files turns.closes in
@@ -395,7 +464,7 @@ turns_counted rounder moment old ended lines new (answer, agent, after, files, t
     (λ e. by.to (closes.from (made.answers ∙ begun.from e))) (λ e. begun.to (sym made.answers ∙ closes.to (by.from e))) pocket_last in
     let Counted : AgentPoint → Type 0 = λ p. CountsPart old ended lines p in
     subst Counted (sym new_is) (record {
-      link = fewer (unanswered lines) (missed_in files.source.missed) here files.source.link.faults so.told since;
+      link = fewer (unanswered lines) (unanswered said + missed_in files.source.missed) here files.source.way.link.faults so.told since;
       clock = stayed old.clock.faults old.clock.faults (ended ≡ end.ClockFault) by.clock refl;
       pocket = pocket_ended;
       machine = fewer (unlooked lines) (look_fault made.last) old.devices.machine.faults after.machine.faults (omega (arith, told_looks, told_last, told_first)) machine_last;
@@ -416,7 +485,7 @@ turn_counted rounder old ended lines new (told.Moment moment, clock, asks, turns
 turn_counted rounder old ended lines new (told.Failed, clock, asks, (quiet, new_is)) =
     let none = ap unanswered quiet.quiet in
     let dark = ap unlooked quiet.quiet in
-    let here = old.at.link.faults in
+    let here = old.at.way.link.faults in
     let Counted : AgentPoint → Type 0 = λ p. CountsPart old ended lines p in
     subst Counted (sym new_is) (record {
       link = fewer (unanswered lines) 0 here here (omega (arith, none)) (RoseBy-none here here (omega arith));
@@ -426,7 +495,38 @@ turn_counted rounder old ended lines new (told.Failed, clock, asks, (quiet, new_
     })
 
 -- ---- the round
+-- a part that changes no count and prints nothing
+quiet_counts : (old between new : AgentPoint) (wanted ended : RoundEnd) (lines : List Line) → (wanted ≡ end.ClockFault → ⊥) → (wanted ≡ end.PocketFault → ⊥) → EndsQuietly wanted ended lines → new ≡ between
+    → between.at.way.link.faults ≡ old.at.way.link.faults → between.clock ≡ old.clock → between.devices ≡ old.devices → CountsPart old ended lines new
+quiet_counts old between new wanted ended lines no_clock no_pocket quiet same link clock devices =
+    let none = ap unanswered quiet.quiet in
+    let dark = ap unlooked quiet.quiet in
+    let machine_is = ap (λ (d : Devices). d.machine.faults) devices in
+    let Counted : AgentPoint → Type 0 = λ p. CountsPart old ended lines p in
+    subst Counted (sym same) (record {
+      link = fewer (unanswered lines) 0 old.at.way.link.faults between.at.way.link.faults (omega (arith, none)) (RoseBy-none old.at.way.link.faults between.at.way.link.faults (omega (arith, link)));
+      clock = stayed old.clock.faults between.clock.faults (ended ≡ end.ClockFault) (λ e. no_clock (sym quiet.ended_is ∙ e)) (ap (λ (c : ClockView). c.faults) clock);
+      pocket = stayed old.devices.pocket.faults between.devices.pocket.faults (ended ≡ end.PocketFault) (λ e. no_pocket (sym quiet.ended_is ∙ e)) (ap (λ (d : Devices). d.pocket.faults) devices);
+      machine = fewer (unlooked lines) 0 old.devices.machine.faults between.devices.machine.faults (omega (arith, dark))
+          (RoseBy-none old.devices.machine.faults between.devices.machine.faults (omega (arith, machine_is)));
+    })
+
+-- the link is opened to the first of two upstreams, which changes no count and prints nothing
+opens_counted : (upstreams : Option Upstreams) → AreCounted (OpensFirst upstreams)
+opens_counted None old ended lines new (quiet, same) = quiet_counts old old new end.Done ended lines done_clock done_pocket quiet same refl refl refl
+opens_counted (Some two) old ended lines new (inl (quiet, same)) =
+    let opened : AgentPoint = record old { at = at old.at.client (way (record old.at.way.link { upstream = Some two.first }) (Some two.second)) } in
+    quiet_counts old opened new end.Done ended lines done_clock done_pocket quiet same refl refl refl
+opens_counted (Some two) old ended lines new (inr (quiet, same)) = quiet_counts old old new end.Memory ended lines memory_clock memory_pocket quiet same refl refl refl
+
+whole_counts : (rounder : Rounder) → AreCounted (WholeRound rounder)
+whole_counts rounder =
+    then_counts (OpensFirst rounder.upstreams) (GathersFirst rounder) (opens_counted rounder.upstreams)
+    (then_counts (Within (GathersAll agent_client)) (RestOfRound rounder) (within (GathersAll agent_client) (gathering_counts agent_client) (gathering_quiet agent_client))
+    (then_counts (TakesTurn rounder) (Within (PostsAll agent_client)) (turn_counted rounder) (within (PostsAll agent_client) (posting_counts agent_client) (posting_quiet agent_client))))
+
 pub round_counted : (rounder : Rounder) → AreCounted (AgentRound rounder)
-round_counted rounder =
-    then_counts (Within (GathersAll agent_client)) (RestOfRound rounder) (within (GathersAll agent_client) (gathering_counts agent_client) (gathering_quiet agent_client))
-    (then_counts (TakesTurn rounder) (Within (PostsAll agent_client)) (turn_counted rounder) (within (PostsAll agent_client) (posting_counts agent_client) (posting_quiet agent_client)))
+round_counted rounder old ended lines new (last, did, is) =
+    let counts = whole_counts rounder old ended lines last did in
+    let Counted : AgentPoint → Type 0 = λ p. CountsPart old ended lines p in
+    subst Counted (sym is) (record { link = counts.link; clock = counts.clock; pocket = counts.pocket; machine = counts.machine })

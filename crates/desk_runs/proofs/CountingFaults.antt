@@ -1,6 +1,6 @@
 -- A run of an agent is calls of it, one after another, whose turns tell at least as many faults of the machine as its lines do.
 use Rattle.std.proofs.Common.{◌≡◌, ◌⊎◌, ◌≤◌, ℕ, ◌+◌, ℤ, Bool, true, false, List, [], ◌∷◌, ◌++◌, None, Some, Result, Ok, Err, inl, inr, refl, sym, ap, ◌∙◌, subst, arith}
-use Rattle.std.specs.Prelude.{nat_lt}
+use Rattle.std.specs.Prelude.{is_some, nat_lt}
 use Rattle.std.specs.declared.option.Option.{Option}
 use Rattle.desk_base.specs.declared.clock.Told.TheVariants as told
 use Rattle.bf_machine.specs.Rises.{RoseBy}
@@ -30,18 +30,20 @@ use Rattle.desk_rounds.specs.declared.asking.Miss.TheVariants as miss
 use Rattle.desk_rounds.specs.declared.judged.Judged.{Judged}
 use Rattle.desk_rounds.specs.declared.part.Next.{Next}
 use Rattle.desk_rounds.specs.declared.part.Next.TheVariants as next
-use Rattle.desk_rounds.specs.AgentRounds.{AgentPoint, AgentRound, Ending, EndsQuietly, IsPrinted, PrintsTurns, RestOfRound, TakesTurn, Then as ThenPart, TurnsAt, Within, lines_of_turns, missed_lines}
+use Rattle.desk_rounds.specs.AgentRounds.{AgentPoint, AgentRound, Ending, EndsQuietly, GathersFirst, IsPrinted, OpensFirst, PrintsTurns, RestOfRound, SaysBefore, TakesTurn, Then as ThenPart, TurnsAt, WholeRound, Within, lines_of_turns, missed_lines, short_end}
 use Rattle.desk_rounds.specs.Clients.{At, agent_client, at, verdict_of}
 use Rattle.desk_rounds.specs.Files.{FileSource, GivesFromLink}
 use Rattle.desk_rounds.specs.Gathering.{AsksWhere, GathersAll, GathersOne, KeepsCame, version_at}
 use Rattle.desk_rounds.specs.Lines.{Line, miss_lines, turned}
 use Rattle.desk_rounds.specs.Parts.{AfterItem, DoesEach, Part}
 use Rattle.desk_rounds.specs.Posting.{PostsAll, PostsOne, SettlesCame}
+use Rattle.desk_rounds.specs.Ways.{switched, way}
+use Rattle.desk_rounds.specs.declared.way.Upstreams.{Upstreams}
 use Rattle.desk_runs.specs.AgentRuns.{AgentRun, Begun, Runs, Then}
 use Rattle.desk_runs.specs.AgentSteps.{AgentScene}
 use Rattle.desk_runs.specs.Counting.{WasOpened, told_in, told_of_rounds, turn_fault_told}
 use Rattle.desk_runs.proofs.ShownTurns.{Has, shown, turn_shown}
-use Rattle.desk_runs.proofs.CountingRounds.{Counts, asked_quiet, fewer, gathers_all, no_count, no_one, none_rises, of_link, posts_all, told_append}
+use Rattle.desk_runs.proofs.CountingRounds.{Counts, asked_silent, fewer, gathers_all, no_count, no_one, none_rises, of_link, posts_all, switched_silent, told_append}
 
 -- how many faults of the machine lines tell
 abbrev faults_in : List Line → ℕ
@@ -131,7 +133,7 @@ keeps_walk (Ok None) old then lines new (goes, same) saved faults = same_state o
 keeps_walk (Err why) old then lines new (by, same) saved faults = same_state old new saved faults same
 
 asks_where : (newer : Bool) (name : List ℕ) → Walks (AsksWhere agent_client newer name)
-asks_where true name old then lines new (came, asks, keeps) saved faults = keeps_walk came old.client then lines new.client keeps saved faults
+asks_where true name old then lines new (came, between, asks, (more, (keeps, stays), is)) saved faults = keeps_walk came old.client then more new.client keeps saved faults
 asks_where false name old then lines new (goes, same) saved faults = same_at old new saved faults same
 
 gathers_one : (site : SiteVersion) → Walks (GathersOne agent_client site)
@@ -139,9 +141,9 @@ gathers_one site old then lines new it saved faults =
     asks_where (nat_lt (version_at agent_client old.client site.name) site.version) site.name old then lines new it saved faults
 
 gathering_walks : Walks (GathersAll agent_client)
-gathering_walks old then lines new (Ok sites, link, asks, listed) saved faults =
-    does_each (GathersOne agent_client) sites gathers_one (at old.client link) then lines new listed saved faults
-gathering_walks old then lines new (Err why, link, asks, (by, same)) saved faults = same_at (at old.client link) new saved faults same
+gathering_walks old then lines new (Ok sites, between, asks, (more, listed, is)) saved faults =
+    does_each (GathersOne agent_client) sites gathers_one (at old.client between) then more new listed saved faults
+gathering_walks old then lines new (Err why, between, asks, (more, (by, same), is)) saved faults = same_at (at old.client between) new saved faults same
 
 settles_walk : (report : Report) (came : Result Judged Miss) (old : State) (then : Next) (lines : List Line) (new : State) → SettlesCame agent_client report came old then lines new
     → (saved : Option (List ℕ)) (faults : ℕ) → Made (point old saved faults) 0 (point new saved faults)
@@ -151,7 +153,7 @@ settles_walk report (Ok judged) old then lines new (inr (goes, same)) saved faul
 settles_walk report (Err why) old then lines new (by, same) saved faults = same_state old new saved faults same
 
 posts_one : (report : Report) → Walks (PostsOne agent_client report)
-posts_one report old then lines new (came, asks, settled) saved faults = settles_walk report came old.client then lines new.client settled saved faults
+posts_one report old then lines new (came, between, asks, (more, (settled, stays), is)) saved faults = settles_walk report came old.client then more new.client settled saved faults
 
 posting_walks : Walks (PostsAll agent_client)
 posting_walks old then lines new it saved faults = does_each (PostsOne agent_client) (agent_client.reports old.client) posts_one old then lines new it saved faults
@@ -163,10 +165,10 @@ miss_tells miss.BadAnswer = omega arith
 miss_tells miss.Memory = omega arith
 
 gathering_tells : Counts turn_fault_told (of_link no_count) (GathersAll agent_client)
-gathering_tells = gathers_all turn_fault_told no_one no_count miss_tells asked_quiet agent_client
+gathering_tells = gathers_all turn_fault_told no_one no_count miss_tells (asked_silent turn_fault_told refl) agent_client
 
 posting_tells : Counts turn_fault_told (of_link no_count) (PostsAll agent_client)
-posting_tells = posts_all turn_fault_told no_one no_count miss_tells asked_quiet agent_client
+posting_tells = posts_all turn_fault_told no_one no_count miss_tells (asked_silent turn_fault_told refl) agent_client
 
 -- ---- the agent with its devices
 -- from one state and what the devices tell to others: whatever text the pocket has, where it tells none, it has some text then
@@ -291,6 +293,15 @@ prints_tell rounder moment of_turn.MachineFault missed ended lines it = either_t
 prints_tell rounder moment of_turn.Memory missed ended lines quiet = quiet_tells end.Memory ended of_turn.Memory lines quiet
 prints_tell rounder moment of_turn.PocketFault missed ended lines quiet = quiet_tells end.PocketFault ended of_turn.PocketFault lines quiet
 
+says_tell : (rounder : Rounder) (moment : ℤ) (said : List Line) (answer : Turned) (missed : Option Miss) (ended : RoundEnd) (lines : List Line) → faults_in said ≡ 0
+    → SaysBefore said answer (PrintsTurns rounder moment answer missed) ended lines → faults_in lines ≤ fault_told answer
+says_tell rounder moment [] answer missed ended lines none prints = prints_tell rounder moment answer missed ended lines prints
+says_tell rounder moment (line ∷ said) answer missed ended lines none (inl (more, prints, is)) =
+    let e = ap faults_in is ∙ told_append turn_fault_told (line ∷ said) more in
+    let few = prints_tell rounder moment answer missed ended more prints in
+    omega (arith, e, few, none)
+says_tell rounder moment (line ∷ said) answer missed ended lines none (inr quiet) = quiet_tells (short_end answer) ended answer lines quiet
+
 -- ---- the round
 abbrev CarriedTo : AgentPoint → List Line → AgentPoint → Type 0
 CarriedTo old lines new = Carried old.at.client old.devices (faults_in lines) new.at.client new.devices
@@ -333,7 +344,9 @@ turns_carried rounder moment old ended lines new (answer, agent, after, files, a
     let before = fetches time old.at.client old.devices made.fetches made.between made.devices made.fetched in
     let last = one_turn time made.between made.devices made.last agent after made.turns in
     let whole = carried_both old.at.client made.between agent old.devices made.devices after 0 (fault_told made.last) before last in
-    let printed = prints_tell rounder moment answer files.source.missed ended lines prints in
+    let said = switched old.at.way files.source.way in
+    let none = switched_silent turn_fault_told refl (is_some old.at.way.second) files.source.way.second in
+    let printed = says_tell rounder moment said answer files.source.missed ended lines none prints in
     let closed = closes_tells all.last all.told answer files all.closes in
     let began = ap fault_told made.answers ∙ begun_tells (any_begun made.fetches) made.last in
     let To : AgentPoint → Type 0 = λ p. CarriedTo old lines p in
@@ -346,10 +359,28 @@ turn_carried rounder old ended lines new (told.Failed, clock, asks, (quiet, new_
     let To : AgentPoint → Type 0 = λ p. CarriedTo old lines p in
     subst To (sym new_is) (carried_less old.at.client old.at.client old.devices old.devices (faults_in lines) 0 (omega (arith, none)) (carried_none old.at.client old.devices))
 
+-- the agent and its devices stay what they are
+quiet_carried : (old between new : AgentPoint) (wanted ended : RoundEnd) (lines : List Line) → EndsQuietly wanted ended lines → new ≡ between → CarriedTo old [] between → CarriedTo old lines new
+quiet_carried old between new wanted ended lines quiet same it = ended_so old between new [] lines quiet.quiet same it
+
+opens_carried : (upstreams : Option Upstreams) → AreCarried (OpensFirst upstreams)
+opens_carried None old ended lines new (quiet, same) = quiet_carried old old new end.Done ended lines quiet same (carried_none old.at.client old.devices)
+opens_carried (Some two) old ended lines new (inl (quiet, same)) =
+    let opened : AgentPoint = record old { at = at old.at.client (way (record old.at.way.link { upstream = Some two.first }) (Some two.second)) } in
+    quiet_carried old opened new end.Done ended lines quiet same (carried_none old.at.client old.devices)
+opens_carried (Some two) old ended lines new (inr (quiet, same)) = quiet_carried old old new end.Memory ended lines quiet same (carried_none old.at.client old.devices)
+
+whole_carried : (rounder : Rounder) → AreCarried (WholeRound rounder)
+whole_carried rounder =
+    then_carried (OpensFirst rounder.upstreams) (GathersFirst rounder) (opens_carried rounder.upstreams)
+    (then_carried (Within (GathersAll agent_client)) (RestOfRound rounder) (within (GathersAll agent_client) gathering_walks gathering_tells)
+    (then_carried (TakesTurn rounder) (Within (PostsAll agent_client)) (turn_carried rounder) (within (PostsAll agent_client) posting_walks posting_tells)))
+
 round_carried : (rounder : Rounder) → AreCarried (AgentRound rounder)
-round_carried rounder =
-    then_carried (Within (GathersAll agent_client)) (RestOfRound rounder) (within (GathersAll agent_client) gathering_walks gathering_tells)
-    (then_carried (TakesTurn rounder) (Within (PostsAll agent_client)) (turn_carried rounder) (within (PostsAll agent_client) posting_walks posting_tells))
+round_carried rounder old ended lines new (last, did, is) =
+    let To : AgentPoint → Type 0 = λ p. CarriedTo old lines p in
+    let carried : CarriedTo old lines last = whole_carried rounder old ended lines last did in
+    subst To (sym is) carried
 
 -- ---- runs
 abbrev told_of : AgentRun → ℕ

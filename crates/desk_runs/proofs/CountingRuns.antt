@@ -24,7 +24,7 @@ pub record CountsWhole (old new : AgentScene) : Type 0 where
   pub clock : new.point.clock.faults ≡ old.point.clock.faults
   pub pocket : new.point.devices.pocket.faults ≡ old.point.devices.pocket.faults
   pub machine : old.point.devices.machine.faults ≤ new.point.devices.machine.faults
-  pub link : old.point.at.link.faults ≤ new.point.at.link.faults
+  pub link : old.point.at.way.link.faults ≤ new.point.at.way.link.faults
 
 failed_not_done : put.Done ≡ put.Failed → ⊥
 failed_not_done e = cc
@@ -42,7 +42,7 @@ told_counts rounder old answer lines new tells = round_counted rounder old.point
 pub whole_counted : (rounder : Rounder) (old new : AgentScene) (run : AgentRun) → Runs rounder old run new → CountsWhole old new
 whole_counted rounder old new Begun same =
     let machine_is = ap (λ (s : AgentScene). s.point.devices.machine.faults) same in
-    let link_is = ap (λ (s : AgentScene). s.point.at.link.faults) same in record {
+    let link_is = ap (λ (s : AgentScene). s.point.at.way.link.faults) same in record {
       sink = ap (λ (s : AgentScene). s.sink.faults) same;
       clock = ap (λ (s : AgentScene). s.point.clock.faults) same;
       pocket = ap (λ (s : AgentScene). s.point.devices.pocket.faults) same;
@@ -55,7 +55,7 @@ whole_counted rounder old new (Then run lines) (mid, runs, tells) =
     let machine_before = before.machine in
     let machine_last = later-RoseBy (unlooked lines) mid.point.devices.machine.faults new.point.devices.machine.faults last.machine in
     let link_before = before.link in
-    let link_last = later-RoseBy (unanswered lines) mid.point.at.link.faults new.point.at.link.faults last.link in record {
+    let link_last = later-RoseBy (unanswered lines) mid.point.at.way.link.faults new.point.at.way.link.faults last.link in record {
       sink = tells.writes.counts.steady failed_not_done ∙ before.sink;
       clock = last.clock.steady done_clock ∙ before.clock;
       pocket = last.pocket.steady done_pocket ∙ before.pocket;
@@ -94,7 +94,7 @@ left_counted rounder old mid new why ended before left no_sink clock_to clock_fr
     let machine_before = before.machine in
     let machine_last = later-RoseBy (unlooked left.lines) mid.point.devices.machine.faults new.point.devices.machine.faults last.machine in
     let link_before = before.link in
-    let link_last = later-RoseBy (unanswered left.lines) mid.point.at.link.faults new.point.at.link.faults last.link in record {
+    let link_last = later-RoseBy (unanswered left.lines) mid.point.at.way.link.faults new.point.at.way.link.faults last.link in record {
       sink = stays old.sink.faults mid.sink.faults new.sink.faults (IsCut (Err why) cut.Sink) no_sink before.sink (ap (λ (s : SinkView). s.faults) left.sink);
       clock = after_steady old.point.clock.faults mid.point.clock.faults new.point.clock.faults (ended ≡ end.ClockFault) (IsCut (Err why) cut.Clock) before.clock clock_from clock_to last.clock;
       pocket = after_steady old.point.devices.pocket.faults mid.point.devices.pocket.faults new.point.devices.pocket.faults (ended ≡ end.PocketFault) (IsCut (Err why) cut.Pocket) before.pocket pocket_from pocket_to last.pocket;
@@ -114,7 +114,7 @@ broken_counted rounder old mid new cut.Sink before (lines, tells) =
     let machine_before = before.machine in
     let machine_last = later-RoseBy (unlooked lines) mid.point.devices.machine.faults new.point.devices.machine.faults last.machine in
     let link_before = before.link in
-    let link_last = later-RoseBy (unanswered lines) mid.point.at.link.faults new.point.at.link.faults last.link in record {
+    let link_last = later-RoseBy (unanswered lines) mid.point.at.way.link.faults new.point.at.way.link.faults last.link in record {
       sink = rises old.sink.faults mid.sink.faults new.sink.faults (IsCut (Err cut.Sink) cut.Sink) refl before.sink (tells.writes.counts.rose refl);
       clock = stays old.point.clock.faults mid.point.clock.faults new.point.clock.faults (IsCut (Err cut.Sink) cut.Clock) (λ e. cc) before.clock (last.clock.steady done_clock);
       pocket = stays old.point.devices.pocket.faults mid.point.devices.pocket.faults new.point.devices.pocket.faults (IsCut (Err cut.Sink) cut.Pocket) (λ e. cc) before.pocket
@@ -138,15 +138,15 @@ rounds_counted rounder old new count (Err why) (done, below, mid, (run, is, goes
 -- at least as many faults of the link and of the machine were counted as lines of whole rounds tell
 pub lines_counted : (rounder : Rounder) (old new : AgentScene) (run : AgentRun) → Runs rounder old run new → CountsLines old run new
 lines_counted rounder old new Begun same =
-    let link_is = ap (λ (s : AgentScene). s.point.at.link.faults) same in
+    let link_is = ap (λ (s : AgentScene). s.point.at.way.link.faults) same in
     let machine_is = ap (λ (s : AgentScene). s.point.devices.machine.faults) same in record {
-      link = RoseBy-none old.point.at.link.faults new.point.at.link.faults (omega (arith, link_is));
+      link = RoseBy-none old.point.at.way.link.faults new.point.at.way.link.faults (omega (arith, link_is));
       machine = RoseBy-none old.point.devices.machine.faults new.point.devices.machine.faults (omega (arith, machine_is));
     }
 lines_counted rounder old new (Then run lines) (mid, runs, tells) =
     let before = lines_counted rounder old mid run runs in
     let last = told_counts rounder mid put.Done lines new tells in record {
-      link = RoseBy-more (told_of_rounds no_answer_told run) (unanswered lines) old.point.at.link.faults mid.point.at.link.faults new.point.at.link.faults before.link last.link;
+      link = RoseBy-more (told_of_rounds no_answer_told run) (unanswered lines) old.point.at.way.link.faults mid.point.at.way.link.faults new.point.at.way.link.faults before.link last.link;
       machine = RoseBy-more (told_of_rounds machine_fault_told run) (unlooked lines) old.point.devices.machine.faults mid.point.devices.machine.faults new.point.devices.machine.faults before.machine
           last.machine;
     }

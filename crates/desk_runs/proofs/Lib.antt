@@ -18,3 +18,6 @@ mod OneRelays
 mod OneRelayRuns
 mod OneTurns
 mod OneRounds
+mod Wanting
+mod Turning
+mod TurningRounds

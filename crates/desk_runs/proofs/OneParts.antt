@@ -3,7 +3,6 @@ use Rattle.std.proofs.Common.{◌≡◌, ◌≢◌, ◌≤◌, ℕ, Bool, true, 
 use Rattle.std.specs.Prelude.{nat_lt, ⊤}
 use Rattle.std.specs.declared.option.Option.{Option}
 use Rattle.bf_machine.proofs.Telling.{later-RoseBy}
-use Rattle.desk_door.specs.Links.{LinkView}
 use Rattle.fix_site.specs.Sites.{IsSite}
 use Rattle.fix_site.specs.declared.site.Site.{Site}
 use Rattle.report_text.specs.declared.answer.Gathered.{Gathered}
@@ -23,11 +22,13 @@ use Rattle.desk_rounds.specs.Parts.{AfterItem, AfterPart, DoesBoth, DoesEach, Go
 use Rattle.desk_rounds.specs.Posting.{PostsAll, PostsOne, SettlesCame}
 use Rattle.desk_rounds.specs.Replies.{JudgesReport, ListsSites, TellsSite}
 use Rattle.desk_rounds.specs.Requests.{report_request, site_request, sites_request}
+use Rattle.desk_rounds.specs.Ways.{Way, switched}
 use Rattle.desk_runs.specs.Counting.{no_answer_told}
 use Rattle.desk_runs.specs.OneExchanges.{LinkTold, TellsLink}
 use Rattle.desk_runs.proofs.CountingRounds.{Counts, asked_counts, does_each, fault_count, gathers_one, miss_told, missed_one, of_link, posts_one, unanswered}
-use Rattle.desk_runs.proofs.OneExchanges.{OneReply, asked_once}
+use Rattle.desk_runs.proofs.OneExchanges.{OneReply, asked_once, unswitched}
 use Rattle.desk_runs.proofs.OneReplies.{OneSite, one_judged, one_list, one_site_told}
+use Rattle.desk_runs.proofs.Wanting.{keeps_memory, listed_memory, missed_memory, settles_memory}
 
 -- the laws that this stands on
 pub record RoundLaws : Type 0 where
@@ -47,7 +48,7 @@ module _ {K : Type 0} (Good : K → Type 0) where
   pub record Stands (k : K) (told : LinkTold) (s : At K) : Type 0 where
     pub client : s.client ≡ k
     pub good : Good k
-    pub link : TellsLink told s.link
+    pub link : TellsLink told s.way.link
 
   -- what two parts come to that are one
   pub record Same (then then' : Next) (lines lines' : List Line) (new new' : At K) : Type 0 where
@@ -60,14 +61,14 @@ module _ {K : Type 0} (Good : K → Type 0) where
 
   abbrev pub IsOne : Part (At K) → Type 0
   IsOne part = (k : K) (told : LinkTold) (old old' : At K) (then then' : Next) (lines lines' : List Line) (new new' : At K) → Stands k told old → Stands k told old' → then ≢ next.Memory → then' ≢ next.Memory
-      → new.link.faults ≡ old.link.faults → new'.link.faults ≡ old'.link.faults → part old then lines new → part old' then' lines' new' → Same then then' lines lines' new new'
+      → new.way.link.faults ≡ old.way.link.faults → new'.way.link.faults ≡ old'.way.link.faults → part old then lines new → part old' then' lines' new' → Same then then' lines lines' new new'
 
   -- a link's count that rises by what lines tell
   abbrev pub Rises : Part (At K) → Type 0
   Rises part = Counts no_answer_told (of_link fault_count) part
 
-  later : (part : Part (At K)) (old : At K) (then : Next) (lines : List Line) (new : At K) → Rises part → part old then lines new → old.link.faults ≤ new.link.faults
-  later part old then lines new rises did = later-RoseBy (unanswered lines) old.link.faults new.link.faults (rises old then lines new did)
+  later : (part : Part (At K)) (old : At K) (then : Next) (lines : List Line) (new : At K) → Rises part → part old then lines new → old.way.link.faults ≤ new.way.link.faults
+  later part old then lines new rises did = later-RoseBy (unanswered lines) old.way.link.faults new.way.link.faults (rises old then lines new did)
 
   stays : (k : K) (told : LinkTold) (old new : At K) → new ≡ old → Stands k told old → Stands k told new
   stays k told old new same stands = let P : At K → Type 0 = λ s. Stands k told s in subst P (sym same) stands
@@ -114,13 +115,13 @@ module _ {K : Type 0} (Good : K → Type 0) where
   item_memory next.Memory then said lines rest between new ample after e = ample after.0
 
   -- what comes after an item doesn't lower the count
-  item_later : (one then : Next) (said lines : List Line) (rest : Part (At K)) (between new : At K) → Rises rest → AfterItem one said rest between then lines new → between.link.faults ≤ new.link.faults
+  item_later : (one then : Next) (said lines : List Line) (rest : Part (At K)) (between new : At K) → Rises rest → AfterItem one said rest between then lines new → between.way.link.faults ≤ new.way.link.faults
   item_later next.Item then said lines rest between new rises (more, goes, is) = later rest between then more new rises goes
-  item_later next.Part then said lines rest between new rises after = let e = ap (λ (s : At K). s.link.faults) after.2 in omega (arith, e)
-  item_later next.Memory then said lines rest between new rises after = let e = ap (λ (s : At K). s.link.faults) after.2 in omega (arith, e)
+  item_later next.Part then said lines rest between new rises after = let e = ap (λ (s : At K). s.way.link.faults) after.2 in omega (arith, e)
+  item_later next.Memory then said lines rest between new rises after = let e = ap (λ (s : At K). s.way.link.faults) after.2 in omega (arith, e)
 
   after_once : (one one' then then' : Next) (said said' lines lines' : List Line) (rest : Part (At K)) (between between' new new' : At K) → IsOne rest → then ≢ next.Memory → then' ≢ next.Memory
-      → new.link.faults ≡ between.link.faults → new'.link.faults ≡ between'.link.faults → AfterItem one said rest between then lines new → AfterItem one' said' rest between' then' lines' new'
+      → new.way.link.faults ≡ between.way.link.faults → new'.way.link.faults ≡ between'.way.link.faults → AfterItem one said rest between then lines new → AfterItem one' said' rest between' then' lines' new'
       → Same one one' said said' between between' → Same then then' lines lines' new new'
   after_once next.Item next.Item then then' said said' lines lines' rest between between' new new' is_one ample ample' steady steady' (more, goes, is) (more', goes', is') first =
       joined next.Item next.Item then then' said said' more more' lines lines' between between' new new' is is' first
@@ -142,17 +143,17 @@ module _ {K : Type 0} (Good : K → Type 0) where
   each_once does (item ∷ items) ones rises k told old old' then then' lines lines' new new' stands stands' ample ample' steady steady' (one, said, between, first, after) (one', said', between', first', after') =
       let rest = DoesEach does items in
       let rest_rises : Rises rest = does_each no_answer_told (of_link fault_count) does items rises in
-      let split = between_steady old.link.faults between.link.faults new.link.faults (later (does item) old one said between (rises item) first) (item_later one then said lines rest between new rest_rises after) steady in
-      let split' = between_steady old'.link.faults between'.link.faults new'.link.faults (later (does item) old' one' said' between' (rises item) first') (item_later one' then' said' lines' rest between' new' rest_rises after') steady' in
+      let split = between_steady old.way.link.faults between.way.link.faults new.way.link.faults (later (does item) old one said between (rises item) first) (item_later one then said lines rest between new rest_rises after) steady in
+      let split' = between_steady old'.way.link.faults between'.way.link.faults new'.way.link.faults (later (does item) old' one' said' between' (rises item) first') (item_later one' then' said' lines' rest between' new' rest_rises after') steady' in
       let same = ones item k told old old' one one' said said' between between' stands stands' (item_memory one then said lines rest between new ample after) (item_memory one' then' said' lines' rest between' new' ample' after')
       split.0 split'.0 first first' in
       after_once one one' then then' said said' lines lines' rest between between' new new' (each_once does items ones rises) ample ample' split.1 split'.1 after after' same
 
   -- ---- parts
-  part_later : (one then : Next) (said lines : List Line) (rest : Part (At K)) (between new : At K) → Rises rest → AfterPart one said rest between then lines new → between.link.faults ≤ new.link.faults
+  part_later : (one then : Next) (said lines : List Line) (rest : Part (At K)) (between new : At K) → Rises rest → AfterPart one said rest between then lines new → between.way.link.faults ≤ new.way.link.faults
   part_later next.Item then said lines rest between new rises (more, goes, is) = later rest between then more new rises goes
   part_later next.Part then said lines rest between new rises (more, goes, is) = later rest between then more new rises goes
-  part_later next.Memory then said lines rest between new rises after = let e = ap (λ (s : At K). s.link.faults) after.2 in omega (arith, e)
+  part_later next.Memory then said lines rest between new rises after = let e = ap (λ (s : At K). s.way.link.faults) after.2 in omega (arith, e)
 
   part_memory : (one then : Next) (said lines : List Line) (rest : Part (At K)) (between new : At K) → then ≢ next.Memory → AfterPart one said rest between then lines new → one ≢ next.Memory
   part_memory next.Item then said lines rest between new ample after e = absurd (cc)
@@ -172,8 +173,8 @@ module _ {K : Type 0} (Good : K → Type 0) where
 
   pub both_once : (First Second : Part (At K)) → IsOne First → IsOne Second → Rises First → Rises Second → IsOne (DoesBoth First Second)
   both_once First Second first_one second_one first_rises second_rises k told old old' then then' lines lines' new new' stands stands' ample ample' steady steady' (one, said, between, first, after) (one', said', between', first', after') =
-      let split = between_steady old.link.faults between.link.faults new.link.faults (later First old one said between first_rises first) (part_later one then said lines Second between new second_rises after) steady in
-      let split' = between_steady old'.link.faults between'.link.faults new'.link.faults (later First old' one' said' between' first_rises first') (part_later one' then' said' lines' Second between' new' second_rises after') steady' in
+      let split = between_steady old.way.link.faults between.way.link.faults new.way.link.faults (later First old one said between first_rises first) (part_later one then said lines Second between new second_rises after) steady in
+      let split' = between_steady old'.way.link.faults between'.way.link.faults new'.way.link.faults (later First old' one' said' between' first_rises first') (part_later one' then' said' lines' Second between' new' second_rises after') steady' in
       let whole = part_memory one then said lines Second between new ample after in
       let whole' = part_memory one' then' said' lines' Second between' new' ample' after' in
       let rest = part_rest one then said lines Second between new whole after in
@@ -183,10 +184,6 @@ module _ {K : Type 0} (Good : K → Type 0) where
       (second_one same.k same.told between between' then then' rest.more rest'.more new new' same.one same.other ample ample' split.1 split'.1 rest.goes rest'.goes)
 
 -- ---- requests of which nothing came
-missed_memory : (why : Miss) (then : Next) (lines : List Line) → then ≢ next.Memory → MissedBy why then lines → why ≢ miss.Memory
-missed_memory why then lines ample (inl (is, said)) e = ample (is ∙ ap next_after e)
-missed_memory why then lines ample (inr (is, none)) e = ample is
-
 missed_then : (why : Miss) (then : Next) (lines : List Line) → then ≢ next.Memory → MissedBy why then lines → then ≡ next_after why
 missed_then why then lines ample (inl (is, said)) = is
 missed_then why then lines ample (inr (is, none)) = absurd (ample is)
@@ -247,43 +244,50 @@ module _ (laws : RoundLaws) {K : Type 0} (c : Client K) (Good : K → Type 0) (c
   keeps_once (Err why) then then' lines lines' k old old' new new' is_site ample ample' is is' good (by, same) (by', same') =
       missed_once why then then' lines lines' k old old' new new' ample ample' is is' good by same by' same'
 
-  keeps_memory : (came : Result (Option Site) Miss) (then : Next) (lines : List Line) (old new : K) → then ≢ next.Memory → KeepsCame c came old then lines new → came ≢ Err miss.Memory
-  keeps_memory (Ok (Some site)) then lines old new ample keeps e = cc
-  keeps_memory (Ok None) then lines old new ample keeps e = cc
-  keeps_memory (Err why) then lines old new ample (by, same) e = missed_memory why then lines ample by (cc)
-
-  came_good : (request name : List ℕ) (old new : LinkView) (came : Result (Option Site) Miss) → AsksFor request (TellsSite name) old came new → CameGood came
+  came_good : (request name : List ℕ) (old new : Way) (came : Result (Option Site) Miss) → AsksFor request (TellsSite name) old came new → CameGood came
   came_good request name old new (Ok (Some site)) (bytes, asks, (status, body, is, gives)) = gives.good
   came_good request name old new (Ok None) asks = tt
   came_good request name old new (Err why) asks = tt
 
+  -- what was asked left the link as it is now
+  asked_steady : (a : ℕ) (between : Way) (new : At K) → new.way ≡ between → new.way.link.faults ≡ a → between.link.faults ≡ a
+  asked_steady a between new stays steady = sym (ap (λ (w : Way). w.link.faults) stays) ∙ steady
+
+  -- nothing was said before
+  unsaid : (old between : Way) (more lines : List Line) → lines ≡ switched old between ++ more → between.second ≡ old.second → lines ≡ more
+  unsaid old between more lines is same = is ∙ ap (λ (s : List Line). s ++ more) (unswitched old between same)
+
   -- two clients and their links
-  pairs : (then then' : Next) (lines lines' : List Line) (new new' : At K) (told : LinkTold) → TellsLink told new.link → TellsLink told new'.link → SameClient then then' lines lines' new.client new'.client
-      → Same Good then then' lines lines' new new'
-  pairs then then' lines lines' new new' told tells tells' same = record {
-    then_is = same.then_is;
-    lines_are = same.lines_are;
-    k = new.client;
-    told = told;
-    one = record { client = refl; good = same.good; link = tells };
-    other = record { client = sym same.same; good = same.good; link = tells' };
-  }
+  pairs : (then then' : Next) (more more' lines lines' : List Line) (between between' : Way) (new new' : At K) (told : LinkTold) → lines ≡ more → lines' ≡ more' → new.way ≡ between → new'.way ≡ between'
+      → TellsLink told between.link → TellsLink told between'.link → SameClient then then' more more' new.client new'.client → Same Good then then' lines lines' new new'
+  pairs then then' more more' lines lines' between between' new new' told are are' stays stays' tells tells' same =
+      let Tells : Way → Type 0 = λ w. TellsLink told w.link in
+      record {
+        then_is = same.then_is;
+        lines_are = are ∙ same.lines_are ∙ sym are';
+        k = new.client;
+        told = told;
+        one = record { client = refl; good = same.good; link = subst Tells (sym stays) tells };
+        other = record { client = sym same.same; good = same.good; link = subst Tells (sym stays') tells' };
+      }
 
   asks_once : (name : List ℕ) → IsOne Good (AsksSite c name)
-  asks_once name k told old old' then then' lines lines' new new' stands stands' ample ample' steady steady' (came, asks, keeps) (came', asks', keeps') =
+  asks_once name k told old old' then then' lines lines' new new' stands stands' ample ample' steady steady' (came, between, asks, (more, (keeps, stays), is)) (came', between', asks', (more', (keeps', stays'), is')) =
       let request = site_request name (version_at c k name) in
-      let P : K → Type 0 = λ x. AsksFor (site_request name (version_at c x name)) (TellsSite name) old.link came new.link in
-      let Q : K → Type 0 = λ x. AsksFor (site_request name (version_at c x name)) (TellsSite name) old'.link came' new'.link in
-      let once = asked_once laws.reply (TellsSite name) (one_site_told laws.site name) request told old.link old'.link new.link new'.link came came' stands.link stands'.link steady steady'
-      (keeps_memory came then lines old.client new.client ample keeps) (keeps_memory came' then' lines' old'.client new'.client ample' keeps')
+      let P : K → Type 0 = λ x. AsksFor (site_request name (version_at c x name)) (TellsSite name) old.way came between in
+      let Q : K → Type 0 = λ x. AsksFor (site_request name (version_at c x name)) (TellsSite name) old'.way came' between' in
+      let once = asked_once laws.reply (TellsSite name) (one_site_told laws.site name) request told old.way old'.way between between' came came' stands.link stands'.link
+      (asked_steady old.way.link.faults between new stays steady) (asked_steady old'.way.link.faults between' new' stays' steady')
+      (keeps_memory c came then more old.client new.client ample keeps) (keeps_memory c came' then' more' old'.client new'.client ample' keeps')
       (subst P stands.client asks) (subst Q stands'.client asks') in
-      let R : Result (Option Site) Miss → Type 0 = λ x. KeepsCame c x old'.client then' lines' new'.client in
-      let good = came_good (site_request name (version_at c old.client name)) name old.link new.link came asks in
-      pairs then then' lines lines' new new' once.alike.0 once.alike.1 once.alike.2
-      (keeps_once came then then' lines lines' k old.client old'.client new.client new'.client good ample ample' stands.client stands'.client stands.good keeps (subst R (sym once.same) keeps'))
+      let R : Result (Option Site) Miss → Type 0 = λ x. KeepsCame c x old'.client then' more' new'.client in
+      let good = came_good (site_request name (version_at c old.client name)) name old.way between came asks in
+      pairs then then' more more' lines lines' between between' new new' once.alike.0 (unsaid old.way between more lines is once.second) (unsaid old'.way between' more' lines' is' once.second')
+      stays stays' once.alike.1 once.alike.2
+      (keeps_once came then then' more more' k old.client old'.client new.client new'.client good ample ample' stands.client stands'.client stands.good keeps (subst R (sym once.same) keeps'))
 
   where_once : (newer newer' : Bool) → newer ≡ newer' → (name : List ℕ) (k : K) (told : LinkTold) (old old' : At K) (then then' : Next) (lines lines' : List Line) (new new' : At K) → Stands Good k told old → Stands Good k told old'
-      → then ≢ next.Memory → then' ≢ next.Memory → new.link.faults ≡ old.link.faults → new'.link.faults ≡ old'.link.faults → AsksWhere c newer name old then lines new → AsksWhere c newer' name old' then' lines' new'
+      → then ≢ next.Memory → then' ≢ next.Memory → new.way.link.faults ≡ old.way.link.faults → new'.way.link.faults ≡ old'.way.link.faults → AsksWhere c newer name old then lines new → AsksWhere c newer' name old' then' lines' new'
       → Same Good then then' lines lines' new new'
   where_once true true e name k told old old' then then' lines lines' new new' stands stands' ample ample' steady steady' did did' =
       asks_once name k told old old' then then' lines lines' new new' stands stands' ample ample' steady steady' did did'
@@ -303,7 +307,7 @@ module _ (laws : RoundLaws) {K : Type 0} (c : Client K) (Good : K → Type 0) (c
 
   -- what came of asking which sites there are
   listed_once : (came : Result (List SiteVersion) Miss) (k : K) (told : LinkTold) (old old' : At K) (then then' : Next) (lines lines' : List Line) (new new' : At K) → Stands Good k told old → Stands Good k told old'
-      → then ≢ next.Memory → then' ≢ next.Memory → new.link.faults ≡ old.link.faults → new'.link.faults ≡ old'.link.faults → GathersListed c came old then lines new → GathersListed c came old' then' lines' new'
+      → then ≢ next.Memory → then' ≢ next.Memory → new.way.link.faults ≡ old.way.link.faults → new'.way.link.faults ≡ old'.way.link.faults → GathersListed c came old then lines new → GathersListed c came old' then' lines' new'
       → Same Good then then' lines lines' new new'
   listed_once (Ok sites) k told old old' then then' lines lines' new new' stands stands' ample ample' steady steady' did did' =
       each_once Good (GathersOne c) sites gathered_once one_rises k told old old' then then' lines lines' new new' stands stands' ample ample' steady steady' did did'
@@ -316,29 +320,38 @@ module _ (laws : RoundLaws) {K : Type 0} (c : Client K) (Good : K → Type 0) (c
     other = stays Good k told old' new' same' stands';
   }
 
-  listed_memory : (came : Result (List SiteVersion) Miss) (then : Next) (lines : List Line) (old new : At K) → then ≢ next.Memory → GathersListed c came old then lines new → came ≢ Err miss.Memory
-  listed_memory (Ok sites) then lines old new ample did e = cc
-  listed_memory (Err why) then lines old new ample (by, same) e = missed_memory why then lines ample by (cc)
-
-  listed_later : (came : Result (List SiteVersion) Miss) (old new : At K) (then : Next) (lines : List Line) → GathersListed c came old then lines new → old.link.faults ≤ new.link.faults
+  listed_later : (came : Result (List SiteVersion) Miss) (old new : At K) (then : Next) (lines : List Line) → GathersListed c came old then lines new → old.way.link.faults ≤ new.way.link.faults
   listed_later (Ok sites) old new then lines did = later Good (DoesEach (GathersOne c) sites) old then lines new (does_each no_answer_told (of_link fault_count) (GathersOne c) sites one_rises) did
-  listed_later (Err why) old new then lines (by, same) = let e = ap (λ (s : At K). s.link.faults) same in omega (arith, e)
+  listed_later (Err why) old new then lines (by, same) = let e = ap (λ (s : At K). s.way.link.faults) same in omega (arith, e)
 
-  asked_later : (old new : LinkView) (came : Result (List SiteVersion) Miss) → AsksFor sites_request ListsSites old came new → old.faults ≤ new.faults
-  asked_later old new came asks = later-RoseBy _ old.faults new.faults (asked_counts (List SiteVersion) sites_request ListsSites old came new asks)
+  asked_later : (old new : Way) (came : Result (List SiteVersion) Miss) → AsksFor sites_request ListsSites old came new → old.link.faults ≤ new.link.faults
+  asked_later old new came asks = later-RoseBy _ old.link.faults new.link.faults (asked_counts (List SiteVersion) sites_request ListsSites old came new asks)
 
-  stands_at : (k : K) (told told' : LinkTold) (old : At K) (link : LinkView) → Stands Good k told old → TellsLink told' link → Stands Good k told' (at old.client link)
-  stands_at k told told' old link stands tells = record { client = stands.client; good = stands.good; link = tells }
+  stands_at : (k : K) (told told' : LinkTold) (old : At K) (between : Way) → Stands Good k told old → TellsLink told' between.link → Stands Good k told' (at old.client between)
+  stands_at k told told' old between stands tells = record { client = stands.client; good = stands.good; link = tells }
+
+  named_so : (then then' : Next) (more more' lines lines' : List Line) (new new' : At K) → lines ≡ more → lines' ≡ more' → Same Good then then' more more' new new' → Same Good then then' lines lines' new new'
+  named_so then then' more more' lines lines' new new' are are' same = record {
+    then_is = same.then_is;
+    lines_are = are ∙ same.lines_are ∙ sym are';
+    k = same.k;
+    told = same.told;
+    one = same.one;
+    other = same.other;
+  }
 
   pub gathering_once : IsOne Good (GathersAll c)
-  gathering_once k told old old' then then' lines lines' new new' stands stands' ample ample' steady steady' (came, link, asks, listed) (came', link', asks', listed') =
-      let split = between_steady Good old.link.faults link.faults new.link.faults (asked_later old.link link came asks) (listed_later came (at old.client link) new then lines listed) steady in
-      let split' = between_steady Good old'.link.faults link'.faults new'.link.faults (asked_later old'.link link' came' asks') (listed_later came' (at old'.client link') new' then' lines' listed') steady' in
-      let once = asked_once laws.reply ListsSites one_list sites_request told old.link old'.link link link' came came' stands.link stands'.link split.0 split'.0
-      (listed_memory came then lines (at old.client link) new ample listed) (listed_memory came' then' lines' (at old'.client link') new' ample' listed') asks asks' in
-      let P : Result (List SiteVersion) Miss → Type 0 = λ x. GathersListed c x (at old'.client link') then' lines' new' in
-      listed_once came k once.alike.0 (at old.client link) (at old'.client link') then then' lines lines' new new' (stands_at k told once.alike.0 old link stands once.alike.1) (stands_at k told once.alike.0 old' link' stands' once.alike.2)
-      ample ample' split.1 split'.1 listed (subst P (sym once.same) listed')
+  gathering_once k told old old' then then' lines lines' new new' stands stands' ample ample' steady steady' (came, between, asks, (more, listed, is)) (came', between', asks', (more', listed', is')) =
+      let here = at old.client between in
+      let here' = at old'.client between' in
+      let split = between_steady Good old.way.link.faults between.link.faults new.way.link.faults (asked_later old.way between came asks) (listed_later came here new then more listed) steady in
+      let split' = between_steady Good old'.way.link.faults between'.link.faults new'.way.link.faults (asked_later old'.way between' came' asks') (listed_later came' here' new' then' more' listed') steady' in
+      let once = asked_once laws.reply ListsSites one_list sites_request told old.way old'.way between between' came came' stands.link stands'.link split.0 split'.0
+      (listed_memory c came then more here new ample listed) (listed_memory c came' then' more' here' new' ample' listed') asks asks' in
+      let P : Result (List SiteVersion) Miss → Type 0 = λ x. GathersListed c x here' then' more' new' in
+      named_so then then' more more' lines lines' new new' (unsaid old.way between more lines is once.second) (unsaid old'.way between' more' lines' is' once.second')
+      (listed_once came k once.alike.0 here here' then then' more more' new new' (stands_at k told once.alike.0 old between stands once.alike.1) (stands_at k told once.alike.0 old' between' stands' once.alike.2)
+      ample ample' split.1 split'.1 listed (subst P (sym once.same) listed'))
 
   -- ---- posting
   settled_once : (report : Report) (came : Result Judged Miss) (then then' : Next) (lines lines' : List Line) (k old old' new new' : K) → then ≢ next.Memory → then' ≢ next.Memory → old ≡ k → old' ≡ k → Good k
@@ -353,17 +366,15 @@ module _ (laws : RoundLaws) {K : Type 0} (c : Client K) (Good : K → Type 0) (c
   settled_once report (Err why) then then' lines lines' k old old' new new' ample ample' is is' good (by, same) (by', same') =
       missed_once why then then' lines lines' k old old' new new' ample ample' is is' good by same by' same'
 
-  settles_memory : (report : Report) (came : Result Judged Miss) (then : Next) (lines : List Line) (old new : K) → then ≢ next.Memory → SettlesCame c report came old then lines new → came ≢ Err miss.Memory
-  settles_memory report (Ok said) then lines old new ample settles e = cc
-  settles_memory report (Err why) then lines old new ample (by, same) e = missed_memory why then lines ample by (cc)
-
   posted_once : (report : Report) → IsOne Good (PostsOne c report)
-  posted_once report k told old old' then then' lines lines' new new' stands stands' ample ample' steady steady' (came, asks, settles) (came', asks', settles') =
-      let once = asked_once laws.reply (JudgesReport c.asker) (one_judged c.asker) (report_request report) told old.link old'.link new.link new'.link came came' stands.link stands'.link steady steady'
-      (settles_memory report came then lines old.client new.client ample settles) (settles_memory report came' then' lines' old'.client new'.client ample' settles') asks asks' in
-      let P : Result Judged Miss → Type 0 = λ x. SettlesCame c report x old'.client then' lines' new'.client in
-      pairs then then' lines lines' new new' once.alike.0 once.alike.1 once.alike.2
-      (settled_once report came then then' lines lines' k old.client old'.client new.client new'.client ample ample' stands.client stands'.client stands.good settles (subst P (sym once.same) settles'))
+  posted_once report k told old old' then then' lines lines' new new' stands stands' ample ample' steady steady' (came, between, asks, (more, (settles, stays), is)) (came', between', asks', (more', (settles', stays'), is')) =
+      let once = asked_once laws.reply (JudgesReport c.asker) (one_judged c.asker) (report_request report) told old.way old'.way between between' came came' stands.link stands'.link
+      (asked_steady old.way.link.faults between new stays steady) (asked_steady old'.way.link.faults between' new' stays' steady')
+      (settles_memory c report came then more old.client new.client ample settles) (settles_memory c report came' then' more' old'.client new'.client ample' settles') asks asks' in
+      let P : Result Judged Miss → Type 0 = λ x. SettlesCame c report x old'.client then' more' new'.client in
+      pairs then then' more more' lines lines' between between' new new' once.alike.0 (unsaid old.way between more lines is once.second) (unsaid old'.way between' more' lines' is' once.second')
+      stays stays' once.alike.1 once.alike.2
+      (settled_once report came then then' more more' k old.client old'.client new.client new'.client ample ample' stands.client stands'.client stands.good settles (subst P (sym once.same) settles'))
 
   post_rises : (report : Report) → Rises Good (PostsOne c report)
   post_rises report = posts_one no_answer_told missed_one fault_count miss_told asked_counts c report

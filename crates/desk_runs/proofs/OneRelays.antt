@@ -39,14 +39,16 @@ use Rattle.http_replies.specs.Statuses.{answer_body, answer_status}
 use Rattle.desk_hosts.specs.HostCalls.{no_memory, no_such}
 use Rattle.desk_hosts.specs.RelayCalls.{CarriesReport, RelayAnswers, RelayCalls, RelayTells, TellsSite, TellsSites, verdict_answer}
 use Rattle.desk_hosts.specs.RelayFiles.{FilesTell}
-use Rattle.desk_rounds.specs.Clients.{held_of, relay_client, relay_told}
+use Rattle.desk_rounds.specs.Clients.{At, at_rest, held_of, relay_client, relay_told}
 use Rattle.desk_rounds.specs.Gathering.{GathersAll}
+use Rattle.desk_rounds.specs.Parts.{DoesBoth}
 use Rattle.desk_rounds.specs.Posting.{PostsAll}
 use Rattle.desk_rounds.specs.RelayRounds.{RelayRound}
+use Rattle.desk_runs.specs.OneExchanges.{LinkTold}
 use Rattle.desk_runs.proofs.CountingRounds.{gathering_counts, posting_counts}
 use Rattle.desk_runs.proofs.OneExchanges.{not_risen}
 use Rattle.desk_runs.proofs.OneFiles.{FilesStand, FilesTold, file_once}
-use Rattle.desk_runs.proofs.OneParts.{IsOne, OneClient, RoundLaws, both_once, gathering_once, posting_once}
+use Rattle.desk_runs.proofs.OneParts.{IsOne, OneClient, RoundLaws, Stands, both_once, gathering_once, posting_once}
 
 -- the laws that this stands on
 pub record KeepingLaws : Type 0 where
@@ -96,10 +98,22 @@ one_relay laws = record {
 }
 
 -- ---- a round
+last_steady : (a : ℕ) (last new : At RelayState) → new ≡ at_rest last → new.way.link.faults ≡ a → last.way.link.faults ≡ a
+last_steady a last new is steady = sym (ap (λ (s : At RelayState). s.way.link.faults) is) ∙ steady
+
+rests : (k : RelayState) (told : LinkTold) (last new : At RelayState) → new ≡ at_rest last → Stands Good k told last → Stands Good k told new
+rests k told last new is stands =
+    let P : At RelayState → Type 0 = λ s. Stands Good k told s in
+    subst P (sym is) (record { client = stands.client; good = stands.good; link = stands.link })
+
 pub round_once : RelayLaws → IsOne Good RelayRound
-round_once laws =
+round_once laws k told old old' next next' lines lines' new new' stands stands' ample ample' steady steady' (last, did, is) (last', did', is') =
     let client = one_relay laws.keeping in
-    both_once Good (GathersAll relay_client) (PostsAll relay_client) (gathering_once laws.round relay_client Good client) (posting_once laws.round relay_client Good client) (gathering_counts relay_client) (posting_counts relay_client)
+    let one : IsOne Good (DoesBoth (GathersAll relay_client) (PostsAll relay_client)) =
+    both_once Good (GathersAll relay_client) (PostsAll relay_client) (gathering_once laws.round relay_client Good client) (posting_once laws.round relay_client Good client) (gathering_counts relay_client)
+    (posting_counts relay_client) in
+    let once = one k told old old' next next' lines lines' last last' stands stands' ample ample' (last_steady old.way.link.faults last new is steady) (last_steady old'.way.link.faults last' new' is' steady') did did' in
+    record { then_is = once.then_is; lines_are = once.lines_are; k = once.k; told = once.told; one = rests once.k once.told last new is once.one; other = rests once.k once.told last' new' is' once.other }
 
 -- ---- one answer to a call
 -- the host keeps this relay and these files, and its link tells this

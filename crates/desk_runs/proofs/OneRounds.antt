@@ -1,11 +1,12 @@
 -- What an agent does is one thing, where its devices tell one thing and don't fail, and memory suffices.
-use Rattle.std.proofs.Common.{◌≡◌, ◌≢◌, ◌⊎◌, ◌≤◌, ◌-◌, ℕ, ◌+◌, ℤ, Bool, List, [], ◌∷◌, ◌++◌, length, IsSome, None, Some, inl, inr, refl, sym, ap, ◌∙◌, subst, arith, length-append}
-use Rattle.std.specs.Prelude.{⊤}
+use Rattle.std.proofs.Common.{◌≡◌, ◌≢◌, ◌⊎◌, ◌≤◌, ◌<◌, ◌^◌, ◌-◌, ℕ, ◌+◌, ℤ, Bool, List, [], ◌∷◌, ◌++◌, length, IsSome, None, Some, inl, inr, refl, sym, ap, ◌∙◌, subst, arith, length-append}
+use Rattle.std.specs.Prelude.{⊤, is_some}
 use Rattle.std.specs.declared.option.Option.{Option}
 use Rattle.desk_base.specs.Moments.{AppendsMoments, AsksMoment}
 use Rattle.desk_base.specs.Views.{ClockView}
 use Rattle.desk_base.specs.declared.clock.Told.TheVariants as told
 use Rattle.desk_base.specs.declared.sink.Put.TheVariants as put
+use Rattle.bf_machine.specs.Rises.{RoseBy}
 use Rattle.bf_machine.proofs.Telling.{later-RoseBy}
 use Rattle.fix_site.specs.declared.site.Site.{Site}
 use Rattle.report_text.specs.declared.answer.Gathered.{Gathered}
@@ -25,19 +26,21 @@ use Rattle.desk_rounds.specs.declared.agent_rounds.RoundEnd.TheVariants as end
 use Rattle.desk_rounds.specs.declared.asking.Miss.{Miss}
 use Rattle.desk_rounds.specs.declared.part.Next.{Next}
 use Rattle.desk_rounds.specs.declared.part.Next.TheVariants as next
-use Rattle.desk_rounds.specs.AgentRounds.{AgentPoint, AgentRound, Ending, EndsQuietly, IsPrinted, PrintsTurns, RestOfRound, TakesTurn, Then as ThenPart, Within, after_turns, end_of, lines_of_turns}
-use Rattle.desk_rounds.specs.Clients.{At, agent_client, at, verdict_of}
+use Rattle.desk_rounds.specs.AgentRounds.{AgentPoint, AgentRound, Ending, EndsQuietly, GathersFirst, IsPrinted, OpensFirst, PrintsTurns, RestOfRound, SaysBefore, TakesTurn, Then as ThenPart, Within, after_turns, end_of, lines_of_turns, short_end}
+use Rattle.desk_rounds.specs.Clients.{At, agent_client, at, at_rest, verdict_of}
 use Rattle.desk_rounds.specs.Files.{FileSource, GivesFromLink, unasked}
 use Rattle.desk_rounds.specs.Gathering.{GathersAll}
 use Rattle.desk_rounds.specs.Lines.{Line}
 use Rattle.desk_rounds.specs.Parts.{Part}
 use Rattle.desk_rounds.specs.Posting.{PostsAll}
+use Rattle.desk_rounds.specs.Ways.{Way, switched, switched_now, way}
+use Rattle.desk_rounds.specs.declared.way.Upstreams.{Upstreams}
 use Rattle.desk_runs.specs.AgentRuns.{AgentRun, Begun, Runs, Then, round_count}
 use Rattle.desk_runs.specs.AgentSteps.{AgentScene, TellsRound}
 use Rattle.desk_runs.specs.Counting.{no_answer_told}
-use Rattle.desk_runs.specs.OneExchanges.{TellsLink}
+use Rattle.desk_runs.specs.OneExchanges.{LinkTold, TellsLink}
 use Rattle.desk_runs.specs.OneRounding.{AgentTold, AgentsAlike, IsSteadyAgent, TellsAgent, TellsDevices}
-use Rattle.desk_runs.proofs.CountingAgents.{round_counted, unlooked}
+use Rattle.desk_runs.proofs.CountingAgents.{missed_in, round_counted, turns_since, unlooked}
 use Rattle.desk_runs.proofs.CountingRounds.{Counts, fault_count, gathering_counts, of_link, posting_counts, unanswered}
 use Rattle.desk_runs.proofs.CountingRuns.{whole_counted}
 use Rattle.desk_runs.proofs.OneParts.{OneClient, RoundLaws, gathering_once, posting_once}
@@ -120,6 +123,28 @@ printed rounder moment of_turn.MachineFault missed lines it = either_printed rou
 printed rounder moment of_turn.PocketFault missed lines quiet = absurd (done_pocket quiet.ended_is)
 printed rounder moment of_turn.Memory missed lines quiet = absurd (done_memory quiet.ended_is)
 
+-- behind the line of the second upstream, where there is one
+record SaidPrinted (rounder : Rounder) (moment : ℤ) (said : List Line) (answer : Turned) (missed : Option Miss) (lines : List Line) : Type 0 where
+  more : List Line
+  prints : Printed rounder moment answer missed more
+  is : lines ≡ said ++ more
+
+done_short : (answer : Turned) → end.Done ≡ short_end answer → ⊥
+done_short of_turn.PocketFault e = done_pocket e
+done_short of_turn.Idle e = done_memory e
+done_short (of_turn.Interrupted id) e = done_memory e
+done_short (of_turn.Held id began component line) e = done_memory e
+done_short (of_turn.Wants id began digest) e = done_memory e
+done_short (of_turn.Ended id began outcome fail) e = done_memory e
+done_short of_turn.MachineFault e = done_memory e
+done_short of_turn.Memory e = done_memory e
+
+said_printed : (rounder : Rounder) (moment : ℤ) (said : List Line) (answer : Turned) (missed : Option Miss) (lines : List Line) → SaysBefore said answer (PrintsTurns rounder moment answer missed) end.Done lines
+    → SaidPrinted rounder moment said answer missed lines
+said_printed rounder moment [] answer missed lines it = record { more = lines; prints = printed rounder moment answer missed lines it; is = refl }
+said_printed rounder moment (line ∷ said) answer missed lines (inl (more, it, is)) = record { more = more; prints = printed rounder moment answer missed more it; is = is }
+said_printed rounder moment (line ∷ said) answer missed lines (inr quiet) = absurd (done_short answer quiet.ended_is)
+
 record InTurn (rounder : Rounder) (old : AgentPoint) (lines : List Line) (new : AgentPoint) : Type 0 where
   moment : ℤ
   clock : ClockView
@@ -128,8 +153,8 @@ record InTurn (rounder : Rounder) (old : AgentPoint) (lines : List Line) (new : 
   agent : State
   devices : Devices
   files : GiverView FileSource
-  turns : TurnsWithFiles GivesFromLink (record { moment = moment; offset = rounder.offset }) old.at.client old.devices (unasked old.at.link) answer agent devices files
-  prints : Printed rounder moment answer files.source.missed lines
+  turns : TurnsWithFiles GivesFromLink (record { moment = moment; offset = rounder.offset }) old.at.client old.devices (unasked old.at.way) answer agent devices files
+  prints : SaidPrinted rounder moment (switched old.at.way files.source.way) answer files.source.missed lines
   is : new ≡ after_turns (record old { clock = clock }) agent devices files
 
 in_turn : (rounder : Rounder) (old : AgentPoint) (lines : List Line) (new : AgentPoint) → TakesTurn rounder old end.Done lines new → InTurn rounder old lines new
@@ -142,46 +167,87 @@ in_turn rounder old lines new (told.Moment moment, clock, asks, (answer, agent, 
   devices = devices;
   files = files;
   turns = turns;
-  prints = printed rounder moment answer files.source.missed lines prints;
+  prints = said_printed rounder moment (switched old.at.way files.source.way) answer files.source.missed lines prints;
   is = is;
 }
 in_turn rounder old lines new (told.Failed, clock, asks, (quiet, is)) = absurd (done_clock quiet.ended_is)
 
--- the three parts of a whole round
-record InRound (rounder : Rounder) (old : AgentPoint) (lines : List Line) (new : AgentPoint) : Type 0 where
-  gone : Next
-  said : List Line
-  gathers : At State
-  gathering : GathersAll agent_client old.at gone said gathers
-  gone_on : gone ≢ next.Memory
-  moment : ℤ
-  clock : ClockView
-  asks : AsksMoment old.clock (told.Moment moment) clock
-  answer : Turned
-  agent : State
-  devices : Devices
-  files : GiverView FileSource
-  turns : TurnsWithFiles GivesFromLink (record { moment = moment; offset = rounder.offset }) gathers.client old.devices (unasked gathers.link) answer agent devices files
-  plain : IsPlain answer
-  went : Next
-  more : List Line
-  posts : At State
-  posting : PostsAll agent_client (at agent files.source.link) went more posts
-  went_on : went ≢ next.Memory
-  lines_are : lines ≡ said ++ (lines_of_turns rounder moment answer files.source.missed ++ more)
-  is : new ≡ record { at = posts; devices = devices; clock = clock }
+-- ---- the beginning of a round
+-- the link is open to the first of two upstreams, or as it was
+abbrev pub opened_way : Option Upstreams → Way → Way
+opened_way None by = by
+opened_way (Some two) by = way (record by.link { upstream = Some two.first }) (Some two.second)
 
-in_round : (rounder : Rounder) (old : AgentPoint) (lines : List Line) (new : AgentPoint) → AgentRound rounder old end.Done lines new → InRound rounder old lines new
-in_round rounder old lines new round =
-    let outer = whole (Within (GathersAll agent_client)) (RestOfRound rounder) old lines new round in
-    let gathering = in_part (GathersAll agent_client) old outer.said outer.between outer.first in
-    let R : AgentPoint → Type 0 = λ p. RestOfRound rounder p end.Done outer.more new in
-    let here : AgentPoint = record old { at = gathering.after } in
-    let inner = whole (TakesTurn rounder) (Within (PostsAll agent_client)) here outer.more new (subst R gathering.is outer.second) in
+abbrev opened : Option Upstreams → AgentPoint → AgentPoint
+opened upstreams old = record old { at = at old.at.client (opened_way upstreams old.at.way) }
+
+record InOpening (upstreams : Option Upstreams) (old : AgentPoint) (lines : List Line) (new : AgentPoint) : Type 0 where
+  quiet : lines ≡ []
+  is : new ≡ opened upstreams old
+
+in_opening : (upstreams : Option Upstreams) (old : AgentPoint) (lines : List Line) (new : AgentPoint) → OpensFirst upstreams old end.Done lines new → InOpening upstreams old lines new
+in_opening None old lines new (quiet, same) = record { quiet = quiet.quiet; is = same }
+in_opening (Some two) old lines new (inl (quiet, same)) = record { quiet = quiet.quiet; is = same }
+in_opening (Some two) old lines new (inr (quiet, same)) = absurd (done_memory quiet.ended_is)
+
+opened_faults : (upstreams : Option Upstreams) (by : Way) → (opened_way upstreams by).link.faults ≡ by.link.faults
+opened_faults None by = refl
+opened_faults (Some two) by = refl
+
+-- what a link tells then
+abbrev opened_told : Option Upstreams → LinkTold → LinkTold
+opened_told None told = told
+opened_told (Some two) told = record { upstream = Some two.first; asked = told.asked; replies = told.replies }
+
+opened_tells : (upstreams : Option Upstreams) (told : LinkTold) (by : Way) → TellsLink told by.link → TellsLink (opened_told upstreams told) (opened_way upstreams by).link
+opened_tells None told by tells = tells
+opened_tells (Some two) told by tells = record { upstream = refl; asked = tells.asked; replies = tells.replies; rises = tells.rises }
+
+-- ---- the three parts of a whole round
+pub record InRound (rounder : Rounder) (old : AgentPoint) (lines : List Line) (new : AgentPoint) : Type 0 where
+  pub gone : Next
+  pub said : List Line
+  pub gathers : At State
+  pub gathering : GathersAll agent_client (at old.at.client (opened_way rounder.upstreams old.at.way)) gone said gathers
+  pub gone_on : gone ≢ next.Memory
+  pub moment : ℤ
+  pub clock : ClockView
+  pub asks : AsksMoment old.clock (told.Moment moment) clock
+  pub answer : Turned
+  pub agent : State
+  pub devices : Devices
+  pub files : GiverView FileSource
+  pub turns : TurnsWithFiles GivesFromLink (record { moment = moment; offset = rounder.offset }) gathers.client old.devices (unasked gathers.way) answer agent devices files
+  pub plain : IsPlain answer
+  pub went : Next
+  pub more : List Line
+  pub posts : At State
+  pub posting : PostsAll agent_client (at agent files.source.way) went more posts
+  pub went_on : went ≢ next.Memory
+  pub lines_are : lines ≡ said ++ ((switched gathers.way files.source.way ++ lines_of_turns rounder moment answer files.source.missed) ++ more)
+  pub is : new ≡ record { at = at_rest posts; devices = devices; clock = clock }
+
+joined : (lines said rest first more before behind printed : List Line) → lines ≡ said ++ rest → rest ≡ first ++ more → first ≡ before ++ behind → behind ≡ printed → lines ≡ said ++ ((before ++ printed) ++ more)
+joined lines said rest first more before behind printed all inner turn line = all ∙ ap (λ (l : List Line). said ++ l) (inner ∙ ap (λ (l : List Line). l ++ more) (turn ∙ ap (λ (l : List Line). before ++ l) line))
+
+rested : (there last new : AgentPoint) (posts : At State) → last ≡ record there { at = posts } → new ≡ record last { at = at_rest last.at } → new ≡ record { at = at_rest posts; devices = there.devices; clock = there.clock }
+rested there last new posts is rests = rests ∙ ap (λ (p : AgentPoint). record p { at = at_rest p.at }) is
+
+-- behind the beginning
+in_parts : (rounder : Rounder) (old : AgentPoint) (lines : List Line) (last new : AgentPoint) → GathersFirst rounder (opened rounder.upstreams old) end.Done lines last → new ≡ record last { at = at_rest last.at }
+    → InRound rounder old lines new
+in_parts rounder old lines last new round rests =
+    let from : AgentPoint = opened rounder.upstreams old in
+    let outer = whole (Within (GathersAll agent_client)) (RestOfRound rounder) from lines last round in
+    let gathering = in_part (GathersAll agent_client) from outer.said outer.between outer.first in
+    let R : AgentPoint → Type 0 = λ p. RestOfRound rounder p end.Done outer.more last in
+    let here : AgentPoint = record from { at = gathering.after } in
+    let inner = whole (TakesTurn rounder) (Within (PostsAll agent_client)) here outer.more last (subst R gathering.is outer.second) in
     let turn = in_turn rounder here inner.said inner.between inner.first in
-    let P : AgentPoint → Type 0 = λ p. Within (PostsAll agent_client) p end.Done inner.more new in
+    let P : AgentPoint → Type 0 = λ p. Within (PostsAll agent_client) p end.Done inner.more last in
     let there : AgentPoint = after_turns (record here { clock = turn.clock }) turn.agent turn.devices turn.files in
-    let posting = in_part (PostsAll agent_client) there inner.more new (subst P turn.is inner.second) in
+    let posting = in_part (PostsAll agent_client) there inner.more last (subst P turn.is inner.second) in
+    let before = switched gathering.after.way turn.files.source.way in
     record {
       gone = gathering.then;
       said = outer.said;
@@ -196,27 +262,37 @@ in_round rounder old lines new round =
       devices = turn.devices;
       files = turn.files;
       turns = turn.turns;
-      plain = turn.prints.plain;
+      plain = turn.prints.prints.plain;
       went = posting.then;
       more = inner.more;
       posts = posting.after;
       posting = posting.did;
       went_on = posting.some;
-      lines_are = outer.is ∙ ap (λ l. outer.said ++ l) (inner.is ∙ ap (λ l. l ++ inner.more) turn.prints.lines_are);
-      is = posting.is;
+      lines_are = joined lines outer.said outer.more inner.said inner.more before turn.prints.more (lines_of_turns rounder turn.moment turn.answer turn.files.source.missed) outer.is inner.is turn.prints.is
+          turn.prints.prints.lines_are;
+      is = rested there last new posting.after posting.is rests;
     }
+
+pub in_round : (rounder : Rounder) (old : AgentPoint) (lines : List Line) (new : AgentPoint) → AgentRound rounder old end.Done lines new → InRound rounder old lines new
+in_round rounder old lines new (last, round, rests) =
+    let both = whole (OpensFirst rounder.upstreams) (GathersFirst rounder) old lines last round in
+    let opening = in_opening rounder.upstreams old both.said both.between both.first in
+    let G : AgentPoint → Type 0 = λ p. GathersFirst rounder p end.Done both.more last in
+    let L : List Line → Type 0 = λ l. InRound rounder old l new in
+    let same : lines ≡ both.more = both.is ∙ ap (λ (l : List Line). l ++ both.more) opening.quiet in
+    subst L (sym same) (in_parts rounder old both.more last new (subst G opening.is both.second) rests)
 
 -- ---- two whole rounds
 -- what a round goes on is told
 record TellsPoint (t : AgentTold) (p : AgentPoint) : Type 0 where
-  link : TellsLink t.link p.at.link
+  link : TellsLink t.link p.at.way.link
   agent : p.at.client ≡ t.agent
   devices : p.devices ≡ t.devices
   all : TellsDevices t.devices
 
 -- the link, the machine and the pocket didn't fail
 record IsSteadyPoint (old new : AgentPoint) : Type 0 where
-  link : new.at.link.faults ≡ old.at.link.faults
+  link : new.at.way.link.faults ≡ old.at.way.link.faults
   devices : AreSteady old.devices new.devices
 
 record SameRounds (lines lines' : List Line) (new new' : AgentPoint) : Type 0 where
@@ -225,22 +301,51 @@ record SameRounds (lines lines' : List Line) (new new' : AgentPoint) : Type 0 wh
   one : TellsPoint t new
   other : TellsPoint t new'
 
-part_later : (part : Part (At State)) (old : At State) (then : Next) (lines : List Line) (new : At State) → Counts no_answer_told (of_link fault_count) part → part old then lines new → old.link.faults ≤ new.link.faults
-part_later part old then lines new rises did = later-RoseBy (unanswered lines) old.link.faults new.link.faults (rises old then lines new did)
+part_later : (part : Part (At State)) (old : At State) (then : Next) (lines : List Line) (new : At State) → Counts no_answer_told (of_link fault_count) part → part old then lines new → old.way.link.faults ≤ new.way.link.faults
+part_later part old then lines new rises did = later-RoseBy (unanswered lines) old.way.link.faults new.way.link.faults (rises old then lines new did)
+
+-- what a round begins with
+abbrev pub first_of : Rounder → AgentPoint → At State
+first_of rounder old = at old.at.client (opened_way rounder.upstreams old.at.way)
 
 -- the stretches of a round in which its link didn't fail
 record LinkSteady (rounder : Rounder) (old : AgentPoint) (lines : List Line) (new : AgentPoint) (r : InRound rounder old lines new) : Type 0 where
-  gathering : r.gathers.link.faults ≡ old.at.link.faults
-  turns : r.files.source.link.faults ≡ r.gathers.link.faults
-  posting : r.posts.link.faults ≡ r.files.source.link.faults
+  gathering : r.gathers.way.link.faults ≡ (opened_way rounder.upstreams old.at.way).link.faults
+  turns : r.files.source.way.link.faults ≡ r.gathers.way.link.faults
+  posting : r.posts.way.link.faults ≡ r.files.source.way.link.faults
+  low : (opened_way rounder.upstreams old.at.way).link.faults ≡ old.at.way.link.faults
 
-link_steady : (rounder : Rounder) (old : AgentPoint) (lines : List Line) (new : AgentPoint) (r : InRound rounder old lines new) → new.at.link.faults ≡ old.at.link.faults → LinkSteady rounder old lines new r
+link_steady : (rounder : Rounder) (old : AgentPoint) (lines : List Line) (new : AgentPoint) (r : InRound rounder old lines new) → new.at.way.link.faults ≡ old.at.way.link.faults → LinkSteady rounder old lines new r
 link_steady rounder old lines new r steady =
-    let first = part_later (GathersAll agent_client) old.at r.gone r.said r.gathers (gathering_counts agent_client) r.gathering in
-    let then = files_later (record { moment = r.moment; offset = rounder.offset }) r.gathers.client old.devices (unasked r.gathers.link) r.answer r.agent r.devices r.files r.turns in
-    let last = part_later (PostsAll agent_client) (at r.agent r.files.source.link) r.went r.more r.posts (posting_counts agent_client) r.posting in
-    let end = ap (λ (p : AgentPoint). p.at.link.faults) r.is in
-    record { gathering = omega (arith, steady, first, then, last, end); turns = omega (arith, steady, first, then, last, end); posting = omega (arith, steady, first, then, last, end) }
+    let first = part_later (GathersAll agent_client) (first_of rounder old) r.gone r.said r.gathers (gathering_counts agent_client) r.gathering in
+    let then = files_later (record { moment = r.moment; offset = rounder.offset }) r.gathers.client old.devices (unasked r.gathers.way) r.answer r.agent r.devices r.files r.turns in
+    let last = part_later (PostsAll agent_client) (at r.agent r.files.source.way) r.went r.more r.posts (posting_counts agent_client) r.posting in
+    let end = ap (λ (p : AgentPoint). p.at.way.link.faults) r.is in
+    let begin = opened_faults rounder.upstreams old.at.way in
+    record {
+      gathering = omega (arith, steady, first, then, last, end, begin);
+      turns = omega (arith, steady, first, then, last, end, begin);
+      posting = omega (arith, steady, first, then, last, end, begin);
+      low = begin;
+    }
+
+-- no file turned to a second upstream then
+none_told : (o p : Option (List ℕ)) → unanswered (switched_now (is_some o) p) ≡ 0 → switched_now (is_some o) p ≡ []
+none_told None p none = refl
+none_told (Some upstream) (Some same) none = refl
+none_told (Some upstream) None none = absurd (omega (arith, none))
+
+not_counted : (n m a b : ℕ) → RoseBy (n + m) a b → a < 2 ^ 64 - 1 → b ≡ a → n ≡ 0
+not_counted n m a b rose below same = grind arith
+
+nothing_said : (rounder : Rounder) (old : AgentPoint) (lines : List Line) (new : AgentPoint) (r : InRound rounder old lines new) → LinkSteady rounder old lines new r → old.at.way.link.faults < 2 ^ 64 - 1
+    → switched r.gathers.way r.files.source.way ≡ []
+nothing_said rounder old lines new r steady below =
+    let since = turns_since (record { moment = r.moment; offset = rounder.offset }) r.gathers.client old.devices r.gathers.way r.answer r.agent r.devices r.files r.turns in
+    let gathering = steady.gathering in
+    let low = steady.low in
+    none_told r.gathers.way.second r.files.source.way.second
+    (not_counted (unanswered (switched r.gathers.way r.files.source.way)) (missed_in r.files.source.missed) r.gathers.way.link.faults r.files.source.way.link.faults since (omega (arith, gathering, low, below)) steady.turns)
 
 devices_steady : (rounder : Rounder) (old : AgentPoint) (lines : List Line) (new : AgentPoint) (r : InRound rounder old lines new) → AreSteady old.devices new.devices → AreSteady old.devices r.devices
 devices_steady rounder old lines new r steady = let P : AgentPoint → Type 0 = λ p. AreSteady old.devices p.devices in subst P r.is steady
@@ -251,30 +356,34 @@ points_once laws rounder t old old' new new' lines lines' tells tells' steady st
     let link = link_steady rounder old lines new r steady.link in
     let link' = link_steady rounder old' lines' new' r' steady'.link in
     let client = one_agent laws in
-    let gathered = gathering_once laws.round agent_client Any client t.agent t.link old.at old'.at r.gone r'.gone r.said r'.said r.gathers r'.gathers
-    (record { client = tells.agent; good = tt; link = tells.link }) (record { client = tells'.agent; good = tt; link = tells'.link }) r.gone_on r'.gone_on link.gathering link'.gathering r.gathering r'.gathering in
+    let gathered = gathering_once laws.round agent_client Any client t.agent (opened_told rounder.upstreams t.link) (first_of rounder old) (first_of rounder old') r.gone r'.gone r.said r'.said r.gathers r'.gathers
+    (record { client = tells.agent; good = tt; link = opened_tells rounder.upstreams t.link old.at.way tells.link })
+    (record { client = tells'.agent; good = tt; link = opened_tells rounder.upstreams t.link old'.at.way tells'.link }) r.gone_on r'.gone_on link.gathering link'.gathering r.gathering r'.gathering in
     let here : When = record { moment = r.moment; offset = rounder.offset } in
-    let A : State → Type 0 = λ s. TurnsWithFiles GivesFromLink here s old.devices (unasked r.gathers.link) r.answer r.agent r.devices r.files in
-    let B : Devices → Type 0 = λ d. TurnsWithFiles GivesFromLink here gathered.k d (unasked r.gathers.link) r.answer r.agent r.devices r.files in
-    let M : ℤ → Type 0 = λ m. TurnsWithFiles GivesFromLink (record { moment = m; offset = rounder.offset }) r'.gathers.client old'.devices (unasked r'.gathers.link) r'.answer r'.agent r'.devices r'.files in
-    let A' : State → Type 0 = λ s. TurnsWithFiles GivesFromLink here s old'.devices (unasked r'.gathers.link) r'.answer r'.agent r'.devices r'.files in
-    let B' : Devices → Type 0 = λ d. TurnsWithFiles GivesFromLink here gathered.k d (unasked r'.gathers.link) r'.answer r'.agent r'.devices r'.files in
+    let A : State → Type 0 = λ s. TurnsWithFiles GivesFromLink here s old.devices (unasked r.gathers.way) r.answer r.agent r.devices r.files in
+    let B : Devices → Type 0 = λ d. TurnsWithFiles GivesFromLink here gathered.k d (unasked r.gathers.way) r.answer r.agent r.devices r.files in
+    let M : ℤ → Type 0 = λ m. TurnsWithFiles GivesFromLink (record { moment = m; offset = rounder.offset }) r'.gathers.client old'.devices (unasked r'.gathers.way) r'.answer r'.agent r'.devices r'.files in
+    let A' : State → Type 0 = λ s. TurnsWithFiles GivesFromLink here s old'.devices (unasked r'.gathers.way) r'.answer r'.agent r'.devices r'.files in
+    let B' : Devices → Type 0 = λ d. TurnsWithFiles GivesFromLink here gathered.k d (unasked r'.gathers.way) r'.answer r'.agent r'.devices r'.files in
     let S : Devices → Type 0 = λ d. AreSteady d r.devices in
     let S' : Devices → Type 0 = λ d. AreSteady d r'.devices in
-    let turned = turns_once laws.turn here gathered.k t.devices (unasked r.gathers.link) (unasked r'.gathers.link) r.answer r'.answer r.agent r'.agent r.devices r'.devices r.files r'.files tells.all
+    let turned = turns_once laws.turn here gathered.k t.devices (unasked r.gathers.way) (unasked r'.gathers.way) r.answer r'.answer r.agent r'.agent r.devices r'.devices r.files r'.files tells.all
     (record { told = gathered.told; first = gathered.one.link; second = gathered.other.link; missed = refl }) r.plain r'.plain (subst S tells.devices (devices_steady rounder old lines new r steady.devices))
     (subst S' tells'.devices (devices_steady rounder old' lines' new' r' steady'.devices)) link.turns link'.turns (subst B tells.devices (subst A gathered.one.client r.turns))
     (subst B' tells'.devices (subst A' gathered.other.client (subst M (sym moments) r'.turns))) in
-    let posted = posting_once laws.round agent_client Any client r.agent turned.files.told (at r.agent r.files.source.link) (at r'.agent r'.files.source.link) r.went r'.went r.more r'.more r.posts r'.posts
+    let posted = posting_once laws.round agent_client Any client r.agent turned.files.told (at r.agent r.files.source.way) (at r'.agent r'.files.source.way) r.went r'.went r.more r'.more r.posts r'.posts
     (record { client = refl; good = tt; link = turned.files.first }) (record { client = sym turned.state; good = tt; link = turned.files.second }) r.went_on r'.went_on link.posting link'.posting r.posting r'.posting in
     let then : AgentTold = record { link = posted.told; agent = posted.k; devices = r.devices } in
-    let one : TellsPoint then (record { at = r.posts; devices = r.devices; clock = r.clock }) = record { link = posted.one.link; agent = posted.one.client; devices = refl; all = turned.tells } in
-    let other : TellsPoint then (record { at = r'.posts; devices = r'.devices; clock = r'.clock }) = record { link = posted.other.link; agent = posted.other.client; devices = sym turned.devices; all = turned.tells } in
+    let one : TellsPoint then (record { at = at_rest r.posts; devices = r.devices; clock = r.clock }) = record { link = posted.one.link; agent = posted.one.client; devices = refl; all = turned.tells } in
+    let other : TellsPoint then (record { at = at_rest r'.posts; devices = r'.devices; clock = r'.clock }) = record { link = posted.other.link; agent = posted.other.client; devices = sym turned.devices; all = turned.tells } in
     let T : AgentPoint → Type 0 = λ p. TellsPoint then p in
     let turn_lines : lines_of_turns rounder r.moment r.answer r.files.source.missed ≡ lines_of_turns rounder r'.moment r'.answer r'.files.source.missed =
     λ i. lines_of_turns rounder (moments i) (turned.answer_is i) (turned.files.missed i) in
+    let quiet = nothing_said rounder old lines new r link tells.link.rises in
+    let quiet' = nothing_said rounder old' lines' new' r' link' tells'.link.rises in
+    let said : switched r.gathers.way r.files.source.way ≡ switched r'.gathers.way r'.files.source.way = quiet ∙ sym quiet' in
     record {
-      same = r.lines_are ∙ (λ i. gathered.lines_are i ++ (turn_lines i ++ posted.lines_are i)) ∙ sym r'.lines_are;
+      same = r.lines_are ∙ (λ i. gathered.lines_are i ++ ((said i ++ turn_lines i) ++ posted.lines_are i)) ∙ sym r'.lines_are;
       t = then;
       one = subst T (sym r.is) one;
       other = subst T (sym r'.is) other;
@@ -349,7 +458,7 @@ on_the_way rounder old mid new run lines runs tells steady =
     let machine = steady.machine in
     let pocket = steady.pocket in
     let link_before = before.link in
-    let link_last = later-RoseBy (unanswered lines) mid.point.at.link.faults new.point.at.link.faults last.link in
+    let link_last = later-RoseBy (unanswered lines) mid.point.at.way.link.faults new.point.at.way.link.faults last.link in
     let machine_before = before.machine in
     let machine_last = later-RoseBy (unlooked lines) mid.point.devices.machine.faults new.point.devices.machine.faults last.machine in
     let pocket_before = before.pocket in
@@ -377,8 +486,8 @@ rounded_once laws rounder t old start one other Begun Begun tells tells' gives g
 rounded_once laws rounder t old start one other Begun (Then again lines') tells tells' gives gives' same runs' count steady steady' moments = absurd (omega (arith, count))
 rounded_once laws rounder t old start one other (Then run lines) Begun tells tells' gives gives' runs same' count steady steady' moments = absurd (omega (arith, count))
 rounded_once laws rounder t old start one other (Then run lines) (Then again lines') tells tells' gives gives' (mid, runs, round) (mid', runs', round') count steady steady' moments =
-    let way = on_the_way rounder old mid one run lines runs round steady in
-    let way' = on_the_way rounder start mid' other again lines' runs' round' steady' in
+    let stretch = on_the_way rounder old mid one run lines runs round steady in
+    let stretch' = on_the_way rounder start mid' other again lines' runs' round' steady' in
     let r = in_round rounder mid.point lines one.point round.round in
     let r' = in_round rounder mid'.point lines' other.point round'.round in
     let given = runs_give rounder old mid run runs gives in
@@ -387,7 +496,7 @@ rounded_once laws rounder t old start one other (Then run lines) (Then again lin
     let clock' = clock_more rounder mid' other lines' r' given'.0 given'.1 in
     let split = last_same given.0 given'.0 r.moment r'.moment (some_same (given.0 ++ r.moment ∷ []) (given'.0 ++ r'.moment ∷ []) (sym clock ∙ moments ∙ clock')) in
     let mids : mid.point.clock.given ≡ mid'.point.clock.given = given.1 ∙ ap (λ (l : List ℤ). Some l) split.0 ∙ sym given'.1 in
-    let before = rounded_once laws rounder t old start mid mid' run again tells tells' gives gives' runs runs' (omega (arith, count)) way.first way'.first mids in
+    let before = rounded_once laws rounder t old start mid mid' run again tells tells' gives gives' runs runs' (omega (arith, count)) stretch.first stretch'.first mids in
     let here = before.alike.0 in
-    let last = points_once laws rounder here mid.point mid'.point one.point other.point lines lines' (scene_point here mid before.alike.1) (scene_point here mid' before.alike.2) way.then way'.then r r' split.1 in
+    let last = points_once laws rounder here mid.point mid'.point one.point other.point lines lines' (scene_point here mid before.alike.1) (scene_point here mid' before.alike.2) stretch.then stretch'.then r r' split.1 in
     record { same = λ i. Then (before.same i) (last.same i); alike = (last.t, point_scene last.t one last.one, point_scene last.t other last.other) }

@@ -124,12 +124,12 @@ one_turn laws at s d answer other s2 s3 d2 d3 tells turn turn' steady steady' pl
     }
 
 -- ---- one file
-gives_later : (digest : List ℕ) (old : FileSource) (answer : Given) (new : FileSource) → GivesFromLink old digest answer new → old.link.faults ≤ new.link.faults
-gives_later digest old answer new (came, asks, by) = later-RoseBy _ old.link.faults new.link.faults (asked_counts (Option (List ℕ)) (file_request digest) TellsFile old.link came new.link asks)
+gives_later : (digest : List ℕ) (old : FileSource) (answer : Given) (new : FileSource) → GivesFromLink old digest answer new → old.way.link.faults ≤ new.way.link.faults
+gives_later digest old answer new (came, asks, by) = later-RoseBy _ old.way.link.faults new.way.link.faults (asked_counts (Option (List ℕ)) (file_request digest) TellsFile old.way came new.way asks)
 
 -- a file came, or that it isn't served
 record Came (digest : List ℕ) (bytes : Option (List ℕ)) (old new : FileSource) : Type 0 where
-  asks : AsksFor (file_request digest) TellsFile old.link (Ok bytes) new.link
+  asks : AsksFor (file_request digest) TellsFile old.way (Ok bytes) new.way
   missed : new.missed ≡ old.missed
 
 given_same : (one other : Option (List ℕ)) → given_of one ≡ given_of other → one ≡ other
@@ -138,7 +138,7 @@ given_same None (Some bytes) e = absurd (cc)
 given_same (Some bytes) None e = absurd (cc)
 given_same (Some bytes) (Some other) e = let same : bytes ≡ other = cc in ap (λ (b : List ℕ). Some b) same
 
-not_memory : (bytes : Option (List ℕ)) → given_of bytes ≡ given.Memory → ⊥
+pub not_memory : (bytes : Option (List ℕ)) → given_of bytes ≡ given.Memory → ⊥
 not_memory None e = cc
 not_memory (Some bytes) e = cc
 
@@ -148,7 +148,7 @@ not_missed (Some bytes) e = cc
 
 came : (digest : List ℕ) (bytes : Option (List ℕ)) (old new : FileSource) → GivesFromLink old digest (given_of bytes) new → Came digest bytes old new
 came digest bytes old new (Ok other, asks, (is, missed)) =
-    let P : Option (List ℕ) → Type 0 = λ b. AsksFor (file_request digest) TellsFile old.link (Ok b) new.link in
+    let P : Option (List ℕ) → Type 0 = λ b. AsksFor (file_request digest) TellsFile old.way (Ok b) new.way in
     record { asks = subst P (given_same other bytes (sym is)) asks; missed = missed }
 came digest bytes old new (Err miss.Memory, asks, (is, missed)) = absurd (not_memory bytes is)
 came digest bytes old new (Err miss.NoAnswer, asks, (is, missed)) = absurd (not_missed bytes is)
@@ -157,7 +157,7 @@ came digest bytes old new (Err miss.BadAnswer, asks, (is, missed)) = absurd (not
 -- a file that was asked for wasn't got
 record Missed (digest : List ℕ) (old new : FileSource) : Type 0 where
   why : Miss
-  asks : AsksFor (file_request digest) TellsFile old.link (Err why) new.link
+  asks : AsksFor (file_request digest) TellsFile old.way (Err why) new.way
   missed : new.missed ≡ Some why
   some : why ≢ miss.Memory
 
@@ -171,8 +171,8 @@ missed_so digest old new (Err miss.BadAnswer, asks, (is, missed)) = record { why
 -- both links tell one thing, and both files missed are one
 pub record SameFiles (one other : FileSource) : Type 0 where
   pub told : LinkTold
-  pub first : TellsLink told one.link
-  pub second : TellsLink told other.link
+  pub first : TellsLink told one.way.link
+  pub second : TellsLink told other.way.link
   pub missed : one.missed ≡ other.missed
 
 record SameBytes (bytes bytes' : Option (List ℕ)) (new new' : FileSource) : Type 0 where
@@ -194,10 +194,10 @@ ok_ample bytes e = cc
 err_ample : (why : Miss) → why ≢ miss.Memory → ◌≡◌ {A = Result (Option (List ℕ)) Miss} (Err why) (Err miss.Memory) → ⊥
 err_ample why some e = some (err_same why miss.Memory e)
 
-module _ (law : OneReply) (digest : List ℕ) (old old' new new' : FileSource) (files : SameFiles old old') (steady : new.link.faults ≡ old.link.faults) (steady' : new'.link.faults ≡ old'.link.faults) where
+module _ (law : OneReply) (digest : List ℕ) (old old' new new' : FileSource) (files : SameFiles old old') (steady : new.way.link.faults ≡ old.way.link.faults) (steady' : new'.way.link.faults ≡ old'.way.link.faults) where
   came_once : (bytes bytes' : Option (List ℕ)) → Came digest bytes old new → Came digest bytes' old' new' → SameBytes bytes bytes' new new'
   came_once bytes bytes' it it' =
-      let once = asked_once law TellsFile one_file (file_request digest) files.told old.link old'.link new.link new'.link (Ok bytes) (Ok bytes') files.first files.second steady steady' (ok_ample bytes) (ok_ample bytes') it.asks it'.asks in
+      let once = asked_once law TellsFile one_file (file_request digest) files.told old.way old'.way new.way new'.way (Ok bytes) (Ok bytes') files.first files.second steady steady' (ok_ample bytes) (ok_ample bytes') it.asks it'.asks in
       record {
         same = ok_same bytes bytes' once.same;
         files = record { told = once.alike.0; first = once.alike.1; second = once.alike.2; missed = it.missed ∙ files.missed ∙ sym it'.missed };
@@ -205,7 +205,7 @@ module _ (law : OneReply) (digest : List ℕ) (old old' new new' : FileSource) (
 
   missed_once : Missed digest old new → Missed digest old' new' → SameFiles new new'
   missed_once it it' =
-      let once = asked_once law TellsFile one_file (file_request digest) files.told old.link old'.link new.link new'.link (Err it.why) (Err it'.why) files.first files.second steady steady' (err_ample it.why it.some)
+      let once = asked_once law TellsFile one_file (file_request digest) files.told old.way old'.way new.way new'.way (Err it.why) (Err it'.why) files.first files.second steady steady' (err_ample it.why it.some)
       (err_ample it'.why it'.some) it.asks it'.asks in
       record {
         told = once.alike.0;
@@ -216,13 +216,13 @@ module _ (law : OneReply) (digest : List ℕ) (old old' new new' : FileSource) (
 
   came_not_missed : (bytes : Option (List ℕ)) → Came digest bytes old new → Missed digest old' new' → ⊥
   came_not_missed bytes it it' =
-      let once = asked_once law TellsFile one_file (file_request digest) files.told old.link old'.link new.link new'.link (Ok bytes) (Err it'.why) files.first files.second steady steady' (ok_ample bytes) (err_ample it'.why it'.some)
+      let once = asked_once law TellsFile one_file (file_request digest) files.told old.way old'.way new.way new'.way (Ok bytes) (Err it'.why) files.first files.second steady steady' (ok_ample bytes) (err_ample it'.why it'.some)
       it.asks it'.asks in
       not_ok bytes it'.why once.same
 
   missed_not_came : (bytes : Option (List ℕ)) → Missed digest old new → Came digest bytes old' new' → ⊥
   missed_not_came bytes it it' =
-      let once = asked_once law TellsFile one_file (file_request digest) files.told old.link old'.link new.link new'.link (Err it.why) (Ok bytes) files.first files.second steady steady' (err_ample it.why it.some) (ok_ample bytes)
+      let once = asked_once law TellsFile one_file (file_request digest) files.told old.way old'.way new.way new'.way (Err it.why) (Ok bytes) files.first files.second steady steady' (err_ample it.why it.some) (ok_ample bytes)
       it.asks it'.asks in
       not_ok bytes it.why (sym once.same)
 
@@ -245,21 +245,21 @@ record Goes (at : When) (s : State) (d : Devices) (source : FileSource) (fetches
   closed : Closed last told.source new
   plain : IsPlain last
   steady : AreSteady d d2
-  link : new.link.faults ≡ source.link.faults
+  link : new.way.link.faults ≡ source.way.link.faults
 
-closed_later : (last : Turned) (told new : FileSource) → Closed last told new → told.link.faults ≤ new.link.faults
-closed_later of_turn.Idle told new same = let e = ap (λ (f : FileSource). f.link.faults) same in omega (arith, e)
-closed_later (of_turn.Interrupted id) told new same = let e = ap (λ (f : FileSource). f.link.faults) same in omega (arith, e)
-closed_later (of_turn.Held id began component line) told new same = let e = ap (λ (f : FileSource). f.link.faults) same in omega (arith, e)
+closed_later : (last : Turned) (told new : FileSource) → Closed last told new → told.way.link.faults ≤ new.way.link.faults
+closed_later of_turn.Idle told new same = let e = ap (λ (f : FileSource). f.way.link.faults) same in omega (arith, e)
+closed_later (of_turn.Interrupted id) told new same = let e = ap (λ (f : FileSource). f.way.link.faults) same in omega (arith, e)
+closed_later (of_turn.Held id began component line) told new same = let e = ap (λ (f : FileSource). f.way.link.faults) same in omega (arith, e)
 closed_later (of_turn.Wants id began digest) told new it =
-    later-RoseBy _ told.link.faults new.link.faults (asked_counts (Option (List ℕ)) (file_request digest) TellsFile told.link (Err it.why) new.link it.asks)
-closed_later (of_turn.Ended id began outcome fail) told new same = let e = ap (λ (f : FileSource). f.link.faults) same in omega (arith, e)
-closed_later of_turn.MachineFault told new same = let e = ap (λ (f : FileSource). f.link.faults) same in omega (arith, e)
-closed_later of_turn.PocketFault told new same = let e = ap (λ (f : FileSource). f.link.faults) same in omega (arith, e)
-closed_later of_turn.Memory told new same = let e = ap (λ (f : FileSource). f.link.faults) same in omega (arith, e)
+    later-RoseBy _ told.way.link.faults new.way.link.faults (asked_counts (Option (List ℕ)) (file_request digest) TellsFile told.way (Err it.why) new.way it.asks)
+closed_later (of_turn.Ended id began outcome fail) told new same = let e = ap (λ (f : FileSource). f.way.link.faults) same in omega (arith, e)
+closed_later of_turn.MachineFault told new same = let e = ap (λ (f : FileSource). f.way.link.faults) same in omega (arith, e)
+closed_later of_turn.PocketFault told new same = let e = ap (λ (f : FileSource). f.way.link.faults) same in omega (arith, e)
+closed_later of_turn.Memory told new same = let e = ap (λ (f : FileSource). f.way.link.faults) same in omega (arith, e)
 
-all_later : (old : GiverView FileSource) (fetches : List Fetch) (new : GiverView FileSource) → GivesAll GivesFromLink old (map asked_by fetches) new → old.source.link.faults ≤ new.source.link.faults
-all_later old [] new same = let e = ap (λ (g : GiverView FileSource). g.source.link.faults) same in omega (arith, e)
+all_later : (old : GiverView FileSource) (fetches : List Fetch) (new : GiverView FileSource) → GivesAll GivesFromLink old (map asked_by fetches) new → old.source.way.link.faults ≤ new.source.way.link.faults
+all_later old [] new same = let e = ap (λ (g : GiverView FileSource). g.source.way.link.faults) same in omega (arith, e)
 all_later old (fetch ∷ fetches) new (between, gives, more) =
     let first = gives_later fetch.digest old.source (given_of fetch.bytes) between.source gives.source in
     let then = all_later between fetches new more in
@@ -288,7 +288,7 @@ same_both told told' new new' files same same' =
     let Q : FileSource → Type 0 = λ f. SameFiles new f in
     subst Q (sym same') (subst P (sym same) files)
 
-closed_once : OneReply → (last : Turned) (told told' new new' : FileSource) → SameFiles told told' → new.link.faults ≡ told.link.faults → new'.link.faults ≡ told'.link.faults → Closed last told new → Closed last told' new'
+closed_once : OneReply → (last : Turned) (told told' new new' : FileSource) → SameFiles told told' → new.way.link.faults ≡ told.way.link.faults → new'.way.link.faults ≡ told'.way.link.faults → Closed last told new → Closed last told' new'
     → SameFiles new new'
 closed_once law of_turn.Idle told told' new new' files steady steady' same same' = same_both told told' new new' files same same'
 closed_once law (of_turn.Interrupted id) told told' new new' files steady steady' same same' = same_both told told' new new' files same same'
@@ -305,7 +305,7 @@ record Ends (at : When) (s : State) (d : Devices) (source : FileSource) (last : 
   closed : Closed last source new
   plain : IsPlain last
   steady : AreSteady d d2
-  link : new.link.faults ≡ source.link.faults
+  link : new.way.link.faults ≡ source.way.link.faults
 
 ends : (at : When) (s : State) (d : Devices) (source : FileSource) (last : Turned) (s2 : State) (d2 : Devices) (new : FileSource) → Goes at s d source [] last s2 d2 new → Ends at s d source last s2 d2 new
 ends at s d source last s2 d2 new goes =
@@ -325,7 +325,7 @@ record Begins (at : When) (s : State) (d : Devices) (source : FileSource) (fetch
   supplies : SuppliesState turned fetch.digest fetch.bytes true between
   file : FileSource
   got : Came fetch.digest fetch.bytes source file
-  link : file.link.faults ≡ source.link.faults
+  link : file.way.link.faults ≡ source.way.link.faults
   rest : Goes at between then file fetches last s2 d2 new
 
 begins : TurnLaws → (at : When) (s : State) (d : Devices) (source : FileSource) (fetch : Fetch) (fetches : List Fetch) (last : Turned) (s2 : State) (d2 : Devices) (new : FileSource) → Goes at s d source (fetch ∷ fetches) last s2 d2 new
@@ -465,7 +465,7 @@ record Opened (at : When) (s : State) (d : Devices) (source : FileSource) (answe
   goes : Goes at s d source fetches last s2 d2 new
   is : answer ≡ with_begun (any_begun fetches) last
 
-opened : (at : When) (s : State) (d : Devices) (g : GiverView FileSource) (answer : Turned) (s2 : State) (d2 : Devices) (g2 : GiverView FileSource) → IsPlain answer → AreSteady d d2 → g2.source.link.faults ≡ g.source.link.faults
+opened : (at : When) (s : State) (d : Devices) (g : GiverView FileSource) (answer : Turned) (s2 : State) (d2 : Devices) (g2 : GiverView FileSource) → IsPlain answer → AreSteady d d2 → g2.source.way.link.faults ≡ g.source.way.link.faults
     → TurnsWithFiles GivesFromLink at s d g answer s2 d2 g2 → Opened at s d g.source answer s2 d2 g2.source
 opened at s d g answer s2 d2 g2 plain steady link turns =
     let made = turns.turns in
@@ -501,7 +501,7 @@ pub record SameAnswers (answer answer' : Turned) (s2 s2' : State) (d2 d2' : Devi
   pub files : SameFiles new new'
 
 pub turns_once : TurnLaws → (at : When) (s : State) (d : Devices) (g g' : GiverView FileSource) (answer answer' : Turned) (s2 s2' : State) (d2 d2' : Devices) (g2 g2' : GiverView FileSource) → TellsDevices d
-    → SameFiles g.source g'.source → IsPlain answer → IsPlain answer' → AreSteady d d2 → AreSteady d d2' → g2.source.link.faults ≡ g.source.link.faults → g2'.source.link.faults ≡ g'.source.link.faults
+    → SameFiles g.source g'.source → IsPlain answer → IsPlain answer' → AreSteady d d2 → AreSteady d d2' → g2.source.way.link.faults ≡ g.source.way.link.faults → g2'.source.way.link.faults ≡ g'.source.way.link.faults
     → TurnsWithFiles GivesFromLink at s d g answer s2 d2 g2 → TurnsWithFiles GivesFromLink at s d g' answer' s2' d2' g2' → SameAnswers answer answer' s2 s2' d2 d2' g2.source g2'.source
 turns_once laws at s d g g' answer answer' s2 s2' d2 d2' g2 g2' tells files plain plain' steady steady' link link' turns turns' =
     let one = opened at s d g answer s2 d2 g2 plain steady link turns in
@@ -515,20 +515,20 @@ turns_once laws at s d g g' answer answer' s2 s2' d2 d2' g2 g2' tells files plai
       files = once.files;
     }
 
-closes_later : (last : Turned) (told g2 : GiverView FileSource) (answer : Turned) → Closes GivesFromLink last told answer g2 → told.source.link.faults ≤ g2.source.link.faults
-closes_later of_turn.Idle told g2 answer (same, is) = let e = ap (λ (g : GiverView FileSource). g.source.link.faults) same in omega (arith, e)
-closes_later (of_turn.Interrupted id) told g2 answer (same, is) = let e = ap (λ (g : GiverView FileSource). g.source.link.faults) same in omega (arith, e)
-closes_later (of_turn.Held id began component line) told g2 answer (same, is) = let e = ap (λ (g : GiverView FileSource). g.source.link.faults) same in omega (arith, e)
+closes_later : (last : Turned) (told g2 : GiverView FileSource) (answer : Turned) → Closes GivesFromLink last told answer g2 → told.source.way.link.faults ≤ g2.source.way.link.faults
+closes_later of_turn.Idle told g2 answer (same, is) = let e = ap (λ (g : GiverView FileSource). g.source.way.link.faults) same in omega (arith, e)
+closes_later (of_turn.Interrupted id) told g2 answer (same, is) = let e = ap (λ (g : GiverView FileSource). g.source.way.link.faults) same in omega (arith, e)
+closes_later (of_turn.Held id began component line) told g2 answer (same, is) = let e = ap (λ (g : GiverView FileSource). g.source.way.link.faults) same in omega (arith, e)
 closes_later (of_turn.Wants id began digest) told g2 answer (inl (gives, is)) = gives_later digest told.source given.NotGot g2.source gives.source
 closes_later (of_turn.Wants id began digest) told g2 answer (inr (gives, is)) = gives_later digest told.source given.Memory g2.source gives.source
-closes_later (of_turn.Ended id began outcome fail) told g2 answer (same, is) = let e = ap (λ (g : GiverView FileSource). g.source.link.faults) same in omega (arith, e)
-closes_later of_turn.MachineFault told g2 answer (same, is) = let e = ap (λ (g : GiverView FileSource). g.source.link.faults) same in omega (arith, e)
-closes_later of_turn.PocketFault told g2 answer (same, is) = let e = ap (λ (g : GiverView FileSource). g.source.link.faults) same in omega (arith, e)
-closes_later of_turn.Memory told g2 answer (same, is) = let e = ap (λ (g : GiverView FileSource). g.source.link.faults) same in omega (arith, e)
+closes_later (of_turn.Ended id began outcome fail) told g2 answer (same, is) = let e = ap (λ (g : GiverView FileSource). g.source.way.link.faults) same in omega (arith, e)
+closes_later of_turn.MachineFault told g2 answer (same, is) = let e = ap (λ (g : GiverView FileSource). g.source.way.link.faults) same in omega (arith, e)
+closes_later of_turn.PocketFault told g2 answer (same, is) = let e = ap (λ (g : GiverView FileSource). g.source.way.link.faults) same in omega (arith, e)
+closes_later of_turn.Memory told g2 answer (same, is) = let e = ap (λ (g : GiverView FileSource). g.source.way.link.faults) same in omega (arith, e)
 
 -- the link's count doesn't fall in them
 pub files_later : (at : When) (s : State) (d : Devices) (g : GiverView FileSource) (answer : Turned) (s2 : State) (d2 : Devices) (g2 : GiverView FileSource) → TurnsWithFiles GivesFromLink at s d g answer s2 d2 g2
-    → g.source.link.faults ≤ g2.source.link.faults
+    → g.source.way.link.faults ≤ g2.source.way.link.faults
 files_later at s d g answer s2 d2 g2 turns =
     let asked = all_later g turns.turns.fetches turns.told turns.turns.asked in
     let closed = closes_later turns.last turns.told g2 answer turns.closes in

@@ -13,7 +13,7 @@ use Rattle.agent_core.specs.Opens.{OpensAgent}
 use Rattle.agent_core.specs.ToldFaults.{fault_told}
 use Rattle.agent_core.specs.declared.opening.Opened.TheVariants as opened
 use Rattle.agent_core.specs.declared.turned.Turned.TheVariants as turn
-use Rattle.desk_rounds.specs.Lines.{Line, no_answer, bad_answer, turned}
+use Rattle.desk_rounds.specs.Lines.{Line, no_answer, bad_answer, second_upstream, turned}
 use Rattle.desk_serve.specs.declared.step.Stop.{Stop}
 use Rattle.desk_serve.specs.declared.step.Stop.TheVariants as stop
 use Rattle.desk_serve.specs.ServeCounts.{is_door_fault}
@@ -41,12 +41,13 @@ pub record CountsRounds (result : Result Unit AgentStop) (old new : AgentScene) 
   pub clock : CountsFaults (IsErrOf result cut.Clock) old.point.clock.faults new.point.clock.faults
   pub pocket : CountsFaults (IsErrOf result cut.Pocket) old.point.devices.pocket.faults new.point.devices.pocket.faults
   pub machine : old.point.devices.machine.faults ≤ new.point.devices.machine.faults
-  pub link : old.point.at.link.faults ≤ new.point.at.link.faults
+  pub link : old.point.at.way.link.faults ≤ new.point.at.way.link.faults
 
 -- ---- lines that tell a fault
--- one where an exchange failed
+-- one where an exchange failed, also where another upstream was turned to then
 abbrev pub no_answer_told : Line → ℕ
 no_answer_told no_answer = 1
+no_answer_told second_upstream = 1
 no_answer_told bad_answer = 0
 no_answer_told (turned computer moment answer) = 0
 
@@ -88,7 +89,7 @@ pub record CountsSteps (old : RelayScene) (run : RelayRun) (new : RelayScene) : 
 -- Of whole rounds, at least as many faults of the link were counted as lines say that an exchange failed, and at least as many of the
 -- machine as lines say that a look failed before an attempt began.
 pub record CountsLines (old : AgentScene) (run : AgentRun) (new : AgentScene) : Type 0 where
-  pub link : RoseBy (told_of_rounds no_answer_told run) old.point.at.link.faults new.point.at.link.faults
+  pub link : RoseBy (told_of_rounds no_answer_told run) old.point.at.way.link.faults new.point.at.way.link.faults
   pub machine : RoseBy (told_of_rounds machine_fault_told run) old.point.devices.machine.faults new.point.devices.machine.faults
 
 -- ---- conversations in which a relay told a fault of its link

@@ -1,5 +1,6 @@
 pub mod RelaySteps
 pub mod RelayRuns
+pub mod AskedUpstreams
 pub mod KeptFiles
 pub mod AgentSteps
 pub mod AgentRuns

@@ -19,14 +19,14 @@ pub record TellsDevices (devices : Devices) : Type 0 where
 
 -- The link and the devices tell this, and the agent is in this state.
 pub record TellsAgent (told : AgentTold) (scene : AgentScene) : Type 0 where
-  pub link : TellsLink told.link scene.point.at.link
+  pub link : TellsLink told.link scene.point.at.way.link
   pub agent : scene.point.at.client ≡ told.agent
   pub devices : scene.point.devices ≡ told.devices
   pub all : TellsDevices told.devices
 
 -- Neither the link nor the machine nor the pocket failed.
 pub record IsSteadyAgent (old new : AgentScene) : Type 0 where
-  pub link : new.point.at.link.faults ≡ old.point.at.link.faults
+  pub link : new.point.at.way.link.faults ≡ old.point.at.way.link.faults
   pub machine : new.point.devices.machine.faults ≡ old.point.devices.machine.faults
   pub pocket : new.point.devices.pocket.faults ≡ old.point.devices.pocket.faults
 

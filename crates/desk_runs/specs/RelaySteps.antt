@@ -1,5 +1,5 @@
 -- The steps of a relay: upstream rounds and conversations, each with its lines, and the broken one that ends a run.
-use Rattle.std.specs.Prelude.{◌≡◌, ◌≢◌, List}
+use Rattle.std.specs.Prelude.{◌≡◌, ◌≢◌, List, None}
 use Rattle.std.specs.declared.option.Option.{Option}
 use Rattle.desk_base.specs.Flow.{Writes}
 use Rattle.desk_base.specs.Views.{SinkView}
@@ -22,6 +22,7 @@ use Rattle.desk_rounds.specs.declared.part.Next.TheVariants as next
 use Rattle.desk_rounds.specs.Clients.{At, at}
 use Rattle.desk_rounds.specs.Lines.{Line, lines_text}
 use Rattle.desk_rounds.specs.RelayRounds.{RelayRound}
+use Rattle.desk_rounds.specs.Ways.{way}
 
 -- what the door, the link and the sink tell, and what the relay keeps, with the files of its cache, if it has one
 pub record RelayScene : Type 0 where
@@ -36,7 +37,7 @@ relay_scene door relay link cache sink = record { door = door; relay = relay; li
 
 -- what a round of it goes on
 abbrev pub upstream_of : RelayScene → At RelayState
-upstream_of scene = at scene.relay scene.link
+upstream_of scene = at scene.relay (way scene.link None)
 
 -- what its host tells
 abbrev pub host_of : RelayScene → RelayTells

@@ -1,5 +1,5 @@
 // What holds of every run of a relay and of an agent.
-ghost use Rattle.std.specs.Prelude.{◌≡◌, ℕ, ◌+◌, IsSome, List, [], All, codes};
+ghost use Rattle.std.specs.Prelude.{◌≡◌, ℕ, ◌+◌, IsSome, List, Some, [], All, codes};
 ghost use Rattle.desk_base.specs.Counts.{Rose};
 ghost use Rattle.bf_machine.specs.Rises.{RoseBy};
 ghost use Rattle.route_rules.specs.declared.method.Asking.{Asking};
@@ -9,12 +9,17 @@ ghost use Rattle.desk_hosts.specs.RelayCalls.{RelayCalls, RelayTells};
 ghost use Rattle.desk_hosts.specs.RelayFiles.{passed_on};
 ghost use Rattle.std.specs.declared.result.Result.{Result};
 ghost use Rattle.desk_rounds.specs.declared.agent_rounds.Rounder.{Rounder};
+ghost use Rattle.desk_rounds.specs.declared.agent_rounds.RoundEnd.TheVariants as end;
+ghost use Rattle.desk_rounds.specs.declared.way.Upstreams.{Upstreams};
+ghost use Rattle.desk_rounds.specs.AgentRounds.{AgentPoint, AgentRound};
+ghost use Rattle.desk_rounds.specs.Lines.{Line};
 ghost use Rattle.desk_serve.specs.declared.step.Stop.{Stop};
 ghost use Rattle.desk_serve.specs.declared.step.Stop.TheVariants as stop;
 ghost use Rattle.desk_runs.specs.declared.rounding.AgentStop.{AgentStop};
 ghost use Rattle.desk_runs.specs.AgentRuns.{AgentRun, MakesAll, round_count};
 ghost use Rattle.desk_runs.specs.AgentRuns as rounds;
 ghost use Rattle.desk_runs.specs.AgentSteps.{AgentScene};
+ghost use Rattle.desk_runs.specs.AskedUpstreams.{AsksEither};
 ghost use Rattle.desk_runs.specs.Counting.{CountsLines, CountsRelayed, CountsRounds, CountsSteps};
 ghost use Rattle.desk_runs.specs.Counting.{ToldLinkFaults, WasOpened, door_faults, no_answer_told, told_of_relay};
 ghost use Rattle.desk_runs.specs.Counting.{told_of_rounds, turn_fault_told};
@@ -100,6 +105,12 @@ pub fn one_relaying()
     one_site();
     one_keeping();
 }
+
+/// In a whole round an agent with two upstreams asks the first, and from the first exchange on that fails the second.
+pub fn a_round_turns_once()
+    ensures { (rounder : Rounder) (two : Upstreams) (old new : AgentPoint) (lines : List Line) → rounder.upstreams ≡ Some two
+        → AgentRound rounder old end.Done lines new → AsksEither two old.at.way.link new.at.way.link }
+{}
 
 /// What an agent does is one thing: where links, machines and pockets tell one thing and none fails, and clocks give the same moments, as
 /// many rounds print the same lines, ask the upstream the same, look up, do and save the same, and leave the same.

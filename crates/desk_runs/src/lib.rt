@@ -6,9 +6,9 @@ mod relaying;
 mod rounding;
 
 pub use law::{
-    a_link_fault_was_counted, a_relay_keeps_what_was_asked_for, answers_are_those_without_a_cache,
-    faults_of_steps_were_counted, one_relaying, one_rounding, what_ends_a_relay_was_counted,
-    what_ends_rounds_was_counted,
+    a_link_fault_was_counted, a_relay_keeps_what_was_asked_for, a_round_turns_once,
+    answers_are_those_without_a_cache, faults_of_steps_were_counted, one_relaying, one_rounding,
+    what_ends_a_relay_was_counted, what_ends_rounds_was_counted,
 };
 pub use relaying::relay_all;
 pub use rounding::{AgentStop, make_rounds};

@@ -1,4 +1,5 @@
 // Rows of rounds of agents, by hand: what comes of each exchange, and what is printed, asked and left to report.
+use crate::site_texts::{ACTION, FETCHES, LISTED, LOOKS, MAKES};
 
 /// An exchange is told as `upstream` says.
 pub(crate) struct Row {
@@ -8,9 +9,11 @@ pub(crate) struct Row {
     pub(crate) any_of: &'static [&'static str],
     pub(crate) behind: &'static [&'static str],
     pub(crate) fails: Fails,
+    /// Whether there is a second upstream.
+    pub(crate) has_second: bool,
     pub(crate) rounds: u32,
-    /// The lines that are printed, and how a round ended that isn't whole; then the method and the path of each request and the number of
-    /// each posted report; then the numbers of the reports that the agent has.
+    /// The lines that are printed, and how a round ended that isn't whole; then the method and the path of each request, behind its upstream
+    /// where one was opened, and the number of each posted report; then the numbers of the reports that the agent has.
     pub(crate) wanted: &'static str,
 }
 
@@ -23,55 +26,6 @@ pub(crate) enum Fails {
     Look,
 }
 
-/// The reply that lists the two sites.
-const LISTED: &str = "200 actionsite 1\ndesk 1\n";
-
-/// The site of one action, open to all at any time.
-const ACTION: &str = "site actionsite 1
-action 7
-issued 900
-content desk 1
-members stop
-target all
-start none
-until none
-hours none
-days 1111111
-retries 0 0
-reapply never
-state open
-end
-";
-
-/// A fixlet that fetches the file `abc` twice.
-const FETCHES: &str = "site desk 1
-fixlet 1
-title Fetches
-success lines
-| prefetch p sha1:a9993e364706816aba3e25717850c26c9cd0d89d size:3 http://host/p sha256:ba7816bf8f01cfea414140de5dae2223b00361a396177a9cb410ff61f20015ad
-| prefetch q sha1:a9993e364706816aba3e25717850c26c9cd0d89d size:3 http://host/q sha256:ba7816bf8f01cfea414140de5dae2223b00361a396177a9cb410ff61f20015ad
-end
-";
-
-/// A fixlet that makes a folder.
-const MAKES: &str = "site desk 1
-fixlet 1
-title Makes
-success lines
-| folder create /t
-end
-";
-
-/// A fixlet that is relevant by a look.
-const LOOKS: &str = "site desk 1
-fixlet 1
-title Looks
-relevance not exists file \"/t\"
-success lines
-| folder create /t
-end
-";
-
 /// What comes of sites and of the turn.
 pub(crate) const TURNS: [Row; 9] = [
     Row {
@@ -80,6 +34,7 @@ pub(crate) const TURNS: [Row; 9] = [
         any_of: &[""],
         behind: &[],
         fails: Fails::Nothing,
+        has_second: false,
         rounds: 1,
         wanted: "link: no answer\nturn pc1 1000: idle\nGET /sites HTTP/1.1\n",
     },
@@ -89,6 +44,7 @@ pub(crate) const TURNS: [Row; 9] = [
         any_of: &["x"],
         behind: &[],
         fails: Fails::Nothing,
+        has_second: false,
         rounds: 1,
         wanted: "link: bad answer\nturn pc1 1000: idle\nGET /sites HTTP/1.1\n",
     },
@@ -98,6 +54,7 @@ pub(crate) const TURNS: [Row; 9] = [
         any_of: &["200 "],
         behind: &[],
         fails: Fails::Nothing,
+        has_second: false,
         rounds: 1,
         wanted: "turn pc1 1000: idle\nGET /sites HTTP/1.1\n",
     },
@@ -107,6 +64,7 @@ pub(crate) const TURNS: [Row; 9] = [
         any_of: &["404 "],
         behind: &[MAKES],
         fails: Fails::Nothing,
+        has_second: false,
         rounds: 1,
         wanted: "link: bad answer\nturn pc1 1000: idle\nGET /sites HTTP/1.1\nGET /sites/actionsite/0 HTTP/1.1\nGET /sites/desk/0 HTTP/1.1\n",
     },
@@ -116,6 +74,7 @@ pub(crate) const TURNS: [Row; 9] = [
         any_of: &[""],
         behind: &[MAKES],
         fails: Fails::Nothing,
+        has_second: false,
         rounds: 1,
         wanted: "link: no answer\nturn pc1 1000: idle\nGET /sites HTTP/1.1\nGET /sites/actionsite/0 HTTP/1.1\n",
     },
@@ -125,6 +84,7 @@ pub(crate) const TURNS: [Row; 9] = [
         any_of: &[LOOKS],
         behind: &[],
         fails: Fails::Look,
+        has_second: false,
         rounds: 1,
         wanted: "turn pc1 1000: machine fault\nGET /sites HTTP/1.1\nGET /sites/actionsite/0 HTTP/1.1\nGET /sites/desk/0 HTTP/1.1\n",
     },
@@ -134,6 +94,7 @@ pub(crate) const TURNS: [Row; 9] = [
         any_of: &["500 "],
         behind: &[],
         fails: Fails::Clock,
+        has_second: false,
         rounds: 1,
         wanted: "link: bad answer\nclock fault\nGET /sites HTTP/1.1\n",
     },
@@ -143,6 +104,7 @@ pub(crate) const TURNS: [Row; 9] = [
         any_of: &[MAKES],
         behind: &[],
         fails: Fails::Save,
+        has_second: false,
         rounds: 1,
         wanted: "pocket fault\nGET /sites HTTP/1.1\nGET /sites/actionsite/0 HTTP/1.1\nGET /sites/desk/0 HTTP/1.1\n",
     },
@@ -152,6 +114,7 @@ pub(crate) const TURNS: [Row; 9] = [
         any_of: &["200 "],
         behind: &["200 ok\n"],
         fails: Fails::Save,
+        has_second: false,
         rounds: 2,
         wanted: "pocket fault\nturn pc1 1001: began 7, fixed\nGET /sites HTTP/1.1\nGET /sites/actionsite/0 HTTP/1.1\nGET /sites/desk/0 HTTP/1.1\nGET /sites HTTP/1.1\nPOST /reports HTTP/1.1\nseq 1\n",
     },
@@ -165,6 +128,7 @@ pub(crate) const FILES: [Row; 7] = [
         any_of: &["200 abc"],
         behind: &["200 ok\n", "200 ok\n"],
         fails: Fails::Nothing,
+        has_second: false,
         rounds: 1,
         wanted: "turn pc1 1000: began 7, fixed\nGET /sites HTTP/1.1\nGET /sites/actionsite/0 HTTP/1.1\nGET /sites/desk/0 HTTP/1.1\nGET /files/ba7816bf8f01cfea414140de5dae2223b00361a396177a9cb410ff61f20015ad HTTP/1.1\nGET /files/ba7816bf8f01cfea414140de5dae2223b00361a396177a9cb410ff61f20015ad HTTP/1.1\nPOST /reports HTTP/1.1\nseq 1\nPOST /reports HTTP/1.1\nseq 2\n",
     },
@@ -174,6 +138,7 @@ pub(crate) const FILES: [Row; 7] = [
         any_of: &["404 gone"],
         behind: &["200 ok\n", "200 ok\n"],
         fails: Fails::Nothing,
+        has_second: false,
         rounds: 1,
         wanted: "turn pc1 1000: began 7, failed at line 1 cause 47 ba7816bf8f01cfea414140de5dae2223b00361a396177a9cb410ff61f20015ad\nGET /sites HTTP/1.1\nGET /sites/actionsite/0 HTTP/1.1\nGET /sites/desk/0 HTTP/1.1\nGET /files/ba7816bf8f01cfea414140de5dae2223b00361a396177a9cb410ff61f20015ad HTTP/1.1\nPOST /reports HTTP/1.1\nseq 1\nPOST /reports HTTP/1.1\nseq 2\n",
     },
@@ -183,6 +148,7 @@ pub(crate) const FILES: [Row; 7] = [
         any_of: &[""],
         behind: &["200 ok\n"],
         fails: Fails::Nothing,
+        has_second: false,
         rounds: 1,
         wanted: "link: no answer\nturn pc1 1000: began 7, wants ba7816bf8f01cfea414140de5dae2223b00361a396177a9cb410ff61f20015ad\nGET /sites HTTP/1.1\nGET /sites/actionsite/0 HTTP/1.1\nGET /sites/desk/0 HTTP/1.1\nGET /files/ba7816bf8f01cfea414140de5dae2223b00361a396177a9cb410ff61f20015ad HTTP/1.1\nPOST /reports HTTP/1.1\nseq 1\n",
     },
@@ -192,6 +158,7 @@ pub(crate) const FILES: [Row; 7] = [
         any_of: &["500 abc"],
         behind: &["200 ok\n"],
         fails: Fails::Nothing,
+        has_second: false,
         rounds: 1,
         wanted: "link: bad answer\nturn pc1 1000: began 7, wants ba7816bf8f01cfea414140de5dae2223b00361a396177a9cb410ff61f20015ad\nGET /sites HTTP/1.1\nGET /sites/actionsite/0 HTTP/1.1\nGET /sites/desk/0 HTTP/1.1\nGET /files/ba7816bf8f01cfea414140de5dae2223b00361a396177a9cb410ff61f20015ad HTTP/1.1\nPOST /reports HTTP/1.1\nseq 1\n",
     },
@@ -201,6 +168,7 @@ pub(crate) const FILES: [Row; 7] = [
         any_of: &[""],
         behind: &["200 ok\n", LISTED, "200 abc", "200 ok\n"],
         fails: Fails::Nothing,
+        has_second: false,
         rounds: 2,
         wanted: "link: no answer\nturn pc1 1000: began 7, wants ba7816bf8f01cfea414140de5dae2223b00361a396177a9cb410ff61f20015ad\nturn pc1 1001: went on 7, fixed\nGET /sites HTTP/1.1\nGET /sites/actionsite/0 HTTP/1.1\nGET /sites/desk/0 HTTP/1.1\nGET /files/ba7816bf8f01cfea414140de5dae2223b00361a396177a9cb410ff61f20015ad HTTP/1.1\nGET /files/ba7816bf8f01cfea414140de5dae2223b00361a396177a9cb410ff61f20015ad HTTP/1.1\nPOST /reports HTTP/1.1\nseq 1\nGET /sites HTTP/1.1\nGET /files/ba7816bf8f01cfea414140de5dae2223b00361a396177a9cb410ff61f20015ad HTTP/1.1\nPOST /reports HTTP/1.1\nseq 2\n",
     },
@@ -210,6 +178,7 @@ pub(crate) const FILES: [Row; 7] = [
         any_of: &[""],
         behind: &[],
         fails: Fails::Nothing,
+        has_second: false,
         rounds: 1,
         wanted: "link: no answer\nturn pc1 1000: began 7, wants ba7816bf8f01cfea414140de5dae2223b00361a396177a9cb410ff61f20015ad\nlink: no answer\nGET /sites HTTP/1.1\nGET /sites/actionsite/0 HTTP/1.1\nGET /sites/desk/0 HTTP/1.1\nGET /files/ba7816bf8f01cfea414140de5dae2223b00361a396177a9cb410ff61f20015ad HTTP/1.1\nPOST /reports HTTP/1.1\nseq 1\nhas 1\n",
     },
@@ -219,6 +188,7 @@ pub(crate) const FILES: [Row; 7] = [
         any_of: &[""],
         behind: &[],
         fails: Fails::Nothing,
+        has_second: false,
         rounds: 2,
         wanted: "link: no answer\nturn pc1 1000: began 7, wants ba7816bf8f01cfea414140de5dae2223b00361a396177a9cb410ff61f20015ad\nlink: no answer\nlink: no answer\nlink: no answer\nturn pc1 1001: went on 7, wants ba7816bf8f01cfea414140de5dae2223b00361a396177a9cb410ff61f20015ad\nlink: no answer\nGET /sites HTTP/1.1\nGET /sites/actionsite/0 HTTP/1.1\nGET /sites/desk/0 HTTP/1.1\nGET /files/ba7816bf8f01cfea414140de5dae2223b00361a396177a9cb410ff61f20015ad HTTP/1.1\nPOST /reports HTTP/1.1\nseq 1\nGET /sites HTTP/1.1\nGET /files/ba7816bf8f01cfea414140de5dae2223b00361a396177a9cb410ff61f20015ad HTTP/1.1\nPOST /reports HTTP/1.1\nseq 1\nhas 1\n",
     },
@@ -232,6 +202,7 @@ pub(crate) const REPORTS: [Row; 4] = [
         any_of: &["200 ok\n", "200 again\n", "200 stored\n"],
         behind: &[],
         fails: Fails::Nothing,
+        has_second: false,
         rounds: 1,
         wanted: "turn pc1 1000: began 7, fixed\nGET /sites HTTP/1.1\nGET /sites/actionsite/0 HTTP/1.1\nGET /sites/desk/0 HTTP/1.1\nPOST /reports HTTP/1.1\nseq 1\n",
     },
@@ -245,6 +216,7 @@ pub(crate) const REPORTS: [Row; 4] = [
         ],
         behind: &[],
         fails: Fails::Nothing,
+        has_second: false,
         rounds: 1,
         wanted: "turn pc1 1000: began 7, fixed\nGET /sites HTTP/1.1\nGET /sites/actionsite/0 HTTP/1.1\nGET /sites/desk/0 HTTP/1.1\nPOST /reports HTTP/1.1\nseq 1\nhas 1\n",
     },
@@ -269,6 +241,7 @@ pub(crate) const REPORTS: [Row; 4] = [
         ],
         behind: &["200 ok\n"],
         fails: Fails::Nothing,
+        has_second: false,
         rounds: 1,
         wanted: "turn pc1 1000: began 7, failed at line 1 cause 47 ba7816bf8f01cfea414140de5dae2223b00361a396177a9cb410ff61f20015ad\nlink: bad answer\nGET /sites HTTP/1.1\nGET /sites/actionsite/0 HTTP/1.1\nGET /sites/desk/0 HTTP/1.1\nGET /files/ba7816bf8f01cfea414140de5dae2223b00361a396177a9cb410ff61f20015ad HTTP/1.1\nPOST /reports HTTP/1.1\nseq 1\nPOST /reports HTTP/1.1\nseq 2\nhas 1\n",
     },
@@ -278,6 +251,7 @@ pub(crate) const REPORTS: [Row; 4] = [
         any_of: &[""],
         behind: &["200 ok\n"],
         fails: Fails::Nothing,
+        has_second: false,
         rounds: 1,
         wanted: "turn pc1 1000: began 7, failed at line 1 cause 47 ba7816bf8f01cfea414140de5dae2223b00361a396177a9cb410ff61f20015ad\nlink: no answer\nGET /sites HTTP/1.1\nGET /sites/actionsite/0 HTTP/1.1\nGET /sites/desk/0 HTTP/1.1\nGET /files/ba7816bf8f01cfea414140de5dae2223b00361a396177a9cb410ff61f20015ad HTTP/1.1\nPOST /reports HTTP/1.1\nseq 1\nhas 1\nhas 2\n",
     },

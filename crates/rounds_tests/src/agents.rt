@@ -5,12 +5,13 @@ ghost use Rattle.agent_core.specs.Agents.{shown_state};
 ghost use Rattle.agent_core.specs.Stops.{HeldWaitsBelow};
 
 use crate::agent_rows::{FILES, Fails, REPORTS, Row, TURNS};
+use crate::second_rows::SECOND;
 use crate::upstream::{link, show_asked};
 use agent_core::{Agent, MemoryPocket, Opened};
 use bf_machine::{PlainMachine, read_world};
 use desk_base::{Bytes, StepClock, decimal};
 use desk_door::MemoryLink;
-use desk_rounds::{RoundEnd, Rounder, agent_round};
+use desk_rounds::{RoundEnd, Rounder, Upstreams, agent_round};
 use line_forms::read_name;
 use rel_lexer::Text;
 use std::alloc::{AllocError, Global};
@@ -63,9 +64,21 @@ fn end_word(ended: RoundEnd) -> &'static str {
     }
 }
 
+/// The upstreams `u` and `v`, or none.
+fn upstreams(alloc: Global, has_second: bool) -> Result<Option<Upstreams>, AllocError> {
+    if !has_second {
+        return Ok(None);
+    }
+    Ok(Some(Upstreams {
+        first: Text::from_str(alloc, "u")?,
+        second: Text::from_str(alloc, "v")?,
+    }))
+}
+
 /// Appends what a round prints.
 fn one_round(
     alloc: Global,
+    has_second: bool,
     clock: &mut StepClock,
     machine: &mut PlainMachine,
     agent: &mut Agent,
@@ -79,16 +92,17 @@ fn one_round(
     let rounder = Rounder {
         name: Text::from_str(alloc, "pc1").ok()?,
         offset: 60,
+        upstreams: upstreams(alloc, has_second).ok()?,
     };
     let ended = agent_round(alloc, &rounder, agent, clock, machine, pocket, link, out);
     drop(rounder);
     out.extend(end_word(ended).as_bytes()).ok()
 }
 
-/// Appends what so many rounds print.
+/// Appends what the rounds of a row print.
 fn rounds(
     alloc: Global,
-    count: u32,
+    row: &Row,
     clock: &mut StepClock,
     machine: &mut PlainMachine,
     agent: &mut Agent,
@@ -98,8 +112,17 @@ fn rounds(
 ) -> Option<()>
     requires waits { HeldWaitsBelow (length machine.old.world.started) (shown_state agent.old).held }
 {
-    'rounds: for _ in 0..count {
-        one_round(alloc, clock, machine, agent, pocket, link, out)?;
+    'rounds: for _ in 0..row.rounds {
+        one_round(
+            alloc,
+            row.has_second,
+            clock,
+            machine,
+            agent,
+            pocket,
+            link,
+            out,
+        )?;
     }
     Some(())
 }
@@ -117,9 +140,7 @@ fn rounds_in_time(
     requires waits { HeldWaitsBelow (length machine.old.world.started) (shown_state agent.old).held }
 {
     let mut clock = clock(alloc, row.fails)?;
-    let made = rounds(
-        alloc, row.rounds, &mut clock, machine, agent, pocket, link, out,
-    );
+    let made = rounds(alloc, row, &mut clock, machine, agent, pocket, link, out);
     drop(clock);
     made
 }
@@ -245,5 +266,13 @@ fn wanted_files_come_over_the_link(rt: HostRuntime) -> Result<(), Fail> {
 #[test]
 fn what_is_in_the_outbox_is_posted(rt: HostRuntime) -> Result<(), Fail> {
     assert_eq!(rt; first_other(rt.alloc(), &REPORTS), None);
+    Ok(())
+}
+
+#[test]
+fn the_second_upstream_is_asked_from_the_first_failure_of_a_round(
+    rt: HostRuntime,
+) -> Result<(), Fail> {
+    assert_eq!(rt; first_other(rt.alloc(), &SECOND), None);
     Ok(())
 }

@@ -10,4 +10,8 @@ mod relay_rows;
 #[cfg(test)]
 mod relays;
 #[cfg(test)]
+mod second_rows;
+#[cfg(test)]
+mod site_texts;
+#[cfg(test)]
 mod upstream;

@@ -125,9 +125,13 @@ pub(crate) fn link(
     }
 }
 
-/// Appends the method and the path of each request, and the `seq` line of a report.
+/// Appends the method and the path of each request, behind its upstream where one was opened, and the `seq` line of a report.
 pub(crate) fn show_asked(link: &MemoryLink, out: &mut Bytes) -> Result<(), AllocError> {
     for asked in link.asked() {
+        if let Some(upstream) = &asked.upstream {
+            out.extend(upstream.as_str().as_bytes())?;
+            out.extend(b": ")?;
+        }
         if let Ok(text) = str::from_utf8(asked.request.as_slice()) {
             show_request(text, out)?;
         }

@@ -1,30 +1,38 @@
-use Rattle.std.proofs.Common.{subst, sym}
+use Rattle.std.proofs.Common.{refl}
 use Rattle.agent_core.specs.Agents.{shown_state}
 use Rattle.agent_core.specs.Devices.{devices}
-use Rattle.agent_core.specs.Stops.{HeldWaitsBelow}
-use Rattle.desk_rounds.specs.AgentRounds.{Makes, RestOfRound, Within, agent_point}
-use Rattle.desk_rounds.specs.Clients.{agent_client, at}
-use Rattle.desk_rounds.specs.Gathering.{GathersAll}
-use Rattle.desk_rounds.proofs.AgentParts.{makes_both, makes_within}
+use Rattle.desk_rounds.specs.AgentRounds.{GathersFirst, OpensFirst, agent_point, point}
+use Rattle.desk_rounds.specs.Ways.{way}
+use Rattle.desk_rounds.specs.declared.agent_rounds.RoundEnd.TheVariants as end
+use Rattle.desk_rounds.proofs.AgentParts.{makes_both, makes_first, makes_round, memory_done, opened_first, unopened}
 use Rattle.desk_rounds.proofs.agent_rounds.agent_round.Goals as goal
 
-pub turn_and_post-requires-clause-waits : goal.turn_and_post-requires-clause-waits
-turn_and_post-requires-clause-waits g c =
-    subst (HeldWaitsBelow (g.M.Machine.told c.args.machine.now).started) (sym c.gather_sites.ensures.fixed) c.requires.waits
-
-pub returns-in-Done-clause-round : goal.returns-in-Done-clause-round
-returns-in-Done-clause-round g c =
+pub returns-clause-round : goal.returns-clause-round
+returns-clause-round g c =
     let d = devices (g.M.Machine.told c.args.machine.now) (g.P.Pocket.told c.args.pocket.now) in
     let t = g.C.Clock.told c.args.clock.now in
-    let old = agent_point (shown_state c.args.agent.now) (g.L.Link.told c.args.link.now) d t in
-    let s = shown_state c.gather_sites.new.client in
-    let l = g.L.Link.told c.gather_sites.new.link in
-    let mid = agent_point s l d t in
-    let new = agent_point (shown_state c.turn_and_post.new.agent) (g.L.Link.told c.turn_and_post.new.link)
-    (devices (g.M.Machine.told c.turn_and_post.new.machine) (g.P.Pocket.told c.turn_and_post.new.pocket))
-    (g.C.Clock.told c.turn_and_post.new.clock) in
-    makes_both (Within (GathersAll agent_client)) (RestOfRound c.args.rounder.now) old mid new c.args.out.now c.gather_sites.new.out
-    c.turn_and_post.new.out c.end_of.result c.turn_and_post.result c.in-Done.is
-    (subst (λ e. Makes (Within (GathersAll agent_client)) old c.args.out.now e mid c.gather_sites.new.out) (sym c.end_of.ensures)
-    (makes_within (GathersAll agent_client) old (at s l) c.gather_sites.result c.args.out.now c.gather_sites.new.out c.gather_sites.ensures.gathers))
-    c.turn_and_post.ensures.rest
+    let s = shown_state c.args.agent.now in
+    let rounder = c.args.rounder.now in
+    let old = agent_point s (g.L.Link.told c.args.link.now) d t in
+    let mid = point s (way (g.L.Link.told c.open_first.new.link) c.in-Ok.second) d t in
+    let last = point (shown_state c.whole_round.new.agent) (way (g.L.Link.told c.whole_round.new.link) c.whole_round.new.second)
+    (devices (g.M.Machine.told c.whole_round.new.machine) (g.P.Pocket.told c.whole_round.new.pocket)) (g.C.Clock.told c.whole_round.new.clock) in
+    makes_round rounder old last c.args.out.now c.whole_round.new.out c.whole_round.result
+    (makes_both (OpensFirst rounder.upstreams) (GathersFirst rounder) old mid last c.args.out.now c.args.out.now c.whole_round.new.out end.Done
+    c.whole_round.result refl
+    (opened_first rounder.upstreams s d t (g.L.Link.told c.args.link.now) (g.L.Link.told c.open_first.new.link) c.in-Ok.second c.args.out.now
+    c.in-Ok.ensures)
+    c.whole_round.ensures.round)
+
+pub returns-in_default-clause-round : goal.returns-in_default-clause-round
+returns-in_default-clause-round g c =
+    let d = devices (g.M.Machine.told c.args.machine.now) (g.P.Pocket.told c.args.pocket.now) in
+    let t = g.C.Clock.told c.args.clock.now in
+    let s = shown_state c.args.agent.now in
+    let rounder = c.args.rounder.now in
+    let old = agent_point s (g.L.Link.told c.args.link.now) d t in
+    let last = agent_point s (g.L.Link.told c.open_first.new.link) d t in
+    makes_round rounder old last c.args.out.now c.args.out.now end.Memory
+    (makes_first (OpensFirst rounder.upstreams) (GathersFirst rounder) old last c.args.out.now c.args.out.now end.Memory memory_done
+    (unopened rounder.upstreams s d t (g.L.Link.told c.args.link.now) (g.L.Link.told c.open_first.new.link) c.open_first.result c.args.out.now
+    c.in_default.not-Ok c.open_first.ensures))

@@ -1,6 +1,7 @@
 use Rattle.std.proofs.Common.{◌∙◌, ◌<◌, ◌≤◌, ◌-◌, List, length, refl, subst, sym}
 use Rattle.report_text.specs.declared.report.Report.{Report}
 use Rattle.desk_rounds.specs.Clients.{at}
+use Rattle.desk_rounds.specs.Ways.{way}
 use Rattle.desk_rounds.proofs.Rounding.{Posts, posts_done, posts_fewer, posts_first, posts_memory, posts_on, posts_part}
 use Rattle.desk_rounds.proofs.posting.post_reports.Goals as goal
 
@@ -29,8 +30,8 @@ reports-smaller g c =
 pub reports-preserved : goal.reports-preserved
 reports-preserved g c =
     let inside = subst (λ (l : List Report). c.reports.place < length l) c.reports-in-reports.ensures.reports c.reports-test.true in
-    let old = at (g.C.Client.told c.args.client.now) (g.L.Link.told c.args.link.now) in
-    let new = at (g.C.Client.told c.post_at-posted.new.client) (g.L.Link.told c.post_at-posted.new.link) in
+    let old = at (g.C.Client.told c.args.client.now) (way (g.L.Link.told c.args.link.now) c.args.second.now) in
+    let new = at (g.C.Client.told c.post_at-posted.new.client) (way (g.L.Link.told c.post_at-posted.new.link) c.post_at-posted.new.second) in
     record {
       sound = c.post_at-posted.ensures.sound;
       fixed = c.post_at-posted.ensures.fixed ∙ c.reports.invariant.fixed;
