@@ -70,7 +70,7 @@ fn run(rt: &HostRuntime) -> Result<Status, AllocError> {
     let mut source = FileSource::new(rt.reader(), rt);
     let mut sink = FileSink::new(io::writer(rt), rt);
     let mut pocket = FilePocket::new(rt)?;
-    let mut keeper = keeping::keeper(rt);
+    let mut keeper = keeping::keeper(rt, words.as_slice());
     let mut door = TcpDoor::new(rt, listen_address(as_str(&listen)))?;
     let mut link = TcpLink::new(alloc, rt, seconds_between(as_str(&every)))?;
     let mut clock = SystemClock::new(rt, rt);

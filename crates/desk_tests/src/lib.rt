@@ -4,6 +4,10 @@
 #[cfg(test)]
 mod devices;
 #[cfg(test)]
+mod kept;
+#[cfg(test)]
+mod round_rows;
+#[cfg(test)]
 mod rounds;
 #[cfg(test)]
 mod runs;

@@ -32,7 +32,7 @@ const ROWS: [Row; 10] = [
         reads: &[1],
         writes: &[],
         status: 0,
-        wanted: b"desk qna\ndesk qna --world\ndesk check\ndesk office\ndesk make N\ndesk serve PORT KEEP N\ndesk relay PORT UPSTREAM N\ndesk agent UPSTREAM POCKET WORK NAME OFFSET N\ndesk relay PORT UPSTREAM N CACHE\ndesk --help\n",
+        wanted: b"desk qna\ndesk qna --world\ndesk check\ndesk office\ndesk make N\ndesk serve PORT KEEP N\ndesk relay PORT UPSTREAM N\ndesk agent UPSTREAM POCKET WORK NAME OFFSET N\ndesk session KEEP\ndesk relay PORT UPSTREAM N CACHE\ndesk agent UPSTREAM POCKET WORK NAME OFFSET N SECOND\ndesk --help\n",
     },
     Row {
         words: &["qna", "qna"],

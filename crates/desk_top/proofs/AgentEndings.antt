@@ -7,6 +7,7 @@ use Rattle.desk_base.specs.Counts.{CountsFaults}
 use Rattle.desk_base.specs.Views.{SourceView, SinkView, ClockView}
 use Rattle.line_forms.specs.LineStates.{lines_of, unended_of}
 use Rattle.line_forms.specs.Lines.{IsLine, lines_text}
+use Rattle.line_forms.specs.Numbers.{IsOffset}
 use Rattle.line_forms.proofs.BadLines.{first_bad_line-none}
 use Rattle.bf_machine.specs.Views.{MachineView}
 use Rattle.agent_text.specs.Pockets.{Holds, PocketView}
@@ -32,7 +33,7 @@ use Rattle.desk_runs.specs.AgentSteps.{AgentScene}
 use Rattle.desk_runs.specs.Counting.{CountsRounds}
 use Rattle.desk_top.specs.declared.command.AgentWords.{AgentWords}
 use Rattle.desk_top.specs.declared.command.DeskCommand.{DeskCommand}
-use Rattle.desk_top.specs.declared.command.DeskCommand.TheVariants.{Qna, QnaWorld, Check, Office, Make, Serve, Relay, Agent, Help}
+use Rattle.desk_top.specs.declared.command.DeskCommand.TheVariants.{Qna, QnaWorld, Check, Office, Make, Serve, Relay, Agent, Session, Help}
 use Rattle.desk_top.specs.declared.command.RelayWords.{RelayWords}
 use Rattle.desk_top.specs.declared.command.ServeWords.{ServeWords}
 use Rattle.desk_top.specs.declared.status.Status.{Status}
@@ -152,11 +153,14 @@ made_ends rounder count begun new last cut.Sink status is makes =
 made_ends rounder count begun new last cut.Memory status is makes =
     let Ends : Status → Type 0 = λ s. EndsRounds rounder count s begun new in subst Ends (sym is) (last, makes)
 
--- the same where the name was copied
-pub ends_by : (asked : AgentWords) (copied : List ℕ) (count : ℕ) (status : Status) (begun : AgentScene) (new : Rounding) → copied ≡ asked.name.now
-    → EndsRounds (record { name = copied; offset = asked.offset }) count status begun new → EndsRounds (rounder_of asked) count status begun new
+-- the same where the words were copied
+pub ends_by : (asked : AgentWords) (copied : Rounder) (count : ℕ) (status : Status) (begun : AgentScene) (new : Rounding) → copied ≡ rounder_of asked
+    → EndsRounds copied count status begun new → EndsRounds (rounder_of asked) count status begun new
 ends_by asked copied count status begun new same ends =
-    let Ends : List ℕ → Type 0 = λ n. EndsRounds (record { name = n; offset = asked.offset }) count status begun new in subst Ends same ends
+    let Ends : Rounder → Type 0 = λ r. EndsRounds r count status begun new in subst Ends same ends
+
+pub copied_offset : (asked : AgentWords) (copied : Rounder) → copied ≡ rounder_of asked → IsOffset asked.offset → IsOffset copied.offset
+copied_offset asked copied same is = let At : Rounder → Type 0 = λ r. IsOffset r.offset in subst At (sym same) is
 
 pub rounds_end : (asked : AgentWords) (status : Status) (old begun new : Rounding) (agent : AgentState) (Unwritten Untimed : Type 0) → OpensRounds asked old (opened.Agent agent) begun
     → EndsRounds (rounder_of asked) asked.count status (agent_at (shown_state agent) begun) new → AgentEnds asked status old new Unwritten Untimed
@@ -279,6 +283,7 @@ reads_none words asked (Make number) asks other reads = reads
 reads_none words asked (Serve again) asks other reads = reads
 reads_none words asked (Relay again) asks other reads = reads
 reads_none words asked (Agent again) asks other reads = reads
+reads_none words asked (Session again) asks other reads = let e : ◌≡◌ {A = ℕ} 97 115 = first_letters words (Agent asked) (Session again) asks other in omega (arith, e)
 reads_none words asked Help asks other reads = reads
 
 is_agents : (words : List (List ℕ)) (asked : AgentWords) (command : DeskCommand) → Asks words (Agent asked) → Asks words command → (IsAgents command → ⊥) → ⊥
@@ -290,6 +295,7 @@ is_agents words asked (Make number) asks other none = let e : ◌≡◌ {A = ℕ
 is_agents words asked (Serve again) asks other none = let e : ◌≡◌ {A = ℕ} 97 115 = first_letters words (Agent asked) (Serve again) asks other in omega (arith, e)
 is_agents words asked (Relay again) asks other none = let e : ◌≡◌ {A = ℕ} 97 114 = first_letters words (Agent asked) (Relay again) asks other in omega (arith, e)
 is_agents words asked (Agent again) asks other none = none tt
+is_agents words asked (Session again) asks other none = let e : ◌≡◌ {A = ℕ} 97 115 = first_letters words (Agent asked) (Session again) asks other in omega (arith, e)
 is_agents words asked Help asks other none = let e : ◌≡◌ {A = ℕ} 97 45 = first_letters words (Agent asked) Help asks other in omega (arith, e)
 
 no_serve : (words : List (List ℕ)) (asked : AgentWords) (other : ServeWords) → Asks words (Agent asked) → Asks words (Serve other) → ⊥

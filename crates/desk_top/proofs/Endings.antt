@@ -5,7 +5,7 @@ use Rattle.std.specs.Io.KnownBytes.{Appends, Consumes, IsAtEnd}
 use Rattle.std.specs.declared.option.Option.{Option}
 use Rattle.desk_base.specs.Views.{SinkView}
 use Rattle.desk_top.specs.declared.command.DeskCommand.{DeskCommand}
-use Rattle.desk_top.specs.declared.command.DeskCommand.TheVariants.{Qna, QnaWorld, Check, Office, Make, Serve, Relay, Agent, Help}
+use Rattle.desk_top.specs.declared.command.DeskCommand.TheVariants.{Qna, QnaWorld, Check, Office, Make, Serve, Relay, Agent, Session, Help}
 use Rattle.desk_top.specs.declared.status.Status.{Status}
 use Rattle.desk_top.specs.declared.status.Status.TheVariants.{Done, Usage, Refused, Source, Sink, Clock, Pocket, Keeper, Door, Memory, InputTooLong}
 use Rattle.desk_top.specs.AllDevices.{AllDevices}
@@ -45,6 +45,7 @@ took (Make number) text old new taken input P is all holds = absurd text
 took (Serve asked) text old new taken input P is all holds = absurd text
 took (Relay asked) text old new taken input P is all holds = absurd text
 took (Agent asked) text old new taken input P is all holds = absurd text
+took (Session asked) text old new taken input P is all holds = absurd text
 took Help text old new taken input P is all holds = absurd text
 
 -- it does the same beside any other devices
@@ -57,6 +58,7 @@ did_as (Make number) text input old new did = absurd text
 did_as (Serve asked) text input old new did = absurd text
 did_as (Relay asked) text input old new did = absurd text
 did_as (Agent asked) text input old new did = absurd text
+did_as (Session asked) text input old new did = absurd text
 did_as Help text input old new did = absurd text
 
 began_as : (status : Status) (k : DeskCommand) → IsTextCommand k → (input : List ℕ) (old new : AllDevices) → Began status k input (holding old.sink) (holding new.sink) → Began status k input old new
@@ -68,6 +70,7 @@ began_as status (Make number) text input old new began = absurd text
 began_as status (Serve asked) text input old new began = absurd text
 began_as status (Relay asked) text input old new began = absurd text
 began_as status (Agent asked) text input old new began = absurd text
+began_as status (Session asked) text input old new began = absurd text
 began_as status Help text input old new began = absurd text
 
 -- it opens nothing that is kept
@@ -80,6 +83,7 @@ opens_none (Make number) text old new same kept unasked = absurd text
 opens_none (Serve asked) text old new same kept unasked = absurd text
 opens_none (Relay asked) text old new same kept unasked = absurd text
 opens_none (Agent asked) text old new same kept unasked = absurd text
+opens_none (Session asked) text old new same kept unasked = absurd text
 opens_none Help text old new same kept unasked = absurd text
 
 did_good : (k : DeskCommand) → IsTextCommand k → (input : List ℕ) (old new : AllDevices) → Did k input old new → IsGoodInput k input
@@ -91,6 +95,7 @@ did_good (Make number) text input old new did = absurd text
 did_good (Serve asked) text input old new did = absurd text
 did_good (Relay asked) text input old new did = absurd text
 did_good (Agent asked) text input old new did = absurd text
+did_good (Session asked) text input old new did = absurd text
 did_good Help text input old new did = absurd text
 
 -- words ask for one command, and of one that reads its input and asks no device it is known which
@@ -103,6 +108,7 @@ one_command words Qna (Make n) text p q = absurd text
 one_command words Qna (Serve other) text p q = absurd text
 one_command words Qna (Relay other) text p q = absurd text
 one_command words Qna (Agent other) text p q = absurd text
+one_command words Qna (Session other) text p q = absurd text
 one_command words Qna Help text p q = absurd text
 one_command words QnaWorld Qna text p q = absurd text
 one_command words QnaWorld QnaWorld text p q = refl
@@ -112,6 +118,7 @@ one_command words QnaWorld (Make n) text p q = absurd text
 one_command words QnaWorld (Serve other) text p q = absurd text
 one_command words QnaWorld (Relay other) text p q = absurd text
 one_command words QnaWorld (Agent other) text p q = absurd text
+one_command words QnaWorld (Session other) text p q = absurd text
 one_command words QnaWorld Help text p q = absurd text
 one_command words Check Qna text p q = absurd text
 one_command words Check QnaWorld text p q = let h = p.1 in let k = q.1 in cc
@@ -121,6 +128,7 @@ one_command words Check (Make n) text p q = absurd text
 one_command words Check (Serve other) text p q = absurd text
 one_command words Check (Relay other) text p q = absurd text
 one_command words Check (Agent other) text p q = absurd text
+one_command words Check (Session other) text p q = absurd text
 one_command words Check Help text p q = absurd text
 one_command words Office Qna text p q = absurd text
 one_command words Office QnaWorld text p q = let h = p.1 in let k = q.1 in cc
@@ -130,6 +138,7 @@ one_command words Office (Make n) text p q = absurd text
 one_command words Office (Serve other) text p q = absurd text
 one_command words Office (Relay other) text p q = absurd text
 one_command words Office (Agent other) text p q = absurd text
+one_command words Office (Session other) text p q = absurd text
 one_command words Office Help text p q = absurd text
 one_command words (Make m) Qna text p q = absurd text
 one_command words (Make m) QnaWorld text p q = let h = p.1 in let k = q.1 in cc
@@ -139,6 +148,7 @@ one_command words (Make m) (Make n) text p q = absurd text
 one_command words (Make m) (Serve other) text p q = absurd text
 one_command words (Make m) (Relay other) text p q = absurd text
 one_command words (Make m) (Agent other) text p q = absurd text
+one_command words (Make m) (Session other) text p q = absurd text
 one_command words (Make m) Help text p q = absurd text
 one_command words (Serve asked) Qna text p q = absurd text
 one_command words (Serve asked) QnaWorld text p q = let h = p.1 in let k = q.1 in cc
@@ -148,6 +158,7 @@ one_command words (Serve asked) (Make n) text p q = absurd text
 one_command words (Serve asked) (Serve other) text p q = absurd text
 one_command words (Serve asked) (Relay other) text p q = absurd text
 one_command words (Serve asked) (Agent other) text p q = absurd text
+one_command words (Serve asked) (Session other) text p q = absurd text
 one_command words (Serve asked) Help text p q = absurd text
 one_command words (Relay asked) Qna text p q = absurd text
 one_command words (Relay asked) QnaWorld text p q = let e : ◌≡◌ {A = ℕ} 114 113 = first_letters words (Relay asked) QnaWorld p q in absurd (omega (arith, e))
@@ -157,6 +168,7 @@ one_command words (Relay asked) (Make n) text p q = absurd text
 one_command words (Relay asked) (Serve other) text p q = absurd text
 one_command words (Relay asked) (Relay other) text p q = absurd text
 one_command words (Relay asked) (Agent other) text p q = absurd text
+one_command words (Relay asked) (Session other) text p q = absurd text
 one_command words (Relay asked) Help text p q = absurd text
 one_command words (Agent asked) Qna text p q = absurd text
 one_command words (Agent asked) QnaWorld text p q = let e : ◌≡◌ {A = ℕ} 97 113 = first_letters words (Agent asked) QnaWorld p q in absurd (omega (arith, e))
@@ -166,7 +178,18 @@ one_command words (Agent asked) (Make n) text p q = absurd text
 one_command words (Agent asked) (Serve other) text p q = absurd text
 one_command words (Agent asked) (Relay other) text p q = absurd text
 one_command words (Agent asked) (Agent other) text p q = absurd text
+one_command words (Agent asked) (Session other) text p q = absurd text
 one_command words (Agent asked) Help text p q = absurd text
+one_command words (Session asked) Qna text p q = absurd text
+one_command words (Session asked) QnaWorld text p q = let e : ◌≡◌ {A = ℕ} 115 113 = first_letters words (Session asked) QnaWorld p q in absurd (omega (arith, e))
+one_command words (Session asked) Check text p q = let e : ◌≡◌ {A = ℕ} 115 99 = first_letters words (Session asked) Check p q in absurd (omega (arith, e))
+one_command words (Session asked) Office text p q = let e : ◌≡◌ {A = ℕ} 115 111 = first_letters words (Session asked) Office p q in absurd (omega (arith, e))
+one_command words (Session asked) (Make n) text p q = absurd text
+one_command words (Session asked) (Serve other) text p q = absurd text
+one_command words (Session asked) (Relay other) text p q = absurd text
+one_command words (Session asked) (Agent other) text p q = absurd text
+one_command words (Session asked) (Session other) text p q = absurd text
+one_command words (Session asked) Help text p q = absurd text
 one_command words Help Qna text p q = absurd text
 one_command words Help QnaWorld text p q = let h = p.1 in let k = q.1 in cc
 one_command words Help Check text p q = let h = p.1 in let k = q.1 in cc
@@ -175,6 +198,7 @@ one_command words Help (Make n) text p q = absurd text
 one_command words Help (Serve other) text p q = absurd text
 one_command words Help (Relay other) text p q = absurd text
 one_command words Help (Agent other) text p q = absurd text
+one_command words Help (Session other) text p q = absurd text
 one_command words Help Help text p q = absurd text
 
 -- What it answered, of the input that it took.
@@ -241,7 +265,7 @@ bad_is_refused k text input Memory sink sink' Unwritten ends bad no_sink = inr r
 bad_is_refused k text input InputTooLong sink sink' Unwritten ends bad no_sink = absurd ends
 
 -- more than the limit was not left
-not_long : (old new : Option (List ℕ)) (taken : List ℕ) → TakesAll old new taken → IsSomeAnd old (λ input. input_limit < length input) → ⊥
+pub not_long : (old new : Option (List ℕ)) (taken : List ℕ) → TakesAll old new taken → IsSomeAnd old (λ input. input_limit < length input) → ⊥
 not_long old new taken all long =
     let more = taken_is_left old new taken (λ input. input_limit < length input) all.takes all.ends long in
     let short = all.short in

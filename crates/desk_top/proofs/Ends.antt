@@ -15,7 +15,7 @@ use Rattle.office_text.specs.Offices.{IsOffice, ReadsOffice}
 use Rattle.world_text.specs.Fronts.{Splits}
 use Rattle.world_text.specs.Texts.{Describes, ReadsWorld}
 use Rattle.desk_top.specs.declared.command.DeskCommand.{DeskCommand}
-use Rattle.desk_top.specs.declared.command.DeskCommand.TheVariants.{Qna, QnaWorld, Check, Office, Make, Serve, Relay, Agent, Help}
+use Rattle.desk_top.specs.declared.command.DeskCommand.TheVariants.{Qna, QnaWorld, Check, Office, Make, Serve, Relay, Agent, Session, Help}
 use Rattle.desk_top.specs.declared.status.Status.{Status}
 use Rattle.desk_top.specs.declared.status.Status.TheVariants.{Done, Usage, Refused, Source, Sink, Clock, Pocket, Keeper, Door, Memory, InputTooLong}
 use Rattle.site_check.specs.declared.finding.Finding.{Finding}
@@ -87,6 +87,7 @@ good_not_refused one front is_read office (Make number) input line good refused 
 good_not_refused one front is_read office (Serve asked) input line good refused = refused
 good_not_refused one front is_read office (Relay asked) input line good refused = refused
 good_not_refused one front is_read office (Agent asked) input line good refused = refused
+good_not_refused one front is_read office (Session asked) input line good refused = refused
 good_not_refused one front is_read office Help input line good refused = refused
 
 checked_refused : OneFinding → (input : List ℕ) (f : Finding) (status : Status) (old new : SinkView) (Unwritten : Type 0) → IsRefusal f → status ≡ Refused → Finds input f

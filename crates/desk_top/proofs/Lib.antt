@@ -3,6 +3,10 @@ pub mod Endings
 pub mod OneSaid
 pub mod Serving
 mod WordsOfServe
+mod WordsOfSession
+mod Questioning
+mod SessionEndings
+mod OneQuestioned
 mod OneServed
 mod RelayEndings
 mod AgentEndings
@@ -10,3 +14,4 @@ mod WordsOfRelay
 mod WordsOfAgent
 mod FirstLetters
 mod OneWorked
+mod FilesOfRelay

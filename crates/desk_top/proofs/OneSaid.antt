@@ -24,22 +24,24 @@ use Rattle.bf_machine.specs.Rises.{RoseBy}
 use Rattle.rel_eval.specs.Questions.{Reads}
 use Rattle.rel_session.specs.Devices.{Devices, DidAll}
 use Rattle.rel_session.specs.Lines.{lines_of}
+use Rattle.rel_session.specs.Readings.{Readings}
 use Rattle.rel_session.specs.Sessions.{Answers, Asks, Run, Runs, Session, begins_with_colon, fresh}
 use Rattle.desk_top.specs.declared.command.DeskCommand.{DeskCommand}
 use Rattle.desk_top.specs.declared.command.DeskCommand.TheVariants.{Qna, QnaWorld, Check, Office, Make, Serve, Relay, Agent, Help}
+use Rattle.desk_top.specs.declared.command.DeskCommand.TheVariants as of_command
 use Rattle.site_check.specs.declared.finding.Finding.TheVariants.{Good}
 use Rattle.site_check.specs.Lines.{finding_line}
 use Rattle.desk_top.proofs.Ends.{OneFinding, OneFront, refusal_known}
 use Rattle.desk_top.specs.AllDevices.{AllDevices, asking}
-use Rattle.desk_top.specs.Commands.{AsksUpstream, HoldsTalks, help_text}
+use Rattle.desk_top.specs.Commands.{AsksUpstream, HoldsTalks, UsesKeeper, help_text}
 use Rattle.desk_top.specs.Said.{Did, DidDescribed, Refuses}
 use Rattle.desk_top.specs.Tellings.{RanAlike, TellsAll}
 use Rattle.desk_top.specs.OfficeInputs.{IsBadOffice, PlaysInput}
 use Rattle.desk_top.specs.WorldInputs.{IsBadInput, IsWorldInput, bad_line}
 
 -- what rel_session says of every run, in its law on them
-abbrev pub OneRun : Type 0
-OneRun = (w : WorldState) (offset : ℤ) (s : Session) (lines : List (List ℕ)) (moments : List ℤ) (a b : Run) → Runs Reads (Some w) offset s lines moments a → Runs Reads (Some w) offset s lines moments b → a.faults ≡ 0 → b.faults ≡ 0 → a ≡ b
+abbrev pub OneRun : Readings → Type 0
+OneRun reads = (w : WorldState) (offset : ℤ) (s : Session) (lines : List (List ℕ)) (moments : List ℤ) (a b : Run) → Runs reads (Some w) offset s lines moments a → Runs reads (Some w) offset s lines moments b → a.faults ≡ 0 → b.faults ≡ 0 → a ≡ b
 
 -- how many of the lines are questions: each of these uses a moment
 abbrev asked : List ℕ → ℕ
@@ -105,13 +107,13 @@ moments_fixed (Some m) (Some a) None given xs ys gives same p q = absurd q
 moments_fixed (Some m) (Some a) (Some b) given xs ys gives same p q = let one : a ≡ b = cc in append_cancel_left m xs ys (sym p ∙ one ∙ q)
 
 -- what questions to a machine whose world is told write and look up
-abbrev SameRuns : Devices → Devices → Type 0
+abbrev pub SameRuns : Devices → Devices → Type 0
 SameRuns one other = (one.sink.held ≡ other.sink.held) × (one.machine.looked ≡ other.machine.looked)
 
-qna_once : OneRun → (input : List ℕ) (old one other : Devices) → TellsAll old → RanAlike old one other
-    → DidAll Reads (pos 0) fresh (lines_of input) None old one → DidAll Reads (pos 0) fresh (lines_of input) None old other → SameRuns one other
-qna_once one_run input old one other tells alike (moments, run, runs, did) (moments', run', runs', did') =
-    let In : List ℤ → Run → Option WorldState → Type 0 = λ m r v. Runs Reads v (pos 0) fresh (lines_of input) m r in
+pub asked_once : (reads : Readings) → OneRun reads → (input : List ℕ) (old one other : Devices) → TellsAll old → RanAlike old one other
+    → DidAll reads (pos 0) fresh (lines_of input) None old one → DidAll reads (pos 0) fresh (lines_of input) None old other → SameRuns one other
+asked_once reads one_run input old one other tells alike (moments, run, runs, did) (moments', run', runs', did') =
+    let In : List ℤ → Run → Option WorldState → Type 0 = λ m r v. Runs reads v (pos 0) fresh (lines_of input) m r in
     let Ran : List ℤ → Type 0 = λ m. In m run (Some tells.world) in
     let same : moments ≡ moments' = moments_fixed old.clock.given one.clock.given other.clock.given tells.given moments moments' tells.gives alike.moments did.dated did'.dated in
     let here : In moments run (Some tells.world) = subst (In moments run) tells.shows runs in
@@ -124,7 +126,7 @@ qna_once one_run input old one other tells alike (moments, run, runs, did) (mome
     )
 
 -- what questions to a described world write
-described_once : OneRun → (w : WorldState) (rest held : List ℕ) (old one other : SinkView) → old.held ≡ Some held → DidDescribed w rest old one → DidDescribed w rest old other → one.held ≡ other.held
+described_once : OneRun Reads → (w : WorldState) (rest held : List ℕ) (old one other : SinkView) → old.held ≡ Some held → DidDescribed w rest old one → DidDescribed w rest old other → one.held ≡ other.held
 described_once one_run w rest held old one other holds (moments, run, runs, all, none, is) (moments', run', runs', all', none', is') =
     let Ran : List ℤ → Type 0 = λ m. Runs Reads (Some w) w.offset fresh (lines_of rest) m run in
     let same : moments ≡ moments' = all_same w.moment moments moments' all all' (count_runs (Some w) w.offset fresh (lines_of rest) moments run runs ∙ sym (count_runs (Some w) w.offset fresh (lines_of rest) moments' run' runs')) in
@@ -140,7 +142,7 @@ one_rest front input w w' rest rest' (text, splits, reads) (text', splits', read
       append_cancel_left text rest' rest (ap (λ t. t ++ rest') (sym same) ∙ sym splits'.0 ∙ splits.0),
     )
 
-world_once : OneRun → OneFront → (input held : List ℕ) (old one other : SinkView) → old.held ≡ Some held
+world_once : OneRun Reads → OneFront → (input held : List ℕ) (old one other : SinkView) → old.held ≡ Some held
     → (w : WorldState) (rest : List ℕ) → IsWorldInput input w rest → DidDescribed w rest old one
     → (w' : WorldState) (rest' : List ℕ) → IsWorldInput input w' rest' → DidDescribed w' rest' old other → one.held ≡ other.held
 world_once one_run front input held old one other holds w rest is did w' rest' is' did' =
@@ -163,27 +165,28 @@ office_once plays input held old one other holds (orders, reads, (written, (o, i
     let alone = plays orders written written' o o' is (subst P same is') in
     bytes_fixed old one other held written written' holds alone.0 wrote wrote'
 
-pub bytes_once : OneRun → OneFinding → OneFront → OnePlay → (command : DeskCommand) (input : List ℕ) (old one other : AllDevices) → (HoldsTalks command → ⊥) → (AsksUpstream command → ⊥) → TellsAll (asking old)
+pub bytes_once : OneRun Reads → OneFinding → OneFront → OnePlay → (command : DeskCommand) (input : List ℕ) (old one other : AllDevices) → (HoldsTalks command → ⊥) → (AsksUpstream command → ⊥) → (UsesKeeper command → ⊥) → TellsAll (asking old)
     → RanAlike (asking old) (asking one) (asking other) → Did command input old one → Did command input old other → one.sink.held ≡ other.sink.held
-bytes_once one_run finding front plays Qna input old one other no_talks no_link tells alike did did' = (qna_once one_run input (asking old) (asking one) (asking other) tells alike did did').0
-bytes_once one_run finding front plays QnaWorld input old one other no_talks no_link tells alike (v, rest, is, did) (v', rest', is', did') =
+bytes_once one_run finding front plays Qna input old one other no_talks no_link no_keeper tells alike did did' = (asked_once Reads one_run input (asking old) (asking one) (asking other) tells alike did did').0
+bytes_once one_run finding front plays QnaWorld input old one other no_talks no_link no_keeper tells alike (v, rest, is, did) (v', rest', is', did') =
     world_once one_run front input tells.held old.sink one.sink other.sink tells.holds v rest is did v' rest' is' did'
-bytes_once one_run finding front plays Check input old one other no_talks no_link tells alike (fixlets, baselines, found, is) (fixlets', baselines', found', is') =
+bytes_once one_run finding front plays Check input old one other no_talks no_link no_keeper tells alike (fixlets, baselines, found, is) (fixlets', baselines', found', is') =
     let same = finding input (Good fixlets baselines) (Good fixlets' baselines') found found' (λ e. cc) (λ e. cc) in
     bytes_fixed old.sink.held one.sink.held other.sink.held tells.held (finding_line (Good fixlets baselines)) (finding_line (Good fixlets' baselines')) tells.holds (ap finding_line same) is is'
-bytes_once one_run finding front plays Office input old one other no_talks no_link tells alike did did' =
+bytes_once one_run finding front plays Office input old one other no_talks no_link no_keeper tells alike did did' =
     office_once plays input tells.held old.sink.held one.sink.held other.sink.held tells.holds did did'
-bytes_once one_run finding front plays (Make number) input old one other no_talks no_link tells alike did did' =
+bytes_once one_run finding front plays (Make number) input old one other no_talks no_link no_keeper tells alike did did' =
     bytes_fixed old.sink.held one.sink.held other.sink.held tells.held (office_of number) (office_of number) tells.holds refl did did'
-bytes_once one_run finding front plays (Serve asked) input old one other no_talks no_link tells alike did did' = absurd (no_talks tt)
-bytes_once one_run finding front plays (Relay asked) input old one other no_talks no_link tells alike did did' = absurd (no_talks tt)
-bytes_once one_run finding front plays (Agent asked) input old one other no_talks no_link tells alike did did' = absurd (no_link tt)
-bytes_once one_run finding front plays Help input old one other no_talks no_link tells alike did did' =
+bytes_once one_run finding front plays (Serve asked) input old one other no_talks no_link no_keeper tells alike did did' = absurd (no_talks tt)
+bytes_once one_run finding front plays (Relay asked) input old one other no_talks no_link no_keeper tells alike did did' = absurd (no_talks tt)
+bytes_once one_run finding front plays (Agent asked) input old one other no_talks no_link no_keeper tells alike did did' = absurd (no_link tt)
+bytes_once one_run finding front plays (of_command.Session asked) input old one other no_talks no_link no_keeper tells alike did did' = absurd (no_keeper tt)
+bytes_once one_run finding front plays Help input old one other no_talks no_link no_keeper tells alike did did' =
     bytes_fixed old.sink.held one.sink.held other.sink.held tells.held help_text help_text tells.holds refl did did'
 
-pub looks_once : OneRun → (input : List ℕ) (old one other : AllDevices) → TellsAll (asking old) → RanAlike (asking old) (asking one) (asking other)
+pub looks_once : OneRun Reads → (input : List ℕ) (old one other : AllDevices) → TellsAll (asking old) → RanAlike (asking old) (asking one) (asking other)
     → Did Qna input old one → Did Qna input old other → one.machine.looked ≡ other.machine.looked
-looks_once one_run input old one other tells alike did did' = (qna_once one_run input (asking old) (asking one) (asking other) tells alike did did').1
+looks_once one_run input old one other tells alike did did' = (asked_once Reads one_run input (asking old) (asking one) (asking other) tells alike did did').1
 
 -- an input has one first bad line
 one_bad_line : OneFront → (input : List ℕ) (m n : ℕ) → IsBadInput input m → IsBadInput input n → m ≡ n
@@ -208,4 +211,5 @@ refusal_once one front (Make number) input a b x y = absurd x
 refusal_once one front (Serve asked) input a b x y = absurd x
 refusal_once one front (Relay asked) input a b x y = absurd x
 refusal_once one front (Agent asked) input a b x y = absurd x
+refusal_once one front (of_command.Session asked) input a b x y = absurd x
 refusal_once one front Help input a b x y = absurd x

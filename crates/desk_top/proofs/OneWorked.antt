@@ -1,5 +1,5 @@
 -- `relay` and `agent` say one thing, where nothing failed and all is told.
-use Rattle.std.proofs.Common.{◌≡◌, ◌-◌, ℕ, List, [], IsSome, Some, Ok, refl, sym, ap, ◌∙◌, subst, arith}
+use Rattle.std.proofs.Common.{◌≡◌, ℕ, List, [], IsSome, Some, Ok, refl, sym, ap, ◌∙◌, subst, arith}
 use Rattle.std.specs.declared.option.Option.{Option}
 use Rattle.std.specs.Io.KnownBytes.{Appends}
 use Rattle.std.specs.Ordering.{nat_cmp}

@@ -15,7 +15,7 @@ use Rattle.relay_cache.specs.CachedFiles.{CacheState}
 use Rattle.relay_core.specs.Relays.{RelayState}
 use Rattle.desk_runs.specs.Counting.{CountsRelayed}
 use Rattle.desk_top.specs.declared.command.DeskCommand.{DeskCommand}
-use Rattle.desk_top.specs.declared.command.DeskCommand.TheVariants.{Qna, QnaWorld, Check, Office, Make, Serve, Relay, Agent, Help}
+use Rattle.desk_top.specs.declared.command.DeskCommand.TheVariants.{Qna, QnaWorld, Check, Office, Make, Serve, Relay, Agent, Session, Help}
 use Rattle.desk_top.specs.declared.command.AgentWords.{AgentWords}
 use Rattle.desk_top.specs.declared.command.RelayWords.{RelayWords}
 use Rattle.desk_top.specs.declared.status.Status.{Status}
@@ -89,6 +89,7 @@ reads_none words asked (Make number) asks other reads = reads
 reads_none words asked (Serve again) asks other reads = reads
 reads_none words asked (Relay again) asks other reads = reads
 reads_none words asked (Agent again) asks other reads = reads
+reads_none words asked (Session again) asks other reads = let e : ◌≡◌ {A = ℕ} 114 115 = first_letters words (Relay asked) (Session again) asks other in omega (arith, e)
 reads_none words asked Help asks other reads = reads
 
 no_agent : (words : List (List ℕ)) (asked : RelayWords) (other : AgentWords) → Asks words (Relay asked) → Asks words (Agent other) → ⊥

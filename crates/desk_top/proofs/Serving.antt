@@ -1,5 +1,5 @@
 -- How `serve` ends the run of its words: what was done, which status comes, and which counts rose.
-use Rattle.std.proofs.Common.{◌≡◌, ◌≢◌, ◌⊎◌, ◌≤◌, ℕ, List, [], None, Some, Result, Err, inl, inr, refl, sym, ap, ◌∙◌, subst, arith}
+use Rattle.std.proofs.Common.{◌≡◌, ◌≢◌, ◌⊎◌, ◌≤◌, ℕ, List, [], length, None, Some, Result, Err, inl, inr, refl, sym, ap, ◌∙◌, subst, arith}
 use Rattle.std.proofs.KnownBytes.{Consumes-nil, Keeps-refl}
 use Rattle.std.specs.Io.KnownBytes.{Keeps}
 use Rattle.std.specs.declared.option.Option.{Option}
@@ -15,7 +15,7 @@ use Rattle.desk_serve.specs.declared.step.Stop.TheVariants as stop
 use Rattle.desk_serve.specs.ServeCounts.{CountsServed}
 use Rattle.desk_serve.specs.ServeSteps.{Scene}
 use Rattle.desk_top.specs.declared.command.DeskCommand.{DeskCommand}
-use Rattle.desk_top.specs.declared.command.DeskCommand.TheVariants.{Qna, QnaWorld, Check, Office, Make, Serve, Relay, Agent, Help}
+use Rattle.desk_top.specs.declared.command.DeskCommand.TheVariants.{Qna, QnaWorld, Check, Office, Make, Serve, Relay, Agent, Session, Help}
 use Rattle.desk_top.specs.declared.command.AgentWords.{AgentWords}
 use Rattle.desk_top.specs.declared.command.RelayWords.{RelayWords}
 use Rattle.desk_top.specs.declared.command.ServeWords.{ServeWords}
@@ -59,7 +59,8 @@ serve_ended words asked Source old new Unwritten same asks source unasked ends =
 serve_ended words asked Sink old new Unwritten same asks source unasked ends = inr (Serve asked, asks, (keeps_source old new source, (stop.Sink, refl, ends)))
 serve_ended words asked Clock old new Unwritten same asks source unasked ends = absurd ends
 serve_ended words asked Pocket old new Unwritten same asks source unasked ends = absurd ends
-serve_ended words asked Keeper old new Unwritten same asks source unasked (opens, unwritten, unopened) = (asked, asks, (opens, unasked unwritten, unopened))
+serve_ended words asked Keeper old new Unwritten same asks source unasked (opens, unwritten, unopened) =
+    (Serve asked, asks, (keeps_source old new source, (tt, opens, unasked unwritten, unopened)))
 serve_ended words asked Door old new Unwritten same asks source unasked (inl (both, unwritten)) = inl (asked, asks, inl (both, unasked unwritten))
 serve_ended words asked Door old new Unwritten same asks source unasked (inr serves) = inl (asked, asks, inr serves)
 serve_ended words asked Memory old new Unwritten same asks source unasked (inl (opens, unwritten, unopened)) =
@@ -101,6 +102,8 @@ reads_none words asked (Make number) asks other reads = reads
 reads_none words asked (Serve again) asks other reads = reads
 reads_none words asked (Relay again) asks other reads = reads
 reads_none words asked (Agent again) asks other reads = reads
+reads_none words asked (Session again) asks other reads =
+    let e : ◌≡◌ {A = ℕ} 4 2 = ap (length {A = List ℕ}) (sym asks.1 ∙ other.1) in omega (arith, e)
 reads_none words asked Help asks other reads = reads
 
 pub good_unless_read : (command : DeskCommand) (input : List ℕ) → (ReadsSource command → ⊥) → IsGoodInput command input
@@ -112,6 +115,7 @@ good_unless_read (Make number) input unread = tt
 good_unless_read (Serve asked) input unread = tt
 good_unless_read (Relay asked) input unread = tt
 good_unless_read (Agent asked) input unread = tt
+good_unless_read (Session asked) input unread = absurd (unread tt)
 good_unless_read Help input unread = tt
 
 pub never_bad : (left : Option (List ℕ)) (command : DeskCommand) → (ReadsSource command → ⊥) → HasInput left (λ input. IsGoodInput command input → ⊥) → ⊥

@@ -1,12 +1,55 @@
 -- Which words ask for `agent`.
-use Rattle.std.proofs.Common.{◌≡◌, ◌≢◌, ℕ, ℤ, List, [], get_or, sym, ap, ◌∙◌, subst}
-use Rattle.std.specs.Prelude.{decimal}
+use Rattle.std.proofs.Common.{◌≡◌, ◌≢◌, ◌<◌, ℕ, ℤ, List, [], ◌∷◌, Option, None, Some, get_or, length, sym, ap, ◌∙◌, subst, arith}
+use Rattle.std.specs.Prelude.{IfSome, codes, decimal}
 use Rattle.std.specs.Fmt.{signed_decimal}
 use Rattle.line_forms.specs.Numbers.{IsOffsetText}
 use Rattle.desk_top.specs.declared.command.AgentWords.{AgentWords}
 use Rattle.desk_top.specs.declared.command.DeskCommand.TheVariants.{Agent}
-use Rattle.desk_top.specs.Commands.{Asks, IsOneTo, NamesPlaces, agent_words}
-use Rattle.desk_top.proofs.WordsOfServe.{SpellsNone}
+use Rattle.desk_top.specs.Commands.{Asks, IsNamed, IsOneTo, NamesPlaces, agent_words, second_words}
+use Rattle.desk_top.proofs.WordsOfServe.{SpellsNone, none_more}
+use denote.Ref.{Bor}
+
+-- ---- the seven words
+-- fewer than three words stand behind the command
+pub no_places_behind : (words : List (List ℕ)) (upstream pocket work name offset count : List ℕ) (last : List (List ℕ)) → length words < 3 → codes "agent" ∷ words ≢ agent_words upstream pocket work name offset count last
+no_places_behind words upstream pocket work name offset count last few e =
+    let same = ap (length {A = List ℕ}) e in
+    omega (arith, same, few)
+
+-- or behind these
+pub no_values_behind : (words : List (List ℕ)) (first second third : List ℕ) (others : List (List ℕ)) (upstream pocket work name offset count : List ℕ) (last : List (List ℕ)) → words ≡ first ∷ second ∷ third ∷ others → length others < 3
+    → codes "agent" ∷ words ≢ agent_words upstream pocket work name offset count last
+no_values_behind words first second third others upstream pocket work name offset count last is few e =
+    let same = ap (length {A = List ℕ}) e in
+    let long = ap (length {A = List ℕ}) is in
+    omega (arith, same, long, few)
+
+-- ---- the word of the second upstream
+-- two words or more name none
+pub too_many : (words : List (List ℕ)) (word : List ℕ) (others : List (List ℕ)) → words ≡ word ∷ others → (length others ≡ 0 → ⊥) → (second : Option (Bor (List ℕ))) → IfSome second IsNamed → words ≢ second_words second
+too_many words word others is more None named e = let none : ◌≡◌ {A = List (List ℕ)} (word ∷ others) [] = sym is ∙ e in cc
+too_many words word others is more (Some second) named e =
+    let same : ◌≡◌ {A = List (List ℕ)} (word ∷ others) (second.now ∷ []) = sym is ∙ e in
+    let none : others ≡ [] = cc in
+    more (ap (length {A = List ℕ}) none)
+
+-- and neither does an empty one
+pub not_named : (words : List (List ℕ)) (word : List ℕ) (others : List (List ℕ)) → words ≡ word ∷ others → word ≡ [] → (second : Option (Bor (List ℕ))) → IfSome second IsNamed → words ≢ second_words second
+not_named words word others is empty None named e = let none : ◌≡◌ {A = List (List ℕ)} (word ∷ others) [] = sym is ∙ e in cc
+not_named words word others is empty (Some second) named e =
+    let same : ◌≡◌ {A = List (List ℕ)} (word ∷ others) (second.now ∷ []) = sym is ∙ e in
+    let spelled : word ≡ second.now = cc in
+    let none = ap (length {A = ℕ}) (sym spelled ∙ empty) in
+    omega (arith, none, named)
+
+pub has_second : (words : List (List ℕ)) (word : Bor (List ℕ)) (others : List (List ℕ)) → words ≡ word.now ∷ others → length others ≡ 0 → 0 < length word.now → IfSome (Some word) IsNamed × (words ≡ second_words (Some word))
+has_second words word others is none named = (named, is ∙ ap (λ l. word.now ∷ l) (none_more others none))
+
+-- ---- all words
+-- the words behind the seventh one
+abbrev behind_seventh : List (List ℕ) → List (List ℕ)
+behind_seventh (a ∷ b ∷ c ∷ d ∷ e ∷ f ∷ g ∷ words) = words
+behind_seventh words = []
 
 -- what the words would be
 record AreSix (words : List (List ℕ)) (asked : AgentWords) : Type 0 where
@@ -27,13 +70,13 @@ are_six words asked asks = record {
   count = ap (λ w. get_or w 6 []) asks.1;
 }
 
-pub no_words : (words : List (List ℕ)) → ((upstream pocket work name offset count : List ℕ) → words ≢ agent_words upstream pocket work name offset count) → (asked : AgentWords)
+pub no_words : (words : List (List ℕ)) → ((upstream pocket work name offset count : List ℕ) (last : List (List ℕ)) → words ≢ agent_words upstream pocket work name offset count last) → (asked : AgentWords)
     → Asks words (Agent asked) → ⊥
-no_words words none asked asks = none asked.upstream.now asked.pocket.now asked.work.now asked.name.now (signed_decimal asked.offset) (decimal asked.count) asks.1
+no_words words none asked asks = none asked.upstream.now asked.pocket.now asked.work.now asked.name.now (signed_decimal asked.offset) (decimal asked.count) (second_words asked.second) asks.1
 
-module _ (words : List (List ℕ)) (upstream pocket work name offset count : List ℕ) where
+module _ (words : List (List ℕ)) (upstream pocket work name offset count : List ℕ) (others : List (List ℕ)) where
   abbrev pub AreWords : Type 0
-  AreWords = words ≡ agent_words upstream pocket work name offset count
+  AreWords = words ≡ agent_words upstream pocket work name offset count others
 
   pub no_count : AreWords → SpellsNone 1000000 count → (asked : AgentWords) → Asks words (Agent asked) → ⊥
   no_count is none asked asks = none asked.count asks.0.count (sym (ap (λ w. get_or w 6 []) is) ∙ (are_six words asked asks).count)
@@ -55,11 +98,15 @@ module _ (words : List (List ℕ)) (upstream pocket work name offset count : Lis
       let D : List ℕ → Type 0 = λ l. NamesPlaces upstream pocket work l in
       none (subst D fourth (subst C third (subst B second (subst A first places))))
 
-pub asks_agent : (words : List (List ℕ)) (asked : AgentWords) (offset count : List ℕ)
-    → words ≡ agent_words asked.upstream.now asked.pocket.now asked.work.now asked.name.now offset count → IsOffsetText offset asked.offset → count ≡ decimal asked.count
-    → NamesPlaces asked.upstream.now asked.pocket.now asked.work.now asked.name.now → IsOneTo 1000000 asked.count → Asks words (Agent asked)
-asks_agent words asked offset count is offset_is count_is places some = (
-  record { places = places; offset = offset_is.0; count = some },
-  is ∙ ap (λ l. agent_words asked.upstream.now asked.pocket.now asked.work.now asked.name.now l count) offset_is.1
-      ∙ ap (λ l. agent_words asked.upstream.now asked.pocket.now asked.work.now asked.name.now (signed_decimal asked.offset) l) count_is,
+  pub no_second : AreWords → ((second : Option (Bor (List ℕ))) → IfSome second IsNamed → others ≢ second_words second) → (asked : AgentWords) → Asks words (Agent asked) → ⊥
+  no_second is none asked asks = none asked.second asks.0.second (ap behind_seventh (sym is ∙ asks.1))
+
+pub asks_agent : (words : List (List ℕ)) (asked : AgentWords) (offset count : List ℕ) (others : List (List ℕ))
+    → words ≡ agent_words asked.upstream.now asked.pocket.now asked.work.now asked.name.now offset count others → IsOffsetText offset asked.offset → count ≡ decimal asked.count → others ≡ second_words asked.second
+    → NamesPlaces asked.upstream.now asked.pocket.now asked.work.now asked.name.now → IsOneTo 1000000 asked.count → IfSome asked.second IsNamed → Asks words (Agent asked)
+asks_agent words asked offset count others is offset_is count_is second_is places some second = (
+  record { places = places; offset = offset_is.0; count = some; second = second },
+  is ∙ ap (λ l. agent_words asked.upstream.now asked.pocket.now asked.work.now asked.name.now l count others) offset_is.1
+      ∙ ap (λ l. agent_words asked.upstream.now asked.pocket.now asked.work.now asked.name.now (signed_decimal asked.offset) l others) count_is
+      ∙ ap (λ l. agent_words asked.upstream.now asked.pocket.now asked.work.now asked.name.now (signed_decimal asked.offset) (decimal asked.count) l) second_is,
 )

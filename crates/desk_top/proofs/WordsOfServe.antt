@@ -1,7 +1,7 @@
 -- Which words ask for `serve`, and which for no command.
 use Rattle.std.proofs.Common.{◌≡◌, ◌≢◌, ◌<◌, ℕ, List, [], ◌∷◌, length, refl, sym, ap, ◌∙◌, arith}
 use Rattle.std.specs.Prelude.{decimal}
-use Rattle.desk_top.specs.declared.command.DeskCommand.TheVariants.{Qna, QnaWorld, Check, Office, Make, Serve, Relay, Agent, Help}
+use Rattle.desk_top.specs.declared.command.DeskCommand.TheVariants.{Qna, QnaWorld, Check, Office, Make, Serve, Relay, Agent, Session, Help}
 use Rattle.desk_top.specs.declared.command.ServeWords.{ServeWords}
 use Rattle.desk_top.specs.Commands.{AskNoDevices, Asks, IsNoCommand, IsOneTo, serve_words, words_of}
 
@@ -59,4 +59,5 @@ no_command words a b c office d make none (Make number) asks = make number asks
 no_command words a b c office d make none (Serve asked) asks = none.serve asked asks
 no_command words a b c office d make none (Relay asked) asks = none.relay asked asks
 no_command words a b c office d make none (Agent asked) asks = none.agent asked asks
+no_command words a b c office d make none (Session asked) asks = none.session asked asks
 no_command words a b c office d make none Help asks = d asks.1

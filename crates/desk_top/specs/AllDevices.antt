@@ -7,6 +7,7 @@ use Rattle.desk_door.specs.Doors.{DoorView}
 use Rattle.desk_door.specs.Links.{LinkView}
 use Rattle.rel_session.specs.Devices.{Devices, devices}
 use Rattle.desk_serve.specs.ServeSteps.{Scene}
+use Rattle.session_view.specs.Asking.{TableDevices, table_devices}
 use Rattle.desk_top.specs.Relayed.{Relaying, relay_devices}
 use Rattle.desk_top.specs.Rounded.{Rounding, agent_devices}
 
@@ -37,6 +38,10 @@ all_devices source sink machine pocket keeper door link clock = record {
 -- those that questions are answered with
 abbrev pub asking : AllDevices → Devices
 asking all = devices all.sink all.machine all.clock
+
+-- those that questions over what is kept are answered with
+abbrev pub tables : AllDevices → TableDevices
+tables all = table_devices all.sink all.keeper all.clock
 
 -- those that conversations are served with
 abbrev pub scene : DoorView → KeeperView → SinkView → Scene

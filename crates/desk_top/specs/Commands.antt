@@ -6,10 +6,12 @@ use Rattle.line_forms.specs.Names.{IsName}
 use Rattle.line_forms.specs.Numbers.{IsOffset}
 use Rattle.relay_cache.specs.CachedFiles.{IsRoom}
 use Rattle.desk_top.specs.declared.command.DeskCommand.{DeskCommand}
-use Rattle.desk_top.specs.declared.command.DeskCommand.TheVariants.{Qna, QnaWorld, Check, Office, Make, Serve, Relay, Agent, Help}
+use Rattle.desk_top.specs.declared.command.DeskCommand.TheVariants.{Qna, QnaWorld, Check, Office, Make, Serve, Relay, Agent, Session, Help}
 use Rattle.desk_top.specs.declared.command.AgentWords.{AgentWords}
 use Rattle.desk_top.specs.declared.command.RelayWords.{RelayWords}
 use Rattle.desk_top.specs.declared.command.ServeWords.{ServeWords}
+use Rattle.desk_top.specs.declared.command.SessionWords.{SessionWords}
+use denote.Ref.{Bor}
 
 -- the words of a command, with these three behind it, and others behind them
 abbrev pub with_others : List ℕ → List ℕ → List ℕ → List ℕ → List (List ℕ) → List (List ℕ)
@@ -31,10 +33,19 @@ abbrev pub room_words : Option ℕ → List (List ℕ)
 room_words None = []
 room_words (Some room) = decimal room ∷ []
 
--- the words of `agent`, with these behind it
-abbrev pub agent_words : List ℕ → List ℕ → List ℕ → List ℕ → List ℕ → List ℕ → List (List ℕ)
-agent_words upstream pocket work name offset count =
-    codes "agent" ∷ upstream ∷ pocket ∷ work ∷ name ∷ offset ∷ count ∷ []
+-- the words of `agent`, with these behind it, and the last one or none
+abbrev pub agent_words : List ℕ → List ℕ → List ℕ → List ℕ → List ℕ → List ℕ → List (List ℕ) → List (List ℕ)
+agent_words upstream pocket work name offset count last =
+    codes "agent" ∷ upstream ∷ pocket ∷ work ∷ name ∷ offset ∷ count ∷ last
+
+-- the word of where the second upstream is, where there is one
+abbrev pub second_words : Option (Bor (List ℕ)) → List (List ℕ)
+second_words None = []
+second_words (Some second) = second.now ∷ []
+
+-- the words of `session`, with this behind it
+abbrev pub session_words : List ℕ → List (List ℕ)
+session_words keep = codes "session" ∷ keep ∷ []
 
 -- the words of a command
 abbrev pub words_of : DeskCommand → List (List ℕ)
@@ -47,6 +58,8 @@ words_of (Serve asked) = serve_words (decimal asked.port) asked.keep.now (decima
 words_of (Relay asked) = relay_words (decimal asked.port) asked.upstream.now (decimal asked.count) (room_words asked.room)
 words_of (Agent asked) =
     agent_words asked.upstream.now asked.pocket.now asked.work.now asked.name.now (signed_decimal asked.offset) (decimal asked.count)
+    (second_words asked.second)
+words_of (Session asked) = session_words asked.keep.now
 words_of Help = codes "--help" ∷ []
 
 -- the number is one from 1 to the most
@@ -73,11 +86,16 @@ pub record NamesPlaces (upstream pocket work name : List ℕ) : Type 0 where
   pub work_some : 0 < length work
   pub is_name : IsName name
 
--- what stands behind `agent` are such texts, an offset, and a number of rounds
+-- a place that is named: its text isn't empty
+abbrev pub IsNamed : Bor (List ℕ) → Type 0
+IsNamed place = 0 < length place.now
+
+-- what stands behind `agent` are such texts, an offset, a number of rounds, and the text of a second upstream, if there is one
 pub record AreRounded (asked : AgentWords) : Type 0 where
   pub places : NamesPlaces asked.upstream.now asked.pocket.now asked.work.now asked.name.now
   pub offset : IsOffset asked.offset
   pub count : IsOneTo 1000000 asked.count
+  pub second : IfSome asked.second IsNamed
 
 -- the numbers and the texts of a command are ones that it takes
 abbrev pub IsCommand : DeskCommand → Type 0
@@ -85,6 +103,7 @@ IsCommand (Make number) = IsOneTo 2000 number
 IsCommand (Serve asked) = AreServed asked
 IsCommand (Relay asked) = AreRelayed asked
 IsCommand (Agent asked) = AreRounded asked
+IsCommand (Session asked) = 0 < length asked.keep.now
 IsCommand _ = ⊤
 
 -- the words ask for the command
@@ -121,6 +140,7 @@ ReadsSource (Make number) = ⊥
 ReadsSource (Serve asked) = ⊥
 ReadsSource (Relay asked) = ⊥
 ReadsSource (Agent asked) = ⊥
+ReadsSource (Session asked) = ⊤
 ReadsSource Help = ⊥
 
 -- the command holds conversations over the door
@@ -132,6 +152,7 @@ HoldsTalks _ = ⊥
 -- the command answers from the keeper
 abbrev pub UsesKeeper : DeskCommand → Type 0
 UsesKeeper (Serve asked) = ⊤
+UsesKeeper (Session asked) = ⊤
 UsesKeeper _ = ⊥
 
 -- the command asks an upstream by the link
@@ -145,11 +166,17 @@ abbrev pub IsAgents : DeskCommand → Type 0
 IsAgents (Agent asked) = ⊤
 IsAgents _ = ⊥
 
+-- the command asks of what is kept, and makes nothing
+abbrev pub FindsKeeper : DeskCommand → Type 0
+FindsKeeper (Session asked) = ⊤
+FindsKeeper _ = ⊥
+
 -- the words ask for none of these commands; only a private function cites this
 pub record AskNoDevices (words : List (List ℕ)) : Type 0 where
   pub serve : (asked : ServeWords) → ¬ Asks words (Serve asked)
   pub relay : (asked : RelayWords) → ¬ Asks words (Relay asked)
   pub agent : (asked : AgentWords) → ¬ Asks words (Agent asked)
+  pub session : (asked : SessionWords) → ¬ Asks words (Session asked)
 
 -- what is written where the words are those of no command
 abbrev pub usage_line : List ℕ
@@ -173,6 +200,9 @@ help_text =
     ++ help_line (codes "make" ∷ codes "N" ∷ [])
     ++ help_line (serve_words (codes "PORT") (codes "KEEP") (codes "N"))
     ++ help_line (relay_words (codes "PORT") (codes "UPSTREAM") (codes "N") [])
-    ++ help_line (agent_words (codes "UPSTREAM") (codes "POCKET") (codes "WORK") (codes "NAME") (codes "OFFSET") (codes "N"))
+    ++ help_line (agent_words (codes "UPSTREAM") (codes "POCKET") (codes "WORK") (codes "NAME") (codes "OFFSET") (codes "N") [])
+    ++ help_line (session_words (codes "KEEP"))
     ++ help_line (relay_words (codes "PORT") (codes "UPSTREAM") (codes "N") (codes "CACHE" ∷ []))
+    ++ help_line
+    (agent_words (codes "UPSTREAM") (codes "POCKET") (codes "WORK") (codes "NAME") (codes "OFFSET") (codes "N") (codes "SECOND" ∷ []))
     ++ help_line (words_of Help)

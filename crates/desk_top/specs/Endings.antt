@@ -12,14 +12,14 @@ use Rattle.agent_core.specs.declared.opening.Opened.TheVariants as opened
 use Rattle.desk_serve.specs.declared.step.Stop.TheVariants as stop
 use Rattle.desk_runs.specs.declared.rounding.AgentStop.TheVariants as cut
 use Rattle.desk_top.specs.declared.command.DeskCommand.{DeskCommand}
-use Rattle.desk_top.specs.declared.command.DeskCommand.TheVariants.{Serve, Relay, Agent}
+use Rattle.desk_top.specs.declared.command.DeskCommand.TheVariants.{Serve, Relay, Agent, Session}
 use Rattle.desk_top.specs.declared.status.Status.{Status}
 use Rattle.desk_top.specs.declared.status.Status.TheVariants.{Done, Usage, Refused, Source, Sink, Clock, Pocket, Keeper, Door, Memory, InputTooLong}
 use Rattle.desk_top.specs.AllDevices.{AllDevices, relaying, rounding, serving}
-use Rattle.desk_top.specs.Commands.{Asks, AsksAgent, AsksRelay, AsksServe, AsksSome, IsAgents, IsNoCommand, ReadsSource, usage_line}
+use Rattle.desk_top.specs.Commands.{Asks, AsksAgent, AsksRelay, AsksServe, AsksSome, IsAgents, IsNoCommand, ReadsSource, UsesKeeper, usage_line}
 use Rattle.desk_top.specs.Counted.{CountsMore}
 use Rattle.desk_top.specs.Runs.{input_limit, TookInput, TookPart, TookTooMuch}
-use Rattle.desk_top.specs.Said.{AsksDevices, Began, Did, IsGoodInput, IsRefused}
+use Rattle.desk_top.specs.Said.{AsksClock, Began, Did, IsGoodInput, IsRefused}
 use Rattle.desk_top.specs.Relayed.{OpensRelay, RelaysAt}
 use Rattle.desk_top.specs.Rounded.{IsBadPocket, OpensNone, OpensRounds, RefusesPocket, RoundsAt}
 use Rattle.desk_top.specs.Served.{OpensBoth, ServesAt}
@@ -53,6 +53,8 @@ abbrev pub OpensFirst : DeskCommand → AllDevices → AllDevices → Untouched 
 OpensFirst (Serve asked) old new same = Opens old.keeper applied.Memory new.keeper × Unasked same
 OpensFirst (Relay asked) old new same = (new.link ≡ old.link) × Unasked same
 OpensFirst (Agent asked) old new same = OpensNone asked (rounding old) (rounding new) × Untimed same
+OpensFirst (Session asked) old new same =
+    (Opens old.keeper applied.Memory new.keeper ⊎ (new.keeper ≡ old.keeper)) × Unasked same
 OpensFirst _ old new same = (new.keeper ≡ old.keeper) × Unasked same
 
 -- What was done where a run of these words ended so.
@@ -72,10 +74,10 @@ Ended Sink words old new same =
     (IsNoCommand words × AppendsFront old.sink.held new.sink.held usage_line) ⊎ BeganSome Sink words old new
 -- the clock failed behind such a front
 Ended Clock words old new same =
-    TakesInput words old new (λ command input. AsksDevices command × Began Clock command input old new)
--- what is kept couldn't be opened, and nothing was done before that
+    TakesInput words old new (λ command input. AsksClock command × Began Clock command input old new)
+-- what is kept couldn't be opened, and nothing was done before that but to read the source
 Ended Keeper words old new same =
-    AsksServe words (λ asked. Opens old.keeper applied.Failed new.keeper × Unasked same × same.door)
+    TakesInput words old new (λ command input. UsesKeeper command × Opens old.keeper applied.Failed new.keeper × Unasked same × same.door)
 -- the door couldn't be opened, and nothing was written; or it had no next conversation, behind a front of what is said
 Ended Door words old new same =
     AsksServe words (λ asked. (OpensBoth asked (serving old) put.Failed (serving new) × Unasked same)

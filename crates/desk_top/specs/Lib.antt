@@ -4,6 +4,7 @@ pub mod OfficeInputs
 pub mod Counted
 pub mod Relayed
 pub mod Rounded
+pub mod Questioned
 pub mod AllDevices
 pub mod Served
 pub mod Said
@@ -13,3 +14,4 @@ pub mod Endings
 pub mod Asked
 pub mod Tellings
 pub mod OneWorking
+pub mod RelayedFiles

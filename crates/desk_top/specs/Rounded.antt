@@ -20,6 +20,7 @@ use Rattle.agent_core.specs.declared.opening.Opened.{Opened}
 use Rattle.agent_core.specs.declared.opening.Opened.TheVariants as opened
 use Rattle.desk_rounds.specs.AgentRounds.{agent_point}
 use Rattle.desk_rounds.specs.declared.agent_rounds.Rounder.{Rounder}
+use Rattle.desk_rounds.specs.declared.way.Upstreams.{Upstreams}
 use Rattle.desk_runs.specs.declared.rounding.AgentStop.{AgentStop}
 use Rattle.desk_runs.specs.declared.rounding.AgentStop.TheVariants as stop
 use Rattle.desk_runs.specs.AgentRuns.{MakesAll}
@@ -28,6 +29,7 @@ use Rattle.desk_top.specs.declared.command.AgentWords.{AgentWords}
 use Rattle.desk_top.specs.declared.status.Status.{Status}
 use Rattle.desk_top.specs.declared.status.Status.TheVariants.{Done, Refused, Sink, Clock, Pocket, Memory}
 use Rattle.desk_top.specs.Relayed.{with_upstream}
+use denote.Ref.{Bor}
 
 -- what the devices of an agent tell
 pub record Rounding : Type 0 where
@@ -72,9 +74,14 @@ IsBadPocket name None = ⊥
 IsBadPocket name (Some text) = (line : ℕ) × ReadsSaved name text (Err (error.BadLine line))
 
 -- ---- rounds
+-- the two upstreams of its rounds, where a second one is named
+abbrev pub upstreams_of : List ℕ → Option (Bor (List ℕ)) → Option Upstreams
+upstreams_of first None = None
+upstreams_of first (Some second) = Some (record { first = first; second = second.now })
+
 -- whose rounds they are
 abbrev pub rounder_of : AgentWords → Rounder
-rounder_of asked = record { name = asked.name.now; offset = asked.offset }
+rounder_of asked = record { name = asked.name.now; offset = asked.offset; upstreams = upstreams_of asked.upstream.now asked.second }
 
 -- what the rounds of an agent go on that stands so
 abbrev pub agent_at : State → Rounding → AgentScene

@@ -6,7 +6,7 @@ use Rattle.std.specs.declared.result.Result.TheVariants.{Ok, Err}
 use Rattle.std.specs.Io.KnownBytes.{Consumes, IsAtEnd, Keeps}
 use Rattle.desk_base.specs.Whole.{Took, TookAll}
 use Rattle.desk_top.specs.declared.command.DeskCommand.{DeskCommand}
-use Rattle.desk_top.specs.declared.command.DeskCommand.TheVariants.{Qna, QnaWorld, Check, Office, Make, Serve, Relay, Agent, Help}
+use Rattle.desk_top.specs.declared.command.DeskCommand.TheVariants.{Qna, QnaWorld, Check, Office, Make, Serve, Relay, Agent, Session, Help}
 use Rattle.desk_top.specs.declared.status.Status.{Status}
 use Rattle.desk_top.specs.declared.status.Status.TheVariants.{InputTooLong, Source, Memory}
 
@@ -24,6 +24,7 @@ TookInput (Make number) old new P = Keeps old new × P []
 TookInput (Serve asked) old new P = Keeps old new × P []
 TookInput (Relay asked) old new P = Keeps old new × P []
 TookInput (Agent asked) old new P = Keeps old new × P []
+TookInput (Session asked) old new P = TookAll old new (λ input. (length input ≤ input_limit) × P input)
 TookInput Help old new P = Keeps old new × P []
 
 -- At most the limit was taken.

@@ -9,7 +9,7 @@ use Rattle.rel_eval.specs.Questions.{Reads}
 use Rattle.rel_session.specs.Sessions.{Run, Runs, IsFrontOfRun, fresh}
 use Rattle.rel_session.specs.Devices.{Devices, DidAll, DidFront}
 use Rattle.desk_top.specs.declared.command.DeskCommand.{DeskCommand}
-use Rattle.desk_top.specs.declared.command.DeskCommand.TheVariants.{Qna, QnaWorld, Check, Office, Make, Serve, Relay, Agent, Help}
+use Rattle.desk_top.specs.declared.command.DeskCommand.TheVariants.{Qna, QnaWorld, Check, Office, Make, Serve, Relay, Agent, Session, Help}
 use Rattle.site_check.specs.declared.finding.Finding.{Finding}
 use Rattle.site_check.specs.declared.finding.Finding.TheVariants.{Good, Memory}
 use Rattle.site_check.specs.Findings.{Finds}
@@ -20,9 +20,10 @@ use Rattle.desk_serve.specs.declared.step.Stop.{Stop}
 use Rattle.desk_runs.specs.declared.rounding.AgentStop.{AgentStop}
 use Rattle.desk_top.specs.declared.status.Status.{Status}
 use Rattle.desk_top.specs.declared.status.Status.TheVariants.{Sink}
-use Rattle.desk_top.specs.AllDevices.{AllDevices, asking, relaying, rounding, serving}
+use Rattle.desk_top.specs.AllDevices.{AllDevices, asking, relaying, rounding, serving, tables}
 use Rattle.desk_top.specs.Commands.{help_text}
 use Rattle.desk_top.specs.Relayed.{RelaysAt}
+use Rattle.desk_top.specs.Questioned.{AsksAt, BeganAsking}
 use Rattle.desk_top.specs.Rounded.{RefusesPocket, RoundsAt, status_of_rounds}
 use Rattle.desk_top.specs.OfficeInputs.{BeginsPlay, IsBadOffice, IsOfficeInput, PlaysInput}
 use Rattle.desk_top.specs.Served.{ServesAt, status_of_stop}
@@ -59,6 +60,7 @@ Did (Make number) input old new = Appends old.sink.held new.sink.held (office_of
 Did (Serve asked) input old new = ServesAt asked (serving old) (Ok tt) (serving new)
 Did (Relay asked) input old new = RelaysAt asked (relaying old) (Ok tt) (relaying new)
 Did (Agent asked) input old new = RoundsAt asked (rounding old) (Ok tt) (rounding new)
+Did (Session asked) input old new = AsksAt input (tables old) (tables new)
 Did Help input old new = Appends old.sink.held new.sink.held help_text
 
 -- What is found in a site's text is a refusal.
@@ -77,6 +79,7 @@ Refuses (Make number) input line = ⊥
 Refuses (Serve asked) input line = ⊥
 Refuses (Relay asked) input line = ⊥
 Refuses (Agent asked) input line = ⊥
+Refuses (Session asked) input line = ⊥
 Refuses Help input line = ⊥
 
 -- The command refuses the input, and P holds of what is said of it.
@@ -103,21 +106,23 @@ Began status (Relay asked) input old new =
 Began status (Agent asked) input old new =
     ((status ≡ Sink) × (line : ℕ) × RefusesPocket asked line (rounding old) put.Failed (rounding new))
     ⊎ ((why : AgentStop) × (status ≡ status_of_rounds why) × RoundsAt asked (rounding old) (Err why) (rounding new))
+Began status (Session asked) input old new = BeganAsking input (tables old) (tables new)
 Began status Help input old new = AppendsSome old.sink.held new.sink.held (IsFront help_text)
 
--- The command asks the machine and the clock.
-abbrev pub AsksDevices : DeskCommand → Type 0
-AsksDevices Qna = ⊤
-AsksDevices QnaWorld = ⊥
-AsksDevices Check = ⊥
-AsksDevices Office = ⊥
-AsksDevices (Make number) = ⊥
-AsksDevices (Serve asked) = ⊥
-AsksDevices (Relay asked) = ⊥
-AsksDevices (Agent asked) = ⊤
-AsksDevices Help = ⊥
+-- The command asks the machine.
+abbrev pub AsksMachine : DeskCommand → Type 0
+AsksMachine Qna = ⊤
+AsksMachine (Agent asked) = ⊤
+AsksMachine _ = ⊥
 
--- The input is one that the command does not refuse. Each line of `qna` is, and where nothing is read nothing is refused.
+-- The command asks the clock.
+abbrev pub AsksClock : DeskCommand → Type 0
+AsksClock Qna = ⊤
+AsksClock (Agent asked) = ⊤
+AsksClock (Session asked) = ⊤
+AsksClock _ = ⊥
+
+-- The input is one that the command does not refuse. Each line of questions is, and where nothing is read nothing is refused.
 abbrev pub IsGoodInput : DeskCommand → List ℕ → Type 0
 IsGoodInput Qna input = ⊤
 IsGoodInput QnaWorld input = (w : WorldState) × (rest : List ℕ) × IsWorldInput input w rest
@@ -127,4 +132,5 @@ IsGoodInput (Make number) input = ⊤
 IsGoodInput (Serve asked) input = ⊤
 IsGoodInput (Relay asked) input = ⊤
 IsGoodInput (Agent asked) input = ⊤
+IsGoodInput (Session asked) input = ⊤
 IsGoodInput Help input = ⊤

@@ -1,8 +1,9 @@
 // The table of commands: how words ask for one, and the help, which has a line for each.
-ghost use Rattle.std.specs.Prelude.{◌≡◌, MatchOption};
-ghost use Rattle.desk_top.specs.Commands.{AskNoDevices, Asks, IsNoCommand, help_text};
+ghost use Rattle.std.specs.Prelude.{◌≡◌, ◌↔◌, IsTrue, MatchOption};
+ghost use Rattle.desk_top.specs.Commands.{AskNoDevices, Asks, AsksSome, FindsKeeper, IsNoCommand, help_text};
 
-use crate::words::{are_spelled, number_to_make, what_to_relay, what_to_round, what_to_serve};
+use crate::agent_words::what_to_round;
+use crate::words::{are_spelled, number_to_make, what_to_question, what_to_relay, what_to_serve};
 use rel_lexer::Text;
 
 /// What stands behind `serve`.
@@ -44,6 +45,15 @@ pub struct AgentWords<'a> {
     pub offset: i64,
     /// How many rounds are made, from 1 to 1,000,000.
     pub count: u32,
+    /// Where the upstream is that a round turns to when an exchange fails. Without one it turns to none.
+    pub second: Option<&'a Text>,
+}
+
+/// What stands behind `session`.
+#[derive(Clone, Copy)]
+pub struct SessionWords<'a> {
+    /// Where a keeper keeps its tables.
+    pub keep: &'a Text,
 }
 
 /// What the words of the command line can ask for.
@@ -65,6 +75,8 @@ pub enum DeskCommand<'a> {
     Relay(RelayWords<'a>),
     /// Rounds of an agent over the machine, with an upstream.
     Agent(AgentWords<'a>),
+    /// Questions over what a server has kept: each line of the source is one, or a command that begins with `:`.
+    Session(SessionWords<'a>),
     /// The words of each command.
     Help,
 }
@@ -95,7 +107,7 @@ pub(crate) fn command_of<'a>(words: &'a [Text]) -> Option<DeskCommand<'a>>
     Some(DeskCommand::Make(number))
 }
 
-/// The command over the door or the link that has these words.
+/// The command over the door, the link or the keeper that has these words.
 fn command_with_devices<'a>(words: &'a [Text]) -> Option<DeskCommand<'a>>
     ensures { MatchOption result (AskNoDevices words.now) (Asks words.now) }
 {
@@ -105,10 +117,20 @@ fn command_with_devices<'a>(words: &'a [Text]) -> Option<DeskCommand<'a>>
     if let Some(asked) = what_to_relay(words) {
         return Some(DeskCommand::Relay(asked));
     }
-    match what_to_round(words) {
-        Some(asked) => Some(DeskCommand::Agent(asked)),
+    if let Some(asked) = what_to_round(words) {
+        return Some(DeskCommand::Agent(asked));
+    }
+    match what_to_question(words) {
+        Some(asked) => Some(DeskCommand::Session(asked)),
         None => None,
     }
+}
+
+/// Whether the words ask of what is kept, so that nothing is made where nothing is kept.
+pub fn finds_keeper(words: &[Text]) -> bool
+    ensures { IsTrue result ↔ AsksSome words.now FindsKeeper }
+{
+    what_to_question(words).is_some()
 }
 
 /// A line for each command. Words in capitals stand for its numbers and texts.
@@ -116,5 +138,5 @@ fn command_with_devices<'a>(words: &'a [Text]) -> Option<DeskCommand<'a>>
 pub(crate) fn help() -> &'static [u8]
     ensures { result.now ≡ help_text }
 {
-    b"desk qna\ndesk qna --world\ndesk check\ndesk office\ndesk make N\ndesk serve PORT KEEP N\ndesk relay PORT UPSTREAM N\ndesk agent UPSTREAM POCKET WORK NAME OFFSET N\ndesk relay PORT UPSTREAM N CACHE\ndesk --help\n"
+    b"desk qna\ndesk qna --world\ndesk check\ndesk office\ndesk make N\ndesk serve PORT KEEP N\ndesk relay PORT UPSTREAM N\ndesk agent UPSTREAM POCKET WORK NAME OFFSET N\ndesk session KEEP\ndesk relay PORT UPSTREAM N CACHE\ndesk agent UPSTREAM POCKET WORK NAME OFFSET N SECOND\ndesk --help\n"
 }

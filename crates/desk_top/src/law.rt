@@ -1,5 +1,6 @@
 // What holds of every run of a command, of every schedule of the delivery of reports, and of every office that is played.
-ghost use Rattle.std.specs.Prelude.{◌≡◌, [], All, ℕ, ℤ, List, Some};
+ghost use Rattle.std.specs.Prelude.{◌≡◌, [], All, ℕ, ℤ, List, Some, Err};
+ghost use Rattle.sha2.specs.Sha256.{sha256};
 ghost use Rattle.desk_base.specs.Flow.{IsFront};
 ghost use Rattle.bf_machine.specs.Steps.{SameButPolls};
 ghost use Rattle.fix_site.specs.declared.site.Site.{Site};
@@ -12,24 +13,39 @@ ghost use Rattle.office_rules.specs.Offices.{Office, PlayedComputer};
 ghost use Rattle.office_rules.specs.OfficeSchedules.{ReachesOffice, SaysNoConflict};
 ghost use Rattle.office_rules.specs.Plays.{IsFrontOfPlay, IsPlayed};
 ghost use Rattle.office_rules.specs.PrintedAnswers.{AreAlike, PrintsAnswers};
+ghost use Rattle.server_text.specs.declared.reply.Reply.TheVariants as reply;
+ghost use Rattle.http_replies.specs.declared.answer.Answer.TheVariants as answer;
+ghost use Rattle.desk_hosts.specs.declared.file.Came.{Came};
+ghost use Rattle.desk_hosts.specs.RelayFiles.{passed_on};
+ghost use Rattle.desk_serve.specs.declared.step.Stop.{Stop};
+ghost use Rattle.desk_runs.specs.KeptFiles.{AsksForFile, FileCall};
+ghost use Rattle.desk_runs.specs.KeptFiles as kept_files;
+ghost use Rattle.desk_runs.specs.RelaySteps.{RelayScene};
 ghost use Rattle.desk_top.specs.declared.command.DeskCommand.{DeskCommand};
 ghost use Rattle.desk_serve.specs.OneServing.{IsSteady, LeaveAlike, TellsScene};
 ghost use Rattle.desk_runs.specs.OneExchanges.{LinkTold};
 ghost use Rattle.desk_top.specs.declared.command.AgentWords.{AgentWords};
-ghost use Rattle.desk_top.specs.declared.command.DeskCommand.TheVariants.{Agent, Qna, Relay, Serve};
+ghost use Rattle.desk_top.specs.declared.command.DeskCommand.TheVariants.{Agent, Qna, Relay, Serve, Session};
 ghost use Rattle.desk_top.specs.declared.command.RelayWords.{RelayWords};
 ghost use Rattle.desk_top.specs.declared.command.ServeWords.{ServeWords};
-ghost use Rattle.desk_top.specs.AllDevices.{AllDevices, asking, relaying, rounding, serving};
-ghost use Rattle.desk_top.specs.Commands.{AsksUpstream, HoldsTalks};
+ghost use Rattle.desk_top.specs.declared.command.SessionWords.{SessionWords};
+ghost use Rattle.desk_top.specs.AllDevices.{AllDevices, asking, relaying, rounding, serving, tables};
+ghost use Rattle.desk_top.specs.Commands.{AsksUpstream, HoldsTalks, UsesKeeper};
 ghost use Rattle.desk_top.specs.OneWorking.{RelayedAlike, RelayedSteadily, RoundedAlike, RoundedSteadily, TellsRelaying, TellsRounding};
+ghost use Rattle.desk_top.specs.Relayed.{RelaysAt};
+ghost use Rattle.desk_top.specs.RelayedFiles.{BreaksFiles, RelaysFiles};
 ghost use Rattle.desk_top.specs.Said.{Did, IsGoodInput, Refuses};
-ghost use Rattle.desk_top.specs.Tellings.{RanAlike, TellsAll};
+ghost use Rattle.desk_top.specs.Tellings.{AskedAlike, RanAlike, TellsAll, TellsTables};
 
 use agent_core::one_change;
-use desk_runs::{one_relaying, one_rounding};
+use desk_runs::{
+    a_relay_keeps_what_was_asked_for, answers_are_those_without_a_cache, one_relaying, one_rounding,
+};
 use desk_serve::one_serving;
 use office_text::an_office_is_read;
 use rel_session::{PlainReader, one_run};
+use relay_cache::a_kept_file_was_given;
+use session_view::SessionReader;
 use site_check::one_finding;
 use world_text::{a_world_is_read, one_front};
 
@@ -39,11 +55,14 @@ use world_text::{a_world_is_read, one_front};
 /// none that a command takes is refused.
 pub fn one_said()
     ensures bytes { (command : DeskCommand) (input : List ℕ) (old one other : AllDevices) → ¬ HoldsTalks command
-        → ¬ AsksUpstream command → TellsAll (asking old) → RanAlike (asking old) (asking one) (asking other)
+        → ¬ AsksUpstream command → ¬ UsesKeeper command → TellsAll (asking old) → RanAlike (asking old) (asking one) (asking other)
         → Did command input old one → Did command input old other → one.sink.held ≡ other.sink.held }
     ensures looks { (input : List ℕ) (old one other : AllDevices) → TellsAll (asking old)
         → RanAlike (asking old) (asking one) (asking other) → Did Qna input old one → Did Qna input old other
         → one.machine.looked ≡ other.machine.looked }
+    ensures kept { (asked : SessionWords) (input : List ℕ) (old one other : AllDevices) → TellsTables (tables old)
+        → AskedAlike (tables old) (tables one) (tables other) → Did (Session asked) input old one → Did (Session asked) input old other
+        → one.sink.held ≡ other.sink.held }
     ensures served { (asked : ServeWords) (held : List ℕ) (coming written : List (List ℕ)) (accepted : List Entry)
         (old one other : AllDevices) → old.sink.held ≡ Some held → TellsScene coming written accepted (serving old)
         → Did (Serve asked) [] old one → Did (Serve asked) [] old other → IsSteady (serving old) (serving one)
@@ -64,6 +83,7 @@ pub fn one_said()
 {
     // Proof: this is made of the laws of the parts.
     one_run::<PlainReader>();
+    one_run::<SessionReader>();
     one_serving();
     one_relaying();
     one_rounding();
@@ -73,6 +93,25 @@ pub fn one_said()
     a_world_is_read();
     an_office_is_read();
     office_rules::one_play();
+}
+
+/// What a relay with a cache does with files: in whole steps its upstream was asked for a file, once, exactly where the file isn't kept after
+/// the earlier requests; what was kept was answered without that. The bytes that are answered have the digest that was asked for. Where the
+/// upstream gives each file always the same, each answer is that of a relay without a cache.
+pub fn a_relay_asks_for_what_it_lacks()
+    ensures whole { (asked : RelayWords) (room : ℕ) (input : List ℕ) (old new : AllDevices) → asked.room ≡ Some room
+        → Did (Relay asked) input old new → RelaysFiles asked room (relaying old) (relaying new) }
+    ensures cut { (asked : RelayWords) (room : ℕ) (why : Stop) (old new : AllDevices) → asked.room ≡ Some room
+        → RelaysAt asked (relaying old) (Err why) (relaying new) → BreaksFiles asked room (relaying old) why (relaying new) }
+    ensures digests { (room : ℕ) (earlier calls : List FileCall) (old new : RelayScene) (asks : AsksForFile room earlier old calls new)
+        (text : List ℕ) → asks.it ≡ answer.Reply (reply.Content text) → sha256 text ≡ asks.digest }
+    ensures alike { (upstream : List ℕ → Came) (room : ℕ) (earlier calls : List FileCall) (old new : RelayScene)
+        (asks : AsksForFile room earlier old calls new) → All (kept_files.IsSteady upstream) calls
+        → asks.it ≡ passed_on asks.digest (upstream asks.digest) }
+{
+    a_relay_keeps_what_was_asked_for();
+    answers_are_those_without_a_cache();
+    a_kept_file_was_given();
 }
 
 /// Over every schedule of the delivery of reports each accepted report was made by its computer, no two have one computer and number, each

@@ -1,11 +1,11 @@
 // An agent over its machine, with an upstream.
-ghost use Rattle.std.specs.Prelude.{◌≡◌, ◌++◌, OnOk};
+ghost use Rattle.std.specs.Prelude.{◌≡◌, ◌++◌, IfOk, OnOk};
 ghost use Rattle.desk_base.specs.Views.{ClockView, SinkView};
 ghost use Rattle.line_forms.specs.Names.{IsName};
 ghost use Rattle.line_forms.specs.Numbers.{IsOffset};
 ghost use Rattle.agent_core.specs.Agents.{shown_state};
 ghost use Rattle.agent_core.specs.Stops.{HeldWaitsBelow};
-ghost use Rattle.desk_top.specs.Rounded.{AgentEnds, CountsAgent, EndsRounds, NamesAll, SaysBadPocket, agent_at, agent_devices, bad_pocket};
+ghost use Rattle.desk_top.specs.Rounded.{AgentEnds, CountsAgent, EndsRounds, NamesAll, SaysBadPocket, agent_at, agent_devices, bad_pocket, rounder_of, upstreams_of};
 
 use crate::Status;
 use crate::command::AgentWords;
@@ -14,7 +14,7 @@ use agent_text::Pocket;
 use bf_machine::Machine;
 use desk_base::{Bytes, Clock, Put, Sink, decimal};
 use desk_door::Link;
-use desk_rounds::Rounder;
+use desk_rounds::{Rounder, Upstreams};
 use desk_runs::{make_rounds, what_ends_rounds_was_counted};
 use rel_lexer::Text;
 use std::alloc::{AllocError, Global};
@@ -43,36 +43,67 @@ pub(crate) fn agent_asked<W: Sink, M: Machine, P: Pocket, L: Link, C: Clock>(
         Ok(()) => {}
         Err(_) => return Status::Memory,
     }
-    let Ok(name) = asked.name.copy() else {
+    let Ok(rounder) = rounder_of(asked) else {
         return Status::Memory;
     };
-    match Agent::open(alloc, &name, pocket) {
-        Opened::Agent(agent) => {
-            make_all(
-                alloc, asked, name, agent, machine, pocket, link, clock, sink,
-            )
-        }
+    match Agent::open(alloc, &rounder.name, pocket) {
+        Opened::Agent(agent) => make_all(
+            alloc,
+            &rounder,
+            agent,
+            asked.count,
+            machine,
+            pocket,
+            link,
+            clock,
+            sink,
+        ),
         Opened::BadPocket(line) => refuse(alloc, line, sink),
         Opened::PocketFault => Status::Pocket,
         Opened::Memory => Status::Memory,
     }
 }
 
-/// Has an agent that was opened make the rounds that the words ask for.
+/// Whose rounds they are. The error is want of memory.
+fn rounder_of(asked: AgentWords) -> Result<Rounder, AllocError>
+    requires { IsOffset asked.offset }
+    ensures { IfOk result (λ rounder. rounder ≡ rounder_of asked.entry) }
+{
+    Ok(Rounder {
+        name: asked.name.copy()?,
+        offset: asked.offset,
+        upstreams: upstreams_of(asked.upstream, asked.second)?,
+    })
+}
+
+/// The two upstreams of its rounds, where a second one is named. The error is want of memory.
+fn upstreams_of(upstream: &Text, second: Option<&Text>) -> Result<Option<Upstreams>, AllocError>
+    ensures { IfOk result (λ upstreams. upstreams ≡ upstreams_of upstream.now second.entry) }
+{
+    let Some(second) = second else {
+        return Ok(None);
+    };
+    Ok(Some(Upstreams {
+        first: upstream.copy()?,
+        second: second.copy()?,
+    }))
+}
+
+/// Has an agent that was opened make so many rounds.
 fn make_all<W: Sink, M: Machine, P: Pocket, L: Link, C: Clock>(
     alloc: Global,
-    asked: AgentWords,
-    name: Text,
+    rounder: &Rounder,
     agent: Agent,
+    count: u32,
     machine: &mut M,
     pocket: &mut P,
     link: &mut L,
     clock: &mut C,
     sink: &mut W,
 ) -> Status
-    requires offset { IsOffset asked.offset }
+    requires offset { IsOffset rounder.now.offset }
     requires waits { HeldWaitsBelow (M.told machine.old).started (shown_state agent).held }
-    ensures ends { EndsRounds (record { name = name; offset = asked.entry.offset }) asked.entry.count result
+    ensures ends { EndsRounds rounder.now count result
         (agent_at (shown_state agent)
         (agent_devices (M.told machine.old) (P.told pocket.old) (L.told link.old) (C.told clock.old) (W.told sink.old)))
         (agent_devices (M.told machine.new) (P.told pocket.new) (L.told link.new) (C.told clock.new) (W.told sink.new)) }
@@ -83,20 +114,8 @@ fn make_all<W: Sink, M: Machine, P: Pocket, L: Link, C: Clock>(
     // Proof: how rounds end tells which counts rose.
     what_ends_rounds_was_counted();
     let mut agent = agent;
-    let rounder = Rounder {
-        name,
-        offset: asked.offset,
-    };
     match make_rounds(
-        alloc,
-        &rounder,
-        &mut agent,
-        clock,
-        machine,
-        pocket,
-        link,
-        sink,
-        asked.count,
+        alloc, rounder, &mut agent, clock, machine, pocket, link, sink, count,
     ) {
         Ok(()) => Status::Done,
         Err(stop) => Status::of_rounds(stop),

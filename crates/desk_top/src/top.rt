@@ -8,11 +8,12 @@ ghost use Rattle.desk_top.specs.Commands.{AsksSome, AsksUpstream, HoldsTalks, Is
 ghost use Rattle.desk_top.specs.Endings.{CountsByStatus, Comes, Ended};
 ghost use Rattle.office_text.specs.Made.{office_of};
 ghost use Rattle.desk_top.specs.Runs.{input_limit, ReadsInput};
-ghost use Rattle.desk_top.specs.Said.{AsksDevices};
+ghost use Rattle.desk_top.specs.Said.{AsksClock, AsksMachine};
 
 use crate::checks::check_input;
 use crate::command::{DeskCommand, command_of, help};
 use crate::offices::play_input;
+use crate::questioned::session_asked;
 use crate::questions::{ask_machine, ask_world};
 use crate::relayed::relay_asked;
 use crate::rounded::agent_asked;
@@ -68,10 +69,12 @@ pub fn desk<S: Source, W: Sink, M: Machine, P: Pocket, K: Keeper, D: Door, L: Li
         (K.told keeper.new) (D.told door.new) (L.told link.new) (C.told clock.new)) }
 
     // Only `agent` does more with the machine than to look, and only `agent` uses the pocket. No other command than `qna` and `agent` asks
-    // the machine and the clock, than `serve` the keeper, than `serve` and `relay` the door, than `relay` and `agent` the link.
+    // the machine, than these and `session` the clock, than `serve` and `session` the keeper, than `serve` and `relay` the door, than
+    // `relay` and `agent` the link.
     ensures looks { ¬ AsksSome words.now IsAgents → OnlyLooks (M.told machine.old) (M.told machine.new) }
     ensures unsaved { ¬ AsksSome words.now IsAgents → pocket.new ≡ pocket.old }
-    ensures unasked { ¬ AsksSome words.now AsksDevices → (machine.new ≡ machine.old) × (clock.new ≡ clock.old) }
+    ensures unasked { ¬ AsksSome words.now AsksMachine → machine.new ≡ machine.old }
+    ensures untimed { ¬ AsksSome words.now AsksClock → clock.new ≡ clock.old }
     ensures unkept { ¬ AsksSome words.now UsesKeeper → keeper.new ≡ keeper.old }
     ensures unserved { ¬ AsksSome words.now HoldsTalks → door.new ≡ door.old }
     ensures unlinked { ¬ AsksSome words.now AsksUpstream → link.new ≡ link.old }
@@ -116,6 +119,10 @@ pub fn desk<S: Source, W: Sink, M: Machine, P: Pocket, K: Keeper, D: Door, L: Li
         },
         DeskCommand::Office => match read_input(alloc, source) {
             Ok(input) => play_input(alloc, input.as_slice(), sink),
+            Err(status) => status,
+        },
+        DeskCommand::Session(asked) => match read_input(alloc, source) {
+            Ok(input) => session_asked(alloc, asked, input.as_slice(), sink, keeper, clock),
             Err(status) => status,
         },
     }

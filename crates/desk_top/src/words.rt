@@ -1,16 +1,14 @@
 // What the words of the command line spell.
 ghost use Rattle.std.specs.Prelude.{◌≡◌, ◌≢◌, ◌↔◌, ℕ, ◌<◌, List, [], ◌∷◌, length, decimal, map, IfSome, IsTrue, MatchOption};
 ghost use Rattle.std.specs.declared.option.Option.{Option};
-ghost use Rattle.std.specs.Fmt.{signed_decimal};
-ghost use Rattle.line_forms.specs.Numbers.{IsOffset};
 ghost use Rattle.relay_cache.specs.CachedFiles.{IsRoom};
-ghost use Rattle.desk_top.specs.declared.command.AgentWords.{AgentWords};
 ghost use Rattle.desk_top.specs.declared.command.RelayWords.{RelayWords};
 ghost use Rattle.desk_top.specs.declared.command.ServeWords.{ServeWords};
-ghost use Rattle.desk_top.specs.Commands.{Asks, IsOneTo, NamesPlaces, agent_words, room_words, with_others, with_three};
+ghost use Rattle.desk_top.specs.declared.command.SessionWords.{SessionWords};
+ghost use Rattle.desk_top.specs.Commands.{Asks, IsOneTo, room_words, with_others, with_three};
 
-use crate::command::{AgentWords, DeskCommand, RelayWords, ServeWords};
-use line_forms::{read_name, read_number, read_offset};
+use crate::command::{DeskCommand, RelayWords, ServeWords, SessionWords};
+use line_forms::read_number;
 use rel_lexer::Text;
 
 /// The most computers that `make` makes.
@@ -20,7 +18,7 @@ const MOST_COMPUTERS: u64 = 2_000;
 const LAST_PORT: u64 = 65_535;
 
 /// The most conversations that `serve` and `relay` hold, and the most rounds that `agent` makes.
-const MOST_STEPS: u64 = 1_000_000;
+pub(crate) const MOST_STEPS: u64 = 1_000_000;
 
 /// The most files that a relay keeps.
 const MOST_FILES: u64 = 64;
@@ -65,14 +63,14 @@ pub(crate) fn number_to_make(words: &[Text]) -> Option<u32>
 
 /// Three words, and the others behind them.
 #[derive(Clone, Copy)]
-struct FirstThree<'a> {
-    first: &'a Text,
-    second: &'a Text,
-    third: &'a Text,
-    others: &'a [Text],
+pub(crate) struct FirstThree<'a> {
+    pub first: &'a Text,
+    pub second: &'a Text,
+    pub third: &'a Text,
+    pub others: &'a [Text],
 }
 
-fn first_three<'a>(words: &'a [Text]) -> Option<FirstThree<'a>>
+pub(crate) fn first_three<'a>(words: &'a [Text]) -> Option<FirstThree<'a>>
     ensures { MatchOption result (length words.now < 3)
         (λ three. words.now ≡ three.first.now ∷ three.second.now ∷ three.third.now ∷ three.others.now) }
 {
@@ -94,7 +92,7 @@ fn first_three<'a>(words: &'a [Text]) -> Option<FirstThree<'a>>
 }
 
 /// The words behind the first one, where that is this one.
-fn behind<'a>(words: &'a [Text], command: &str) -> Option<&'a [Text]>
+pub(crate) fn behind<'a>(words: &'a [Text], command: &str) -> Option<&'a [Text]>
     ensures { MatchOption result ((others : List (List ℕ)) → words.now ≢ command.now ∷ others)
         (λ others. words.now ≡ command.now ∷ others.now) }
 {
@@ -133,45 +131,6 @@ fn three_behind<'a>(words: &'a [Text], command: &str) -> Option<FirstThree<'a>>
         return None;
     }
     Some(three)
-}
-
-/// The six words behind `agent`.
-#[derive(Clone, Copy)]
-struct BehindAgent<'a> {
-    upstream: &'a Text,
-    pocket: &'a Text,
-    work: &'a Text,
-    name: &'a Text,
-    offset: &'a Text,
-    count: &'a Text,
-}
-
-/// What stands behind `agent`, where that is the first of seven words.
-fn behind_agent<'a>(words: &'a [Text]) -> Option<BehindAgent<'a>>
-    ensures { MatchOption result
-        ((upstream pocket work name offset count : List ℕ) → words.now ≢ agent_words upstream pocket work name offset count)
-        (λ it. words.now ≡ agent_words it.upstream.now it.pocket.now it.work.now it.name.now it.offset.now it.count.now) }
-{
-    let Some(words) = behind(words, "agent") else {
-        return None;
-    };
-    let Some(places) = first_three(words) else {
-        return None;
-    };
-    let Some(values) = first_three(places.others) else {
-        return None;
-    };
-    if !values.others.is_empty() {
-        return None;
-    }
-    Some(BehindAgent {
-        upstream: places.first,
-        pocket: places.second,
-        work: places.third,
-        name: values.first,
-        offset: values.second,
-        count: values.third,
-    })
 }
 
 /// What the words ask `serve` for.
@@ -246,46 +205,29 @@ fn room_in(words: &[Text]) -> Option<Option<u32>>
     }
 }
 
-/// What the words ask `agent` for.
-#[tactic(auto, using(crate::proofs::WordsOfAgent::no_words, crate::proofs::WordsOfAgent::no_count, crate::proofs::WordsOfAgent::no_offset, crate::proofs::WordsOfAgent::no_places, crate::proofs::WordsOfAgent::asks_agent))]
-pub(crate) fn what_to_round<'a>(words: &'a [Text]) -> Option<AgentWords<'a>>
-    ensures { MatchOption result ((asked : AgentWords) → ¬ Asks words.now (DeskCommand.Agent asked))
-        (λ asked. Asks words.now (DeskCommand.Agent asked)) }
+/// What the words ask `session` for.
+#[tactic(auto, using(crate::proofs::WordsOfSession::no_words, crate::proofs::WordsOfSession::no_keep, crate::proofs::WordsOfSession::more_words, crate::proofs::WordsOfSession::empty_keep, crate::proofs::WordsOfSession::asks_session))]
+pub(crate) fn what_to_question<'a>(words: &'a [Text]) -> Option<SessionWords<'a>>
+    ensures { MatchOption result ((asked : SessionWords) → ¬ Asks words.now (DeskCommand.Session asked))
+        (λ asked. Asks words.now (DeskCommand.Session asked)) }
 {
-    let Some(behind) = behind_agent(words) else {
+    let Some(words) = behind(words, "session") else {
         return None;
     };
-    let Some(count) = number_up_to(behind.count, MOST_STEPS) else {
+    let Some((keep, others)) = words.split_first() else {
         return None;
     };
-    let Some(offset) = read_offset(behind.offset.as_str().as_bytes()) else {
-        return None;
-    };
-    if !names_places(&behind) {
+    if !others.is_empty() {
         return None;
     }
-    Some(AgentWords {
-        upstream: behind.upstream,
-        pocket: behind.pocket,
-        work: behind.work,
-        name: behind.name,
-        offset,
-        count: count as u32,
-    })
-}
-
-/// Whether the places are named and the name is that of a computer.
-fn names_places(behind: &BehindAgent) -> bool
-    ensures { IsTrue result ↔ NamesPlaces behind.now.upstream.now behind.now.pocket.now behind.now.work.now behind.now.name.now }
-{
-    !behind.upstream.as_str().is_empty()
-        && !behind.pocket.as_str().is_empty()
-        && !behind.work.as_str().is_empty()
-        && read_name(behind.name.as_str().as_bytes()).is_some()
+    if keep.as_str().is_empty() {
+        return None;
+    }
+    Some(SessionWords { keep })
 }
 
 /// The number from 1 to `most` that a word spells.
-fn number_up_to(word: &Text, most: u64) -> Option<u64>
+pub(crate) fn number_up_to(word: &Text, most: u64) -> Option<u64>
     ensures { MatchOption result ((number : ℕ) → IsOneTo most number → word.now ≢ decimal number)
         (λ number. IsOneTo most number × (word.now ≡ decimal number)) }
 {

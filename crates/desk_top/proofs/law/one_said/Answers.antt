@@ -1,8 +1,9 @@
 use Rattle.desk_top.proofs.Ends.{good_not_refused}
 use Rattle.desk_top.proofs.OneServed.{served_once}
+use Rattle.desk_top.proofs.OneQuestioned.{tables_once}
 use Rattle.desk_top.proofs.OneSaid.{bytes_once, looks_once, refusal_once}
 use Rattle.desk_top.proofs.OneWorked.{relayed_once, rounded_once}
-use Rattle.desk_top.specs.AllDevices.{relaying, rounding, serving}
+use Rattle.desk_top.specs.AllDevices.{relaying, rounding, serving, tables}
 use Rattle.desk_top.proofs.law.one_said.Goals as goal
 
 pub returns : goal.returns
@@ -13,6 +14,8 @@ returns c =
     record {
       bytes = bytes_once run one front c.one_play.ensures;
       looks = looks_once run;
+      kept = λ asked input old old_one old_other tells alike did again.
+          tables_once c.one_run-2.ensures input (tables old) (tables old_one) (tables old_other) tells alike did again;
       served = λ asked held coming written accepted old old_one old_other holds tells did again steady steady'.
           served_once c.one_serving.ensures asked held coming written accepted (serving old) (serving old_one) (serving old_other) holds tells did again steady steady';
       relayed = λ asked held coming written told old old_one old_other holds tells did again steady steady'.

@@ -1,8 +1,5 @@
-use Rattle.std.proofs.Common.{rules, ℤ, Ok, Err, subst, SFits, w64}
-use Rattle.std.proofs.lemmas.Int.{to_z-of_z}
+use Rattle.std.proofs.Common.{Ok, Err}
 use Rattle.agent_core.specs.Agents.{shown_state}
-use Rattle.desk_rounds.specs.declared.agent_rounds.Rounder.{Rounder}
-use Rattle.desk_runs.specs.AgentRuns.{MakesAll}
 use Rattle.desk_top.specs.Rounded.{agent_at, agent_devices}
 use Rattle.desk_top.proofs.AgentEndings.{cut_counted, made_ends, whole_counted}
 use Rattle.desk_top.proofs.rounded.make_all.Goals as goal
@@ -13,9 +10,7 @@ returns-in-Ok-clause-ends g c =
     let new = agent_devices (g.M.Machine.told c.make_rounds.new.machine) (g.P.Pocket.told c.make_rounds.new.pocket) (g.L.Link.told c.make_rounds.new.link) (g.C.Clock.told c.make_rounds.new.clock) (g.W.Sink.told c.make_rounds.new.sink) in
     let begun = agent_at (shown_state c.args.agent) old in
     let last = agent_at (shown_state c.make_rounds.new.agent) new in
-    let fits : SFits w64 c.args.asked.offset = search rules in
-    let Makes : ℤ → Type 0 = λ o. MakesAll (record { name = c.args.name; offset = o }) begun c.args.asked.count (Ok tt) last in
-    let makes = subst Makes (to_z-of_z w64 c.args.asked.offset fits) c.in-Ok.ensures in
+    let makes = c.in-Ok.ensures in
     (shown_state c.make_rounds.new.agent, makes)
 
 pub returns-in-Ok-clause-counts : goal.returns-in-Ok-clause-counts
@@ -24,11 +19,8 @@ returns-in-Ok-clause-counts g c =
     let new = agent_devices (g.M.Machine.told c.make_rounds.new.machine) (g.P.Pocket.told c.make_rounds.new.pocket) (g.L.Link.told c.make_rounds.new.link) (g.C.Clock.told c.make_rounds.new.clock) (g.W.Sink.told c.make_rounds.new.sink) in
     let begun = agent_at (shown_state c.args.agent) old in
     let last = agent_at (shown_state c.make_rounds.new.agent) new in
-    let fits : SFits w64 c.args.asked.offset = search rules in
-    let Makes : ℤ → Type 0 = λ o. MakesAll (record { name = c.args.name; offset = o }) begun c.args.asked.count (Ok tt) last in
-    let makes = subst Makes (to_z-of_z w64 c.args.asked.offset fits) c.in-Ok.ensures in
-    let rounder : Rounder = record { name = c.args.name; offset = c.args.asked.offset } in
-    whole_counted old new (shown_state c.args.agent) (shown_state c.make_rounds.new.agent) tt (c.what_ends_rounds_was_counted.ensures rounder begun last c.args.asked.count (Ok tt) makes)
+    let makes = c.in-Ok.ensures in
+    whole_counted old new (shown_state c.args.agent) (shown_state c.make_rounds.new.agent) tt (c.what_ends_rounds_was_counted.ensures c.args.rounder.now begun last c.args.count (Ok tt) makes)
 
 pub returns-clause-ends : goal.returns-clause-ends
 returns-clause-ends g c =
@@ -36,11 +28,8 @@ returns-clause-ends g c =
     let new = agent_devices (g.M.Machine.told c.make_rounds.new.machine) (g.P.Pocket.told c.make_rounds.new.pocket) (g.L.Link.told c.make_rounds.new.link) (g.C.Clock.told c.make_rounds.new.clock) (g.W.Sink.told c.make_rounds.new.sink) in
     let begun = agent_at (shown_state c.args.agent) old in
     let last = agent_at (shown_state c.make_rounds.new.agent) new in
-    let fits : SFits w64 c.args.asked.offset = search rules in
-    let Makes : ℤ → Type 0 = λ o. MakesAll (record { name = c.args.name; offset = o }) begun c.args.asked.count (Err c.in-Err.stop) last in
-    let makes = subst Makes (to_z-of_z w64 c.args.asked.offset fits) c.in-Err.ensures in
-    let rounder : Rounder = record { name = c.args.name; offset = c.args.asked.offset } in
-    made_ends rounder c.args.asked.count begun new (shown_state c.make_rounds.new.agent) c.in-Err.stop c.of_rounds.result c.of_rounds.ensures makes
+    let makes = c.in-Err.ensures in
+    made_ends c.args.rounder.now c.args.count begun new (shown_state c.make_rounds.new.agent) c.in-Err.stop c.of_rounds.result c.of_rounds.ensures makes
 
 pub returns-clause-counts : goal.returns-clause-counts
 returns-clause-counts g c =
@@ -48,9 +37,6 @@ returns-clause-counts g c =
     let new = agent_devices (g.M.Machine.told c.make_rounds.new.machine) (g.P.Pocket.told c.make_rounds.new.pocket) (g.L.Link.told c.make_rounds.new.link) (g.C.Clock.told c.make_rounds.new.clock) (g.W.Sink.told c.make_rounds.new.sink) in
     let begun = agent_at (shown_state c.args.agent) old in
     let last = agent_at (shown_state c.make_rounds.new.agent) new in
-    let fits : SFits w64 c.args.asked.offset = search rules in
-    let Makes : ℤ → Type 0 = λ o. MakesAll (record { name = c.args.name; offset = o }) begun c.args.asked.count (Err c.in-Err.stop) last in
-    let makes = subst Makes (to_z-of_z w64 c.args.asked.offset fits) c.in-Err.ensures in
-    let rounder : Rounder = record { name = c.args.name; offset = c.args.asked.offset } in
+    let makes = c.in-Err.ensures in
     cut_counted old new (shown_state c.args.agent) (shown_state c.make_rounds.new.agent) c.in-Err.stop c.of_rounds.result c.of_rounds.ensures
-    (c.what_ends_rounds_was_counted.ensures rounder begun last c.args.asked.count (Err c.in-Err.stop) makes)
+    (c.what_ends_rounds_was_counted.ensures c.args.rounder.now begun last c.args.count (Err c.in-Err.stop) makes)

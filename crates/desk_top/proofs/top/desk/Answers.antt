@@ -3,6 +3,7 @@ use Rattle.desk_top.specs.declared.command.DeskCommand.TheVariants.{QnaWorld, Ch
 use Rattle.desk_top.proofs.Endings.{text_comes, text_ended, usage_comes}
 use Rattle.desk_top.proofs.AgentEndings.{agent_comes, agent_counts, agent_ended}
 use Rattle.desk_top.proofs.RelayEndings.{relay_comes, relay_counts, relay_ended}
+use Rattle.desk_top.proofs.SessionEndings.{session_comes, session_counts, session_ended}
 use Rattle.desk_top.proofs.Serving.{serve_comes, serve_counts, serve_ended}
 use Rattle.desk_top.proofs.top.desk.Goals as goal
 
@@ -137,3 +138,32 @@ pub agent_asked-requires-clause-offset : goal.agent_asked-requires-clause-offset
 agent_asked-requires-clause-offset g c =
     let asks = rw c.in-Agent.is at c.in-Some.ensures in
     asks.0.offset
+
+pub returns-in-Ok-read_input-5-clause-ended : goal.returns-in-Ok-read_input-5-clause-ended
+returns-in-Ok-read_input-5-clause-ended g c =
+    let read = c.in-Ok-read_input-5.ensures.reads in
+    session_ended _ c.in-Session.asked c.session_asked.result _ _ _ _ _ (λ unwritten. (unwritten.0, refl, unwritten.1)) refl
+    (record {
+      asks = rw c.in-Session.is at c.in-Some.ensures;
+      taken = _;
+      is = c.as_slice-in-Ok-read_input-5.ensures;
+      all = record { takes = read.0; ends = read.1; short = read.2 };
+      ends = c.session_asked.ensures.ends;
+    })
+
+pub returns-in-Ok-read_input-5-clause-comes : goal.returns-in-Ok-read_input-5-clause-comes
+returns-in-Ok-read_input-5-clause-comes g c =
+    let read = c.in-Ok-read_input-5.ensures.reads in
+    session_comes _ c.in-Session.asked c.session_asked.result _ _ _ _ _ _ _
+    (record {
+      asks = rw c.in-Session.is at c.in-Some.ensures;
+      taken = _;
+      is = c.as_slice-in-Ok-read_input-5.ensures;
+      all = record { takes = read.0; ends = read.1; short = read.2 };
+      ends = c.session_asked.ensures.ends;
+    })
+
+pub returns-in-Ok-read_input-5-clause-counts : goal.returns-in-Ok-read_input-5-clause-counts
+returns-in-Ok-read_input-5-clause-counts g c =
+    session_counts c.session_asked.result _ _ _ _ c.session_asked.ensures.ends (c.in-Ok-read_input-5.ensures.counts.steady (λ e. cc)) refl refl refl refl
+    c.session_asked.ensures.counts
