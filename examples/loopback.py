@@ -7,7 +7,7 @@ import socket
 import sys
 import time
 
-SECONDS = 60  # how long an answer, or the end of a process, is waited for
+SECONDS = 120  # how long an answer, or the end of a process, is waited for
 # no variable of the user's own is the desk's
 ENVIRONMENT = {k: v for k, v in os.environ.items() if not k.startswith('DESK_')}
 

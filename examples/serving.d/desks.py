@@ -190,9 +190,9 @@ class Office:
         self.begun.append(desk)
         return desk
 
-    def open(self, command, port, *words):
+    def open(self, command, port, *words, **variables):
         """A desk with a door, when that is open."""
-        desk = self.run(command, port, *words, port=port)
+        desk = self.run(command, port, *words, port=port, **variables)
         wait_for(lambda: listens(port) or desk.process.poll() is not None, SECONDS, f'{command} listens')
         check(desk.process.poll(), None, f'{command} has ended before a client came, with the status')
         return desk
@@ -200,15 +200,17 @@ class Office:
     def serve(self, count=1000000, keep='keep', port=None):
         return self.open('serve', port or free_port(), keep, count)
 
-    def relay(self, upstream, count=1000000, port=None, room=None):
+    def relay(self, upstream, count=1000000, port=None, room=None, **variables):
         """A relay, with a cache where there is room for files."""
-        return self.open('relay', port or free_port(), f'{LOOPBACK}:{upstream}', count, *([] if room is None else [room]))
+        return self.open('relay', port or free_port(), f'{LOOPBACK}:{upstream}', count, *([] if room is None else [room]), **variables)
 
-    def agent(self, name, upstream, count, every=None, offset=0):
-        """An agent whose pocket and work folder have its name; between its rounds it pauses for as many seconds as `every` says."""
+    def agent(self, name, upstream, count, every=None, offset=0, second=None):
+        """An agent whose pocket and work folder have its name; between its rounds it pauses for as many seconds as `every` says. There may
+        be a second upstream."""
         os.makedirs(self.path(name), exist_ok=True)
         variables = {} if every is None else {'DESK_EVERY': str(every)}
-        return self.run('agent', f'{LOOPBACK}:{upstream}', f'{name}.pocket', name, name, offset, count, **variables)
+        last = [] if second is None else [f'{LOOPBACK}:{second}']
+        return self.run('agent', f'{LOOPBACK}:{upstream}', f'{name}.pocket', name, name, offset, count, *last, **variables)
 
 
 # ---- texts

@@ -6,12 +6,12 @@ import threading
 
 from desks import LOOPBACK, Office, ask, check, fixlet, report, row, site
 from faulting.server import response, sealed
-from loopback import ABC, ABC_SHA1, ACTION, SITE, free_port
+from loopback import ABC, ABC_SHA1, ACTION, SECONDS, SITE, free_port
 from recorder import whole_request
 from servers import asked
 
 
-def turns(desk, seconds=60):
+def turns(desk, seconds=SECONDS):
     """How an agent ends, and its lines, each moment of which is M."""
     status, lines = desk.end(seconds)
     return status, [re.sub(r'^(turn \w+) \d+:', r'\1 M:', line) for line in lines]
@@ -50,8 +50,10 @@ def whole_office():
 
 
 def upstream(bodies):
-    """The port of somebody who gives these bodies with status 200, one a connection, and the list of what each was asked for with."""
-    listener, asked_for = socket.create_server((LOOPBACK, 0)), []
+    """The port of somebody who gives these bodies with status 200, one a connection, and is gone then; and the list of what each was asked
+    for with."""
+    port, asked_for = free_port(), []
+    listener = socket.create_server((LOOPBACK, port))
 
     def give():
         with listener:
@@ -61,7 +63,7 @@ def upstream(bodies):
                     peer.sendall(response((200, body)))
 
     threading.Thread(target=give, daemon=True).start()
-    return listener.getsockname()[1], asked_for
+    return port, asked_for
 
 
 @row('an agent asks with the version that it keeps, not the listed one, and keeps its site at one that is not newer')
@@ -165,6 +167,34 @@ def agent_alone():
         first.until(2)
         check(it.agent('pc4', gone, 1).end(), (6, []), 'the second')
         check(turns(first), (0, ['link: no answer', 'turn pc4 M: idle'] * 2), 'the first')
+
+
+@row('an agent turns to its second upstream where the first is gone, in each part of a round, and asks the same there')
+def second_upstream():
+    bodies = [b'actionsite 1\ndesk 1\n', sealed(b'site actionsite 1\n' + ACTION), SITE, b'abc', b'ok\n', b'ok\n']
+    asks = ['GET /sites', 'GET /sites/actionsite/0', 'GET /sites/desk/0', f'GET /files/{ABC}', 'POST /reports', 'POST /reports']
+    with Office() as it:
+        for given in range(len(bodies)):
+            name = f'pc{given}'
+            first, of_first = upstream(bodies[:given])
+            second, of_second = upstream(bodies[given:])
+            lines = [f'turn {name} M: began 7, fixed']
+            lines.insert(0 if given < 4 else 1, 'link: second')
+            check(turns(it.agent(name, first, 1, second=second)), (0, lines), f'the agent whose first upstream answers {given} times')
+            check((of_first, of_second), (asks[:given], asks[given:]), 'what both are asked')
+
+
+@row('each round of an agent begins with its first upstream; where both are gone it says so, and goes on')
+def first_again():
+    with Office() as it:
+        gone, second = free_port(), it.serve()
+        agent = it.agent('pc9', gone, 2, every=20, second=second.port)
+        agent.until(2)
+        first = it.serve(keep='other', port=gone)
+        check(turns(agent), (0, ['link: second', 'turn pc9 M: idle', 'turn pc9 M: idle']), 'the agent')
+        check((first.until(1), second.until(1)), (['answered 200'], ['answered 200']), 'both upstreams')
+        alone = it.agent('pc8', free_port(), 2, second=free_port())
+        check(turns(alone), (0, ['link: second', 'link: no answer', 'turn pc8 M: idle'] * 2), 'one whose upstreams are both gone')
 
 
 @row('a pause of another form fails each exchange')
