@@ -1,0 +1,5 @@
+pub mod Properties
+pub mod Analyses
+pub mod Tests
+pub mod Groups
+pub mod Readings
