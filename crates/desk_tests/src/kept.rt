@@ -8,13 +8,13 @@ use rel_lexer::Text;
 use std::alloc::{AllocError, Global};
 use std::mem::drop;
 
-/// A run, the moments that the clock gives, the number of the status with which it ends, and what it writes. The source's reads, the
-/// keeper's reading calls and the sink's writes that fail are counted from 1. The keeper's first reading call opens it.
+/// A run, whether its clock gives moments, the number of the status with which it ends, and what it writes. The source's reads, the keeper's
+/// reading calls and the sink's writes that fail are counted from 1. The keeper's first reading call opens it.
 #[derive(Clone, Copy)]
 struct Row {
     words: &'static [&'static str],
     input: &'static [u8],
-    moments: &'static [i64],
+    timed: bool,
     reads: &'static [u32],
     keeper: &'static [u32],
     writes: &'static [u32],
@@ -26,7 +26,7 @@ struct Row {
 const FOUND: Row = Row {
     words: &["session", "k"],
     input: b"names of bes computers\nresults\n:page 1\nnames of bes computers\n:more",
-    moments: &[1000, 2000, 3000],
+    timed: true,
     reads: &[],
     keeper: &[],
     writes: &[],
@@ -38,7 +38,7 @@ const FOUND: Row = Row {
 const UNOPENED: Row = Row {
     words: &["session", "k"],
     input: b"names of bes computers\n",
-    moments: &[1000],
+    timed: true,
     reads: &[],
     keeper: &[1],
     writes: &[],
@@ -54,7 +54,7 @@ const ROWS: [Row; 6] = [
     Row {
         words: &["session", "k"],
         input: b"names of bes computers\nnames of bes computers\n",
-        moments: &[1000, 2000],
+        timed: true,
         reads: &[],
         keeper: &[2],
         writes: &[],
@@ -65,7 +65,7 @@ const ROWS: [Row; 6] = [
     Row {
         words: &["session", "k"],
         input: b"1\n",
-        moments: &[1000],
+        timed: true,
         reads: &[1],
         keeper: &[1],
         writes: &[],
@@ -75,7 +75,7 @@ const ROWS: [Row; 6] = [
     Row {
         words: &["session", "k"],
         input: b"1\n",
-        moments: &[1000],
+        timed: true,
         reads: &[],
         keeper: &[],
         writes: &[1],
@@ -85,7 +85,7 @@ const ROWS: [Row; 6] = [
     Row {
         words: &["session", "k"],
         input: b":more\n1\n",
-        moments: &[],
+        timed: false,
         reads: &[],
         keeper: &[],
         writes: &[],
@@ -102,7 +102,7 @@ fn usage(words: &'static [&'static str]) -> Row {
     Row {
         words,
         input: b"1\n",
-        moments: &[],
+        timed: false,
         reads: &[1],
         keeper: &[1],
         writes: &[],
@@ -145,6 +145,15 @@ fn source(alloc: Global, row: &Row) -> Option<MemorySource> {
     Some(MemorySource::new(alloc, bytes, reads))
 }
 
+/// A clock that gives three moments, or none.
+fn clock(alloc: Global, timed: bool) -> Option<StepClock> {
+    if !timed {
+        return Some(StepClock::new(alloc, Vec::new(alloc), Vec::new(alloc)));
+    }
+    let moments = [1000, 2000, 3000].to_vec(alloc).ok()?;
+    Some(StepClock::new(alloc, moments, Vec::new(alloc)))
+}
+
 /// The number of the status of a row's run over a keeper.
 fn status(
     alloc: Global,
@@ -153,7 +162,7 @@ fn status(
     sink: &mut MemorySink,
 ) -> Option<u8> {
     let mut source = source(alloc, row)?;
-    let mut clock = StepClock::new(alloc, row.moments.to_vec(alloc).ok()?, Vec::new(alloc));
+    let mut clock = clock(alloc, row.timed)?;
     let mut pocket = MemoryPocket::new(alloc, Vec::new(alloc), Vec::new(alloc));
     let mut door = MemoryDoor::new(alloc, Vec::new(alloc), Vec::new(alloc));
     let mut link = MemoryLink::new(alloc, Vec::new(alloc), Vec::new(alloc));
