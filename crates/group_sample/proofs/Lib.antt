@@ -1,0 +1,5 @@
+mod RowDrawing
+mod Bringing
+mod MeasureLemmas
+mod OneSample
+mod Rowing

@@ -1,0 +1,4 @@
+pub mod Rows
+pub mod Due
+pub mod Samples
+pub mod Drawing
