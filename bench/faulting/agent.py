@@ -19,11 +19,12 @@ class Attempt:
 
 
 class Agent:
-    def __init__(self, name, devices, saved):
-        self.name, self.devices = name, devices
+    def __init__(self, name, devices, saved, has_second):
+        self.name, self.devices, self.has_second = name, devices, has_second
         self.rows, self.next, self.pending, self.outbox = copy.deepcopy(saved) if saved else ({}, 1, set(), [])
         self.shown = len(self.outbox)  # so many of its reports are saved
         self.sites, self.held, self.unsaved = {}, None, False
+        self.lines, self.turned = [], False  # of the round
 
     # ---- what is saved and reported
 
@@ -136,6 +137,12 @@ class Agent:
     # ---- rounds
 
     def exchange(self, method, path, body=b""):
+        """The upstream's answer. Where the first exchange of a round fails, the second upstream is asked the same, and all later ones."""
+        answer = self.devices.exchange(method, path, request(method, path, body), body)
+        if answer is not None or self.turned or not self.has_second:
+            return answer
+        self.turned = True
+        self.lines.append("link: second")
         return self.devices.exchange(method, path, request(method, path, body), body)
 
     def gather(self, lines):
@@ -178,6 +185,7 @@ class Agent:
 
     def round(self):
         lines = []
+        self.lines, self.turned = lines, False
         self.gather(lines)
         moment = self.devices.now()
         if moment is None:
@@ -187,13 +195,13 @@ class Agent:
         return lines
 
 
-def run_agent(name, devices, rounds):
+def run_agent(name, devices, rounds, has_second):
     """Runs the agent of the pocket's text. Its status."""
     try:
         loaded, saved = devices.load()
         if not loaded:
             raise Stopped(6)
-        agent = Agent(name, devices, saved)
+        agent = Agent(name, devices, saved, has_second)
         for number in range(rounds):
             if number:
                 devices.pause()

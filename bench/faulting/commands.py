@@ -26,6 +26,9 @@ class Command:
     def judge(self, ran, choice, _sound):
         return judge(ran, choice, self.status) + judge_written(ran, self.said)
 
+    def begin(self, _program):
+        """Does what has to be done once, before the first run."""
+
     def look_again(self, _program):
         """What is not so of what is kept behind a run."""
         return []
@@ -33,17 +36,27 @@ class Command:
 
 class Questions(Command):
     """`qna` over a machine and a clock."""
+    lines = session.LINES
+
+    def __init__(self, name, words):
+        super().__init__(name, words, session.source(self.lines))
 
     def devices(self, choice, sound):
-        moments = range(1000, 1000 + len(session.LINES))
+        moments = range(1000, 1000 + len(self.lines))
         return [*super().devices(choice, sound), f"machine {digits(session.MACHINE)}", clock(moments)]
+
+    def failing_look(self, choice):
+        """The number of the look that fails, or 0."""
+        return choice.number if choice.device == "machine" else 0
+
+    def looked_up(self, ran):
+        return [it.about.decode() for it in ran.calls if it.device == "machine"]
 
     def judge(self, ran, choice, _sound):
         """A look that fails is told at its place, and the lines behind it are asked all the same. Up to a fault of the sink or the clock
         the run is the one of which nothing failed; and where the clock failed, the lines before the one that asked it were written."""
-        failing = choice.number if choice.device == "machine" else 0
-        played = session.played(failing)
-        keys = [it.about.decode() for it in ran.calls if it.device == "machine"]
+        played = session.played(self.lines, self.failing_look(choice))
+        keys = self.looked_up(ran)
         whole = ran.status == 0
         complaints = judge(ran, choice, 0) + judge_written(ran, "".join(played.said).encode())
         if keys != (played.looks if whole else played.looks[:len(keys)]):
@@ -52,7 +65,7 @@ class Questions(Command):
         if whole and asked != played.moments:
             complaints.append(f"{asked} moments, not {played.moments}")
         if ran.status == 5:
-            questions = [number for number, (_, trace) in enumerate(session.LINES) if trace is not None]
+            questions = [number for number, (_, trace) in enumerate(self.lines) if trace is not None]
             least = "".join(played.said[:questions[asked - 1]]).encode()
             if not ran.sink.startswith(least):
                 complaints.append(f"written {ran.sink!r}, less than {least!r}")
@@ -170,6 +183,28 @@ class Serve(Command):
         return complaints if ran.status == 0 else [*complaints, f"status {ran.status} of a second run"]
 
 
+KEPT = [("POST", "/sites", content.SITE), ("POST", "/actions", content.ACTIONS[7]), ("POST", "/actions", content.ACTIONS[8]),
+        ("POST", "/reports", ONE), ("POST", "/reports", report(1, "row 7 1 fixed 1000 1010", "row 8 1 failed 1000 1005", computer="pc2"))]
+
+
+class SessionRun(Questions):
+    """`session` over what a server kept, which it is told once."""
+    lines = session.KEPT_LINES
+
+    def begin(self, program):
+        program.run(["serve", "8080", "k", str(len(KEPT))], ["sink", "keeper", door(map(said_by, KEPT))], Choice())
+
+    def devices(self, choice, sound):
+        return [it for it in super().devices(choice, sound) if it != "keeper"]
+
+    def failing_look(self, choice):
+        """Before the first look the keeper is opened."""
+        return max(choice.number - 1, 0) if choice.device == "keeper" else 0
+
+    def looked_up(self, ran):
+        return [it.name for it in ran.calls if it.device == "keeper"][1:]
+
+
 TWO = report(2, "row 7 1 fixed 1000 1010")
 # what clients say to a relay in turn
 RELAYED = [("GET", "/sites"), ("POST", "/reports", ONE), ("POST", "/reports", ONE), ("POST", "/reports", report(1)),
@@ -224,8 +259,10 @@ class Agent(Command):
     """`agent`, which begins an action that wants a file and waits, and then another one."""
     MOMENTS = [1000, 1030, 1065, 1130, 1200, 1300]
 
-    def __init__(self):
-        super().__init__("agent", ["agent", "u", "p", "w", "pc1", "0", str(len(self.MOMENTS))])
+    def __init__(self, *second):
+        words = ["agent", "u", "p", "w", "pc1", "0", str(len(self.MOMENTS)), *second]
+        super().__init__("agent with a second upstream" if second else "agent", words)
+        self.has_second = bool(second)
 
     @staticmethod
     def upstream():
@@ -238,7 +275,7 @@ class Agent(Command):
     def play(self, choice, world, saved, moments, upstream):
         """What a run is to do, by its own devices, and its status."""
         devices = Devices(choice, upstream, moments, world, saved)
-        return devices, run_agent("pc1", devices, len(moments))
+        return devices, run_agent("pc1", devices, len(moments), self.has_second)
 
     def devices(self, choice, sound):
         self.plays = self.play(choice, set(), (None, None), self.MOMENTS, self.upstream())
@@ -280,7 +317,7 @@ def all_commands():
         Command("qna --world", ["qna", "--world"], WORLD + b"1 + 1\ncomputer name\n", said=b"Q: 1 + 1\nA: 2\nQ: computer name\nA: pc1\n"),
         Command("qna --world, refused", ["qna", "--world"], WORLD[6:], 2, b"bad line 1\n"),
         Office(), Command("office, refused", ["office"], office.TEXT[:-len(b"end\n")], 2, b"bad line %d\n" % office.TEXT.count(b"\n")),
-        Questions("qna", ["qna"], session.INPUT),
+        Questions("qna", ["qna"]), SessionRun("session", ["session", "k"]), Command("session, refused", ["session", ""], status=1, said=USAGE),
         Serve("serve, each request", ASKED, ["keeper"]), Serve("serve, each conversation", TALKS, ["sink", "keeper", "door"]),
-        RelayRun(), Agent(),
+        RelayRun(), Agent(), Agent("v"),
     ]

@@ -35,13 +35,13 @@ def judge_end(ran):
 
 
 def judge_silence(ran):
-    """Where the source or the keeper's opening failed, nothing was written, and no other device was asked; where the door's opening
+    """Where the source or the keeper's opening failed, nothing was written, and no device was asked but these; where the door's opening
     failed, or the pocket's load, nothing was written either."""
     silent = {("source", "read"), ("keeper", "open"), ("door", "open"), ("pocket", "load")}
     failed = [(it.device, it.name) for it in failed_calls(ran)]
     if failed and failed[0] in silent and ran.sink:
         return [f"written: {ran.sink!r}"]
-    others = {it.device for it in ran.calls} - {failed[0][0]} if failed and failed[0] in {("source", "read"), ("keeper", "open")} else set()
+    others = {it.device for it in ran.calls} - {"source", failed[0][0]} if failed and failed[0] in {("source", "read"), ("keeper", "open")} else set()
     return [f"asked: {others}"] if others else []
 
 

@@ -1,5 +1,5 @@
-"""What lines of questions are to print and to look up, where one look or none fails, written from docs/LANGUAGE.md: each question is told
-by the trace of its list meaning, worked out by hand, page by page where it is so asked."""
+"""What lines of questions are to print and to look up, where one look or none fails, written from docs/LANGUAGE.md and docs/SESSION.md:
+each question is told by the trace of its list meaning, worked out by hand, page by page where it is so asked."""
 
 # the machine that is asked
 MACHINE = b"""world
@@ -66,6 +66,26 @@ LINES = [
 ]
 
 
+COMPUTERS = [look("list", "(9..22)"), give("pc1"), give("pc2")]
+
+# the same over what a server kept of two computers, two actions and a site: each look is a call of the keeper, but the entries of a
+# computer are two
+KEPT_LINES = [
+    ("names of bes computers", COMPUTERS),
+    ("names of bes sites", [look("versions", "(9..18)"), give("desk")]),
+    ("names of bes actions", [look("list", "(9..20)"), give("7"), give("8")]),
+    ('exists bes computer "pc3"', [look("get", "(7..25)"), give("False")]),
+    ('status of result "7" of bes computer "pc2"',
+     [look("get", "(24..42)"), look("get", "(10..20)"), look("get", "(0..6)"), give("fixed")]),
+    ("statuses of results of bes computers",
+     [look("list", "(23..36)"), look("get", "(12..19)"), look("results", "(12..19)"), look("get", "(0..8)"), give("running"),
+      look("get", "(12..19)"), look("results", "(12..19)"), look("get", "(0..8)"), give("fixed"), look("get", "(0..8)"), give("failed")]),
+    (":page 1", None),
+    ("names of bes computers", COMPUTERS),
+    (":more", None),
+]
+
+
 class Session:
     """A run over lines in which the look of this number fails, counted from 1, or none."""
 
@@ -111,12 +131,14 @@ class Session:
             self.say("E: This is no command.")
 
 
-def played(failing=0):
-    """The run over all lines: what is said of each, and the keys that are looked up, the failed one among them."""
+def played(lines, failing=0):
+    """The run over these lines: what is said of each, and the keys that are looked up, the failed one among them."""
     session = Session(failing)
-    for text, trace in LINES:
+    for text, trace in lines:
         session.line(text, trace)
     return session
 
 
-INPUT = "".join(text + "\n" for text, _ in LINES).encode()
+def source(lines):
+    """The lines as they are read."""
+    return "".join(text + "\n" for text, _ in lines).encode()
