@@ -1,0 +1,12 @@
+mod Sorting
+mod Tabling
+mod Membering
+mod Booking
+mod OneList
+mod ComputerLemmas
+mod GroupLists
+mod AddLemmas
+mod DefineLemmas
+mod FittingLemmas
+mod KeepLemmas
+mod ChangeLemmas

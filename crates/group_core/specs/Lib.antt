@@ -1,0 +1,5 @@
+pub mod Tables
+pub mod Members
+pub mod Books
+pub mod Lists
+pub mod Keeping
