@@ -1,6 +1,8 @@
-//! Tests of the texts of analyses and groups, and of what is measured, by public calls alone.
+//! Tests of the texts of analyses and groups, of what is measured, and of books, by public calls alone.
 #![tactic(auto)]
 
+#[cfg(test)]
+mod books;
 #[cfg(test)]
 mod samples;
 #[cfg(test)]

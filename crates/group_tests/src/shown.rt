@@ -1,7 +1,8 @@
 // What the tests are made of, and what they show.
-ghost use Rattle.std.specs.Prelude.{IfOk};
+ghost use Rattle.std.specs.Prelude.{IfOk, IfSome};
 ghost use Rattle.desk_base.specs.Moments.{IsMoment};
 ghost use Rattle.group_text.specs.Properties.{AreProperties};
+ghost use Rattle.group_sample.specs.Samples.{AreRows};
 
 use bf_machine::{PlainMachine, read_world};
 use group_sample::{Analyst, Sample, Taken};
@@ -35,6 +36,7 @@ impl Bench {
     ) -> Result<Option<Sample>, Fail>
         requires properties { AreProperties analysis.now.properties }
         requires moment { IsMoment moment }
+        ensures { IfOk result (λ sample. IfSome sample (λ sample. AreRows sample.rows)) }
     {
         let properties = analysis.properties.as_slice();
         if properties.len() > 100 {
@@ -59,6 +61,7 @@ impl Bench {
     ) -> Result<Sample, Fail>
         requires properties { AreProperties analysis.now.properties }
         requires moment { IsMoment moment }
+        ensures { IfOk result (λ sample. AreRows sample.rows) }
     {
         match self.take(alloc, analysis, moment)? {
             Some(sample) => Ok(sample),
