@@ -1,25 +1,23 @@
 -- What an agent's rounds do to the counts of faults.
-use Rattle.std.proofs.Common.{◌≡◌, ◌≢◌, ◌⊎◌, ◌≤◌, ℕ, ◌+◌, ℤ, Bool, true, false, List, [], ◌∷◌, ◌++◌, map, None, Some, Result, Ok, Err, inl, inr, refl, sym, ap, ◌∙◌, subst, arith}
+use Rattle.std.proofs.Common.{◌≡◌, ◌⊎◌, ◌≤◌, ℕ, ◌+◌, ℤ, Bool, List, [], ◌∷◌, ◌++◌, map, None, Some, Result, Ok, Err, inl, inr, refl, sym, ap, ◌∙◌, subst, arith}
 use Rattle.std.specs.Prelude.{is_some}
 use Rattle.std.specs.declared.option.Option.{Option}
 use Rattle.desk_base.specs.Counts.{CountsFaults}
-use Rattle.desk_base.specs.Moments.{AsksMoment}
 use Rattle.desk_base.specs.Views.{ClockView}
-use Rattle.desk_base.specs.declared.clock.Told.{Told}
 use Rattle.desk_base.specs.declared.clock.Told.TheVariants as told
 use Rattle.bf_machine.specs.Rises.{RoseBy}
-use Rattle.bf_machine.proofs.Telling.{RoseBy-later, RoseBy-more, RoseBy-none, later-RoseBy}
+use Rattle.bf_machine.proofs.Telling.{RoseBy-later, RoseBy-more, RoseBy-none}
 use Rattle.script_run.specs.Asking.{When}
 use Rattle.agent_state.specs.States.{State}
 use Rattle.agent_core.specs.Devices.{Devices}
-use Rattle.agent_core.specs.Stops.{MachineHasCause, TurnHasCause}
+use Rattle.agent_core.specs.Stops.{MachineHasCause}
 use Rattle.agent_core.specs.declared.turned.Turned.{Turned}
 use Rattle.agent_core.specs.declared.turned.Turned.TheVariants as of_turn
 use Rattle.turn_lines.specs.declared.giver.FileAsked.{FileAsked}
 use Rattle.turn_lines.specs.declared.giver.Given.{Given}
 use Rattle.turn_lines.specs.declared.giver.Given.TheVariants as given
-use Rattle.turn_lines.specs.Givers.{GivesAll, GivesFile, GiverView}
-use Rattle.turn_lines.specs.TurnsWithFiles.{Closes, TurnsMade, TurnsWithFiles, any_begun, asked_by, with_begun}
+use Rattle.turn_lines.specs.Givers.{GivesAll, GiverView}
+use Rattle.turn_lines.specs.TurnsWithFiles.{Closes, TurnsWithFiles, any_begun, asked_by, with_begun}
 use Rattle.desk_rounds.specs.declared.agent_rounds.Rounder.{Rounder}
 use Rattle.desk_rounds.specs.declared.agent_rounds.RoundEnd.{RoundEnd}
 use Rattle.desk_rounds.specs.declared.agent_rounds.RoundEnd.TheVariants as end
@@ -27,7 +25,7 @@ use Rattle.desk_rounds.specs.declared.asking.Miss.{Miss}
 use Rattle.desk_rounds.specs.declared.asking.Miss.TheVariants as miss
 use Rattle.desk_rounds.specs.declared.part.Next.{Next}
 use Rattle.desk_rounds.specs.declared.part.Next.TheVariants as next
-use Rattle.desk_rounds.specs.AgentRounds.{AfterClock, AfterWhole, AgentPoint, AgentRound, Ending, EndsQuietly, GathersFirst, IsPrinted, OpensFirst, PrintsTurns, RestOfRound, SaysBefore, TakesTurn, Then, TurnsAt, WholeRound, Within, end_of, lines_of_turns, missed_lines, short_end}
+use Rattle.desk_rounds.specs.AgentRounds.{AgentPoint, AgentRound, Ending, EndsQuietly, GathersFirst, IsPrinted, OpensFirst, PrintsTurns, RestOfRound, SaysBefore, TakesTurn, Then, TurnsAt, WholeRound, Within, end_of, lines_of_turns, missed_lines, short_end}
 use Rattle.desk_rounds.specs.Asking.{AsksFor}
 use Rattle.desk_rounds.specs.Clients.{At, agent_client, at}
 use Rattle.desk_rounds.specs.Files.{FileSource, GivesFromLink, unasked}

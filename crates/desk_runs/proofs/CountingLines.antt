@@ -1,18 +1,17 @@
 -- What the lines of a relay's whole steps tell of the counts of faults.
-use Rattle.std.proofs.Common.{◌≤◌, ℕ, ◌+◌, List, refl, arith}
+use Rattle.std.proofs.Common.{◌≤◌, ℕ, ◌+◌, refl, arith}
 use Rattle.std.specs.Prelude.{if◌then◌else◌}
 use Rattle.desk_base.specs.declared.sink.Put.TheVariants as put
 use Rattle.bf_machine.specs.Rises.{RoseBy}
 use Rattle.bf_machine.proofs.Telling.{RoseBy-later, RoseBy-more, RoseBy-none}
 use Rattle.desk_http.specs.declared.talk.Met.{Met}
 use Rattle.desk_http.specs.declared.talk.Met.TheVariants as met
-use Rattle.desk_rounds.specs.Lines.{Line}
 use Rattle.desk_serve.specs.declared.step.Stop.TheVariants as stop
 use Rattle.desk_serve.specs.ServeCounts.{is_door_fault}
 use Rattle.desk_runs.specs.Counting.{CountsSteps, door_faults, no_answer_told, told_of_relay}
 use Rattle.desk_runs.specs.RelayRuns.{Begun, RelayRun, Runs, Then}
 use Rattle.desk_runs.specs.RelaySteps.{BreaksTalk, RelayScene, Talks, host_of}
-use Rattle.desk_runs.proofs.CountingRelays.{NoneFalls, door_fault, lines_rise, talk_falls, told_falls}
+use Rattle.desk_runs.proofs.CountingRelays.{door_fault, lines_rise, talk_falls, told_falls}
 use Rattle.desk_runs.proofs.CountingRounds.{fewer, unanswered}
 
 -- a conversation ended by a fault of the door

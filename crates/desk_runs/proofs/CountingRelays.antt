@@ -1,5 +1,5 @@
 -- What runs of relays do to the counts of faults.
-use Rattle.std.proofs.Common.{◌≡◌, ◌≤◌, ℕ, ◌+◌, Bool, List, Option, None, Some, Result, Ok, Err, inl, inr, refl, ap, ◌∙◌, subst, arith}
+use Rattle.std.proofs.Common.{◌≡◌, ◌≤◌, ℕ, Bool, List, Option, None, Some, Result, Ok, Err, inl, inr, refl, ap, ◌∙◌, subst, arith}
 use Rattle.desk_base.specs.Counts.{Rose}
 use Rattle.desk_base.specs.Views.{SinkView}
 use Rattle.desk_base.specs.declared.sink.Put.{Put}

@@ -1,9 +1,9 @@
 -- What the rounds of relays and agents do to the link's count of faults, part by part.
-use Rattle.std.proofs.Common.{◌≡◌, ◌≢◌, ◌≤◌, ℕ, ◌+◌, Bool, true, false, List, [], ◌∷◌, ◌++◌, None, Some, Result, Ok, Err, inl, inr, refl, sym, ap, ◌∙◌, subst, arith}
+use Rattle.std.proofs.Common.{◌≡◌, ◌≤◌, ℕ, ◌+◌, Bool, true, false, List, [], ◌∷◌, ◌++◌, None, Some, Result, Ok, Err, inl, inr, refl, sym, ap, ◌∙◌, subst, arith}
 use Rattle.std.specs.Prelude.{is_some, nat_lt}
 use Rattle.std.specs.declared.option.Option.{Option}
 use Rattle.bf_machine.specs.Rises.{RoseBy}
-use Rattle.bf_machine.proofs.Telling.{RoseBy-later, RoseBy-more, RoseBy-none}
+use Rattle.bf_machine.proofs.Telling.{RoseBy-more, RoseBy-none}
 use Rattle.desk_door.specs.declared.link.Exchanged.{Exchanged}
 use Rattle.desk_door.specs.declared.link.Exchanged.TheVariants as of_exchange
 use Rattle.desk_door.specs.Links.{LinkView}
@@ -19,8 +19,8 @@ use Rattle.desk_rounds.specs.declared.part.Next.TheVariants as next
 use Rattle.desk_rounds.specs.Asking.{AsksFor, Means}
 use Rattle.desk_rounds.specs.Clients.{At, Client, at, relay_client}
 use Rattle.desk_rounds.specs.Gathering.{AsksSite, AsksWhere, GathersAll, GathersListed, GathersOne, KeepsCame, version_at}
-use Rattle.desk_rounds.specs.Lines.{Line, no_answer, bad_answer, second_upstream, turned, miss_lines}
-use Rattle.desk_rounds.specs.Parts.{AfterItem, AfterPart, DoesBoth, DoesEach, GoesTo, MissedBy, Part}
+use Rattle.desk_rounds.specs.Lines.{Line, second_upstream, miss_lines}
+use Rattle.desk_rounds.specs.Parts.{AfterItem, DoesBoth, DoesEach, MissedBy, Part}
 use Rattle.desk_rounds.specs.Posting.{PostsAll, PostsOne, SettlesCame}
 use Rattle.desk_rounds.specs.RelayRounds.{RelayRound}
 use Rattle.desk_rounds.specs.Replies.{JudgesReport, ListsSites, TellsSite}

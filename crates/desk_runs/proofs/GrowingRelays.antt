@@ -1,5 +1,5 @@
 -- Runs of a relay grow by a conversation and a round, and end at a broken step.
-use Rattle.std.proofs.Common.{◌<◌, ℕ, ◌+◌, List, ◌++◌, Result, Ok, Err, inl, inr, refl, ap}
+use Rattle.std.proofs.Common.{◌<◌, ℕ, ◌+◌, List, ◌++◌, Result, Ok, Err, inr, refl, ap}
 use Rattle.std.proofs.KnownBytes.{Appends-trans}
 use Rattle.desk_base.specs.declared.sink.Put.TheVariants as put
 use Rattle.desk_http.specs.declared.talk.Met.{Met}
@@ -7,7 +7,7 @@ use Rattle.desk_rounds.specs.Lines.{Line, lines_text}
 use Rattle.desk_serve.specs.declared.step.Stop.{Stop}
 use Rattle.desk_serve.specs.TalkLines.{talk_line}
 use Rattle.desk_runs.specs.RelayRuns.{Begun, GoesNext, HasRelayed, RelayRun, RelaysAll, RoundsNext, TellsBoth, Then, Goes, said}
-use Rattle.desk_runs.specs.RelaySteps.{RelayScene, TellsRound, TellsTalk}
+use Rattle.desk_runs.specs.RelaySteps.{RelayScene, TellsTalk}
 
 -- behind a whole conversation comes a round
 pub goes_next : (old mid new : RelayScene) (result : Result Unit Stop) (ended : Met) → TellsTalk old put.Done ended mid → RoundsNext mid result new → GoesNext old result new

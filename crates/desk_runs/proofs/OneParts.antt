@@ -10,7 +10,6 @@ use Rattle.report_text.specs.declared.answer.Gathered.TheVariants as gathered
 use Rattle.report_text.specs.declared.report.Report.{Report}
 use Rattle.server_text.specs.declared.site_versions.SiteVersion.{SiteVersion}
 use Rattle.desk_rounds.specs.declared.asking.Miss.{Miss}
-use Rattle.desk_rounds.specs.declared.asking.Miss.TheVariants as miss
 use Rattle.desk_rounds.specs.declared.judged.Judged.{Judged}
 use Rattle.desk_rounds.specs.declared.part.Next.{Next}
 use Rattle.desk_rounds.specs.declared.part.Next.TheVariants as next
@@ -28,7 +27,7 @@ use Rattle.desk_runs.specs.OneExchanges.{LinkTold, TellsLink}
 use Rattle.desk_runs.proofs.CountingRounds.{Counts, asked_counts, does_each, fault_count, gathers_one, miss_told, missed_one, of_link, posts_one, unanswered}
 use Rattle.desk_runs.proofs.OneExchanges.{OneReply, asked_once, unswitched}
 use Rattle.desk_runs.proofs.OneReplies.{OneSite, one_judged, one_list, one_site_told}
-use Rattle.desk_runs.proofs.Wanting.{keeps_memory, listed_memory, missed_memory, settles_memory}
+use Rattle.desk_runs.proofs.Wanting.{keeps_memory, listed_memory, settles_memory}
 
 -- the laws that this stands on
 pub record RoundLaws : Type 0 where

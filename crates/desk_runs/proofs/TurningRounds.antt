@@ -1,5 +1,5 @@
 -- The files of an agent's turns, and its whole rounds, by which of two upstreams was asked.
-use Rattle.std.proofs.Common.{◌≡◌, ◌≢◌, ℕ, List, [], ◌∷◌, map, None, Some, Result, Ok, Err, inl, inr, refl, sym, ap, subst}
+use Rattle.std.proofs.Common.{◌≡◌, ◌≢◌, ℕ, List, [], ◌∷◌, map, Some, Result, Ok, Err, inl, inr, refl, sym, subst}
 use Rattle.std.specs.declared.option.Option.{Option}
 use Rattle.desk_door.specs.Links.{LinkView}
 use Rattle.script_run.specs.Asking.{When}

@@ -1,5 +1,5 @@
 -- A part of a round that doesn't end it had the memory that its requests wanted.
-use Rattle.std.proofs.Common.{◌≡◌, ◌≢◌, ℕ, List, None, Some, Result, Ok, Err, inl, inr, ap, ◌∙◌}
+use Rattle.std.proofs.Common.{◌≢◌, List, None, Some, Result, Ok, Err, inl, inr, ap, ◌∙◌}
 use Rattle.std.specs.declared.option.Option.{Option}
 use Rattle.fix_site.specs.declared.site.Site.{Site}
 use Rattle.report_text.specs.declared.report.Report.{Report}
