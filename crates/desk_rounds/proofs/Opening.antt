@@ -1,7 +1,6 @@
 -- How a round begins with the first of two upstreams, and when the line of the second one is said.
-use Rattle.std.proofs.Common.{◌≡◌, ℕ, Bool, true, false, List, ◌++◌, Option, Some, None, Ok, Err, refl, sym, ap, ◌∙◌, subst, append-nil}
+use Rattle.std.proofs.Common.{◌≡◌, ℕ, Bool, true, false, List, ◌++◌, Option, Some, None, Ok, Err, refl, sym, ap, subst, append-nil}
 use Rattle.std.specs.Prelude.{codes, is_some}
-use Rattle.std.specs.declared.result.Result.{Result}
 use Rattle.std.specs.declared.alloc.AllocError.{AllocError}
 use Rattle.desk_door.specs.Links.{LinkView}
 use Rattle.desk_rounds.specs.declared.way.Upstreams.{Upstreams}
