@@ -1,5 +1,5 @@
 -- How questions over what is kept end, and which counts rose.
-use Rattle.std.proofs.Common.{◌≡◌, ◌≢◌, ◌≤◌, ℕ, List, Result, inr, subst, sym, ◌∙◌, arith}
+use Rattle.std.proofs.Common.{◌≡◌, ◌≢◌, ◌≤◌, ℕ, List, Result, inr, subst, sym, arith}
 use Rattle.std.specs.Result.{IsErrOf}
 use Rattle.desk_base.specs.Counts.{CountsFaults, Rose}
 use Rattle.desk_keep.specs.Calls.{Opens}

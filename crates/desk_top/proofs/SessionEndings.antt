@@ -1,5 +1,5 @@
 -- How `session` ends the run of its words: what was done, which status comes, and which counts rose.
-use Rattle.std.proofs.Common.{◌≡◌, ◌≢◌, ◌⊎◌, ◌≤◌, ℕ, List, length, None, Some, inl, inr, refl, sym, ap, ◌∙◌, subst, arith}
+use Rattle.std.proofs.Common.{◌≡◌, ◌≢◌, ◌⊎◌, ℕ, List, length, None, Some, inl, inr, refl, sym, ap, ◌∙◌, subst, arith}
 use Rattle.std.specs.declared.option.Option.{Option}
 use Rattle.bf_machine.specs.Views.{MachineView}
 use Rattle.agent_text.specs.Pockets.{PocketView}

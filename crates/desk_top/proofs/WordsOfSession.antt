@@ -1,11 +1,11 @@
 -- Which words ask for `session`.
-use Rattle.std.proofs.Common.{◌≡◌, ◌≢◌, ◌<◌, ◌↔◌, ℕ, Bool, true, false, List, [], ◌∷◌, length, codes, drop, None, Some, is_some, refl, sym, ap, ◌∙◌, arith}
+use Rattle.std.proofs.Common.{◌≡◌, ◌≢◌, ◌<◌, ◌↔◌, ℕ, List, [], ◌∷◌, length, codes, drop, None, Some, is_some, refl, sym, ap, ◌∙◌, arith}
 use Rattle.std.specs.Prelude.{IsTrue, MatchOption}
 use Rattle.std.specs.declared.option.Option.{Option}
 use Rattle.desk_top.specs.declared.command.DeskCommand.{DeskCommand}
 use Rattle.desk_top.specs.declared.command.DeskCommand.TheVariants.{Qna, QnaWorld, Check, Office, Make, Serve, Relay, Agent, Session, Help}
 use Rattle.desk_top.specs.declared.command.SessionWords.{SessionWords}
-use Rattle.desk_top.specs.Commands.{Asks, AsksSome, FindsKeeper, session_words}
+use Rattle.desk_top.specs.Commands.{Asks, AsksSome, FindsKeeper}
 use Rattle.desk_top.proofs.WordsOfServe.{none_more, second}
 
 pub no_words : (words : List (List ℕ)) → ((others : List (List ℕ)) → words ≢ codes "session" ∷ others) → (asked : SessionWords) → Asks words (Session asked) → ⊥
