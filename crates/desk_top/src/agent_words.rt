@@ -28,7 +28,8 @@ struct BehindAgent<'a> {
 #[tactic(auto, using(crate::proofs::WordsOfAgent::no_places_behind, crate::proofs::WordsOfAgent::no_values_behind))]
 fn behind_agent<'a>(words: &'a [Text]) -> Option<BehindAgent<'a>>
     ensures { MatchOption result
-        ((upstream pocket work name offset count : List ℕ) (last : List (List ℕ)) → words.now ≢ agent_words upstream pocket work name offset count last)
+        ((upstream pocket work name offset count : List ℕ) (last : List (List ℕ))
+        → words.now ≢ agent_words upstream pocket work name offset count last)
         (λ it. words.now ≡ agent_words it.upstream.now it.pocket.now it.work.now it.name.now it.offset.now it.count.now it.others.now) }
 {
     let Some(words) = behind(words, "agent") else {
