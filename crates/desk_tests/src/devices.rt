@@ -2,7 +2,6 @@ use desk_base::{
     Bytes, Clock, Got, MemorySink, MemorySource, Put, Room, Sink, Source, StepClock, Told, Whole,
     decimal, read_all,
 };
-use std::alloc::Global;
 use std::test::Fail;
 
 #[test]
