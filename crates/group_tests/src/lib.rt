@@ -4,6 +4,8 @@
 #[cfg(test)]
 mod books;
 #[cfg(test)]
+mod members;
+#[cfg(test)]
 mod samples;
 #[cfg(test)]
 mod shown;
