@@ -1,11 +1,11 @@
 mod Sorting
-mod Tabling
+pub mod Tabling
 mod Membering
 mod Booking
 mod OneList
 mod ComputerLemmas
 mod GroupLists
-mod AddLemmas
+pub mod AddLemmas
 mod DefineLemmas
 mod FittingLemmas
 mod KeepLemmas

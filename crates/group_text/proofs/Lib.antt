@@ -1,8 +1,8 @@
 mod SomeQuestion
 mod FieldLemmas
-mod AnalysisParts
+pub mod AnalysisParts
 mod AnalysisReading
-mod TestLines
-mod GroupParts
+pub mod TestLines
+pub mod GroupParts
 mod GroupReading
-mod Ends
+pub mod Ends
