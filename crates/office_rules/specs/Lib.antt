@@ -10,3 +10,4 @@ pub mod Plays
 pub mod PrintedAnswers
 pub mod WordSteps
 pub mod OfficeSchedules
+pub mod GroupWords

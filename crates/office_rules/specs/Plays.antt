@@ -7,6 +7,7 @@ use Rattle.server_text.specs.declared.request.Request.TheVariants as request
 use Rattle.office_rules.specs.Offices.{IsSoundOffice, Office, empty_office}
 use Rattle.office_rules.specs.Deeds.{Deed, DoesEach}
 use Rattle.office_rules.specs.ServerWords.{AsksServer}
+use Rattle.office_rules.specs.GroupWords.{KeepsAnalysis, KeepsGroup, Measures, SaysMembers, TargetsGroup}
 use Rattle.office_rules.specs.RelayWords.{Forgets, Gathers, NamesRelay}
 use Rattle.office_rules.specs.ComputerWords.{NamesComputer, Restarts, Turns}
 use Rattle.office_rules.specs.MessageWords.{DeliversAt, Forwards, Pushes, ReportsAll, Sends}
@@ -29,6 +30,11 @@ Obeys (order.Deliver message) = DeliversAt message
 Obeys (order.Report name) = ReportsAll name
 Obeys (order.Forward relay) = Forwards relay
 Obeys (order.Forget relay) = Forgets relay
+Obeys (order.Analysis analysis) = KeepsAnalysis analysis
+Obeys (order.Group group) = KeepsGroup group
+Obeys (order.Measure name moment) = Measures name moment
+Obeys (order.Members name) = SaysMembers name
+Obeys (order.Target name text) = TargetsGroup name text
 
 -- An order is obeyed in an office, which stays sound.
 pub record PlaysOrder (order : Order) (old : Office) (said : List ℕ) (new : Office) : Type 0 where

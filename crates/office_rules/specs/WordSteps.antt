@@ -16,6 +16,8 @@ use Rattle.delivery.specs.Messages.{named}
 use Rattle.delivery.specs.Schedules.{Ask, Deliver, Forget, Make, Push, Restart, Save, Send, Step}
 use Rattle.office_rules.specs.ComputerWords.{TurnsComputer}
 use Rattle.office_rules.specs.Deeds.{Deed}
+use Rattle.group_core.specs.Books.{HasMembers}
+use Rattle.office_rules.specs.GroupWords.{HasNoMember, aimed}
 use Rattle.office_rules.specs.MessageWords.{next_number, shown_numbers, shown_report}
 use Rattle.office_rules.specs.Offices.{Office, PlayedComputer}
 
@@ -89,6 +91,14 @@ abbrev pub forward_steps : List ℕ → ℕ → ℕ → List Step
 forward_steps name first count =
     Push name ∷ flat_map (λ (number : ℕ). Deliver number ∷ Deliver (number + count) ∷ []) (range_with_len first count)
 
+-- ---- target
+-- the server is asked once, or not at all where the group has no member
+abbrev pub AreOfTarget : List ℕ → List ℕ → Office → List Step → Type 0
+AreOfTarget name text old steps =
+    (HasNoMember old.book name × (steps ≡ []))
+    ⊎ ((first : List ℕ) × (more : List (List ℕ)) × HasMembers old.book name (first ∷ more)
+    × AreOfRequest (request.Act (aimed (first ∷ more) text)) steps)
+
 -- ---- any word
 abbrev pub AreStepsOf : Order → Office → List Step → Type 0
 AreStepsOf (order.Publish text) old steps = AreOfRequest (request.Publish text) steps
@@ -103,4 +113,5 @@ AreStepsOf (order.Deliver message) old steps = steps ≡ Deliver message ∷ []
 AreStepsOf (order.Report name) old steps = steps ≡ report_steps name (next_number old) (numbers_of (named name old.computers))
 AreStepsOf (order.Forward relay) old steps = steps ≡ forward_steps relay (next_number old) (queued_of (named relay old.relays))
 AreStepsOf (order.Forget relay) old steps = steps ≡ Forget relay ∷ []
+AreStepsOf (order.Target name text) old steps = AreOfTarget name text old steps
 AreStepsOf other old steps = steps ≡ []

@@ -1,5 +1,5 @@
 -- The lines of an order: the first one, which has its word, and those behind it.
-use Rattle.std.specs.Prelude.{◌≡◌, ℕ, List, [], ◌∷◌, ◌++◌, map, All, codes, decimal}
+use Rattle.std.specs.Prelude.{◌≡◌, ℕ, List, [], ◌∷◌, ◌++◌, map, All, Contains, codes, decimal}
 use Rattle.std.specs.Fmt.{signed_decimal}
 use Rattle.line_forms.specs.Contents.{content_line}
 use Rattle.line_forms.specs.FieldLists.{line_of}
@@ -7,6 +7,8 @@ use Rattle.line_forms.specs.Fields.{field_text}
 use Rattle.line_forms.specs.Lines.{lines_text}
 use Rattle.line_forms.specs.Names.{IsLineText}
 use Rattle.world_text.specs.Texts.{Describes}
+use Rattle.group_text.specs.Analyses.{IsAnalysis}
+use Rattle.group_text.specs.Groups.{IsGroup, group_line}
 use Rattle.office_text.specs.declared.order.Order.{Order}
 use Rattle.office_text.specs.declared.order.Order.TheVariants as order
 
@@ -27,6 +29,11 @@ first_fields (order.Deliver message) = codes "deliver" ∷ decimal message ∷ [
 first_fields (order.Report name) = codes "report" ∷ name ∷ []
 first_fields (order.Forward relay) = codes "forward" ∷ relay ∷ []
 first_fields (order.Forget relay) = codes "forget" ∷ relay ∷ []
+first_fields (order.Analysis analysis) = codes "analysis" ∷ []
+first_fields (order.Group group) = codes "group" ∷ group.name ∷ []
+first_fields (order.Measure name moment) = codes "measure" ∷ name ∷ signed_decimal moment ∷ []
+first_fields (order.Members group) = codes "members" ∷ group ∷ []
+first_fields (order.Target group text) = codes "target" ∷ group ∷ []
 
 -- the first line
 abbrev pub first_line : Order → List ℕ
@@ -58,12 +65,19 @@ HoldContent bytes lines =
     (contents : List (List ℕ)) × All IsLineText contents × (bytes ≡ lines_text contents)
     × (lines ≡ map content_line contents ++ codes "end" ∷ [])
 
--- the lines behind the first one
+-- these lines are the text of an action up to its `end`, and before that the line for all computers stands
+abbrev pub AreTargetLines : List ℕ → List (List ℕ) → Type 0
+AreTargetLines text lines = AreTextTo IsEnd text lines × Contains lines (codes "target all")
+
+-- The lines behind the first one. Those of an analysis, and of a group, are its text with that line.
 abbrev pub IsBody : Order → List (List ℕ) → Type 0
 IsBody (order.Publish text) lines = AreTextTo IsSiteEnd text lines
 IsBody (order.Act text) lines = AreTextTo IsEnd text lines
 IsBody (order.File bytes) lines = HoldContent bytes lines
 IsBody (order.Computer name relay world) lines = Describes lines world × (world.name ≡ name)
+IsBody (order.Analysis analysis) lines = IsAnalysis analysis (codes "analysis" ∷ lines)
+IsBody (order.Group group) lines = IsGroup group (group_line group.name ∷ lines)
+IsBody (order.Target group text) lines = AreTargetLines text lines
 IsBody other lines = lines ≡ []
 
 -- the lines of these orders, one order after another

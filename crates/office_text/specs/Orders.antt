@@ -4,6 +4,7 @@ use Rattle.desk_base.specs.Moments.{IsMoment}
 use Rattle.line_forms.specs.Names.{IsName}
 use Rattle.line_forms.specs.Numbers.{IsId}
 use Rattle.bf_world.specs.Worlds.{WorldState}
+use Rattle.group_text.specs.Properties.{AreProperties}
 use Rattle.office_text.specs.declared.order.Order.{Order}
 use Rattle.office_text.specs.declared.order.Order.TheVariants as order
 
@@ -11,7 +12,7 @@ use Rattle.office_text.specs.declared.order.Order.TheVariants as order
 abbrev pub IsAnyNumber : ℕ → Type 0
 IsAnyNumber number = number ≤ 2 ^ 64 - 1
 
--- an order whose names and numbers have their forms
+-- an order whose names and numbers have their forms, and whose properties have distinct names and each a question
 abbrev pub IsOrder : Order → Type 0
 IsOrder (order.Publish text) = ⊤
 IsOrder (order.Act text) = ⊤
@@ -28,6 +29,11 @@ IsOrder (order.Deliver message) = IsAnyNumber message
 IsOrder (order.Report name) = IsName name
 IsOrder (order.Forward relay) = IsName relay
 IsOrder (order.Forget relay) = IsName relay
+IsOrder (order.Analysis analysis) = AreProperties analysis.properties
+IsOrder (order.Group group) = ⊤
+IsOrder (order.Measure name moment) = IsName name × IsMoment moment
+IsOrder (order.Members group) = IsName group
+IsOrder (order.Target group text) = IsName group
 
 -- one of these orders names this relay
 abbrev pub HasRelay : List Order → List ℕ → Type 0
@@ -54,6 +60,11 @@ KnowsNames before (order.Deliver message) = ⊤
 KnowsNames before (order.Report name) = HasComputer before name
 KnowsNames before (order.Forward relay) = HasRelay before relay
 KnowsNames before (order.Forget relay) = HasRelay before relay
+KnowsNames before (order.Analysis analysis) = ⊤
+KnowsNames before (order.Group group) = ⊤
+KnowsNames before (order.Measure name moment) = HasComputer before name
+KnowsNames before (order.Members group) = ⊤
+KnowsNames before (order.Target group text) = ⊤
 
 -- the order can follow these
 pub record CanFollow (before : List Order) (order : Order) : Type 0 where

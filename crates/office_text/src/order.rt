@@ -2,6 +2,7 @@ ghost use Rattle.std.specs.Prelude.{◌≡◌, IfOk};
 
 use bf_world::World;
 use desk_base::Bytes;
+use group_text::{Analysis, Group};
 use rel_lexer::Text;
 use std::alloc::AllocError;
 
@@ -48,6 +49,22 @@ pub enum Order {
     Forward(Text),
     /// A relay begins anew.
     Forget(Text),
+    /// The book of what is measured gets an analysis.
+    Analysis(Analysis),
+    /// It gets a group.
+    Group(Group),
+    /// A computer is measured at a moment, in seconds since 1970-01-01 00:00:00 UTC, from 0 to 2^37.
+    Measure {
+        name: Text,
+        moment: i64,
+    },
+    /// The members of the group of this name are said, whether it is known or not.
+    Members(Text),
+    /// The server gets this text as an action, of which the first line `target all` has become one for each member of the group.
+    Target {
+        group: Text,
+        action: Bytes,
+    },
 }
 
 impl Order {
