@@ -96,6 +96,7 @@ pub record TurnsComputer (name : List ℕ) (moment : ℤ) (accepted : List Entry
   pub memory : answer ≢ turned.Memory
   pub tells : TellComputer told commands new
   pub relay : new.relay ≡ old.relay
+  pub analyst : new.analyst ≡ old.analyst
   pub again : new.again ≡ world_after moment old.again commands
   pub said_is : said ≡ do_lines (answers_from moment old.again commands) ++ turn_line name moment answer
 

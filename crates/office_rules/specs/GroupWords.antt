@@ -9,6 +9,7 @@ use Rattle.fix_site.specs.Actions as action
 use Rattle.group_text.specs.declared.analysis.Analysis.{Analysis}
 use Rattle.group_text.specs.declared.group.Group.{Group}
 use Rattle.group_text.specs.declared.property.Property.{Property}
+use Rattle.group_text.specs.Properties.{AreProperties}
 use Rattle.group_sample.specs.declared.analyst.Taken.{Taken}
 use Rattle.group_sample.specs.declared.analyst.Taken.TheVariants as taken
 use Rattle.group_sample.specs.Due.{AnalystState}
@@ -43,8 +44,10 @@ defined_words defined.Again = codes "again" ∷ []
 defined_words (defined.Full limit) = codes "full" ∷ decimal limit ∷ []
 defined_words defined.Memory = []
 
--- The book gets an analysis, memory isn't wanting, and what became of it is printed.
+-- The book gets an analysis, whose properties have distinct names and each a question; memory isn't wanting, and what became of it is
+-- printed.
 pub record KeepsAnalysis (analysis : Analysis) (old : Office) (said : List ℕ) (new : Office) : Type 0 where
+  pub good : AreProperties analysis.properties
   pub answer : Added
   pub book : BookState
   pub adds : AddsAnalysis old.book analysis answer book

@@ -62,12 +62,13 @@ arrived o message = arrives desk_limits o.accepted (carriers_of o.relays) messag
 abbrev pub sites_of : List (List ℕ × RelayState) → List (List Site)
 sites_of relays = map (λ (entry : List ℕ × RelayState). entry.1.sites) relays
 
--- The message reached the server or a relay, if it was for one: relays keep their sites, and an answer is a new message.
+-- The message reached the server or a relay, if it was for one: relays keep their sites, an answer is a new message, and the book stays.
 pub record Reaches (old : Office) (message : Message) (new : Office) : Type 0 where
   pub accepted : new.accepted ≡ (arrived old message).accepted
   pub carriers : carriers_of new.relays ≡ (arrived old message).relays
   pub sites : sites_of new.relays ≡ sites_of old.relays
   pub messages : new.messages ≡ old.messages ++ option_to_list (arrived old message).answer
+  pub book : new.book ≡ old.book
 
 -- the word for what an answer brings back: a relay's verdict, or a server's reply
 abbrev pub answer_word : Message → Option (List ℕ)

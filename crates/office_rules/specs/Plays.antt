@@ -42,7 +42,7 @@ pub record PlaysOrder (order : Order) (old : Office) (said : List ℕ) (new : Of
   pub sound : IsSoundOffice new
 
 -- The orders are played one after another from the beginning, to what is printed of them and an office. They may be any: those of an
--- office text name each relay and each computer once, and before it is used.
+-- office text name each relay and each computer once, and before it is used, and the properties of each analysis have distinct names.
 abbrev pub PlaysAll : List Order → List ℕ → Office → Type 0
 PlaysAll orders said new = DoesEach PlaysOrder orders empty_office said new
 
