@@ -1,7 +1,10 @@
 pub mod OneDeed
+pub mod KeptDeeds
 pub mod OneServerWord
 pub mod OneTurning
 pub mod OneMessageWord
+pub mod OneGroupWord
+pub mod WellNamed
 pub mod OnePlay
 pub mod Fronts
 pub mod PrintedAlike
@@ -10,5 +13,6 @@ pub mod Networks
 pub mod TurningMail
 pub mod Numbered
 pub mod DeedSteps
+pub mod GroupSteps
 pub mod MessageSteps
 pub mod PlaySteps

@@ -86,9 +86,10 @@ delivers_once settling number message old said other new two p q =
     let told = tells_once settling message old p.words q.words new.computers two.computers p.tells q.tells in
     let accepted : new.accepted ≡ two.accepted = p.reaches.accepted ∙ sym q.reaches.accepted in
     let relays : new.relays ≡ two.relays = relays_once new.relays two.relays (p.reaches.carriers ∙ sym q.reaches.carriers) (p.reaches.sites ∙ sym q.reaches.sites) in
-    let messages : new.messages ≡ two.messages = p.reaches.messages ∙ sym q.reaches.messages in (
+    let messages : new.messages ≡ two.messages = p.reaches.messages ∙ sym q.reaches.messages in
+    let book : new.book ≡ two.book = p.reaches.book ∙ sym q.reaches.book in (
       p.said_is ∙ ap (λ (w : List (List ℕ)). delivered_line number w) told.0 ∙ sym q.said_is,
-      λ j. record { accepted = accepted j; relays = relays j; computers = told.1 j; messages = messages j },
+      λ j. record { accepted = accepted j; relays = relays j; computers = told.1 j; messages = messages j; book = book j },
     )
 
 found_delivers_once : OneSettling → (number : ℕ) (message : Option Message) → IsOne (DeliversFound number message)

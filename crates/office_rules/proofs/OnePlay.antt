@@ -12,13 +12,17 @@ use Rattle.agent_core.specs.Agents.{AgentState, shown_state}
 use Rattle.agent_core.specs.Opens.{OpensAgent}
 use Rattle.agent_state.specs.States.{State}
 use Rattle.delivery.specs.Messages.{named}
+use Rattle.office_rules.specs.Deeds.{DoesEach}
 use Rattle.office_rules.specs.ComputerWords.{Restarts, RestartsAt, Turns, TurnsAt, TurnsComputer}
 use Rattle.office_rules.specs.Endings.{ending_text}
 use Rattle.office_rules.specs.Offices.{Office, PlayedComputer, empty_office}
 use Rattle.office_rules.specs.OfficeLines.{nothing_line}
 use Rattle.office_rules.specs.Plays.{IsPlayed, Obeys, PlaysOrder}
 use Rattle.office_rules.specs.RelayWords.{Forgets, ForgetsAt, Gathers, GathersAt, or_line}
-use Rattle.office_rules.proofs.OneDeed.{IsOne, at_computer_once, at_relay_once, each_once, found_once}
+use Rattle.office_rules.proofs.KeptDeeds.{each_kept_once}
+use Rattle.office_rules.proofs.OneDeed.{IsOne, IsOneFrom, at_computer_once, at_relay_once, found_once}
+use Rattle.office_rules.proofs.OneGroupWord.{IsWellNamed, OneListOfMembers, OneSample, analysis_once, group_once, measures_once, says_members_once, targets_once}
+use Rattle.office_rules.proofs.WellNamed.{HasNames, empty_named, plays_named}
 use Rattle.office_rules.proofs.OneMessageWord.{OneSettling, delivers_at_once, forwards_once, pushes_once, reports_once, sends_once}
 use Rattle.office_rules.proofs.OneServerWord.{OneMeaning, OneReading, asks_once, newer_once}
 use Rattle.office_rules.proofs.OneTurning.{HasCause, OneGathering, OneSupply, OneTurn, StillTells, computer_once}
@@ -38,6 +42,8 @@ pub record Laws : Type 0 where
   pub gathering : OneGathering
   pub settling : OneSettling
   pub opening : OneOpening
+  pub sample : OneSample
+  pub members : OneListOfMembers
 
 module _ (laws : Laws) where
   gathered_at : (name : List ℕ) (old : Office) (relay : RelayState) (lines others : List ℕ) (then far : RelayState) → GathersAt name old relay lines then → GathersAt name old relay others far → (lines ≡ others) × (then ≡ far)
@@ -72,27 +78,36 @@ module _ (laws : Laws) where
   restarts_once : (name : List ℕ) → IsOne (Restarts name)
   restarts_once name old said other new two p q = at_computer_once name (RestartsAt name) old (restarted_at name) said other new two p q
 
-  obeys_once : (what : Order) → IsOne (Obeys what)
-  obeys_once (order.Publish text) = asks_once laws.meaning (codes "publish") (request.Publish text)
-  obeys_once (order.Act text) = asks_once laws.meaning (codes "act") (request.Act text)
-  obeys_once (order.Stop id) = asks_once laws.meaning (codes "stop") (request.Stop id)
-  obeys_once (order.File bytes) = asks_once laws.meaning (codes "file") (request.File bytes)
-  obeys_once (order.Relay name) = λ old said other new two p q. (p.0 ∙ sym q.0, p.1 ∙ sym q.1)
-  obeys_once (order.Computer name relay world) = λ old said other new two p q. (p.0 ∙ sym q.0, p.1 ∙ sym q.1)
-  obeys_once (order.Gather relay) = gathers_once relay
-  obeys_once (order.Turn name moment) = turns_once name moment
-  obeys_once (order.Restart name) = restarts_once name
-  obeys_once (order.Send name seq) = sends_once name seq
-  obeys_once (order.Push relay) = pushes_once relay
-  obeys_once (order.Deliver message) = delivers_at_once laws.settling message
-  obeys_once (order.Report name) = reports_once laws.settling name
-  obeys_once (order.Forward relay) = forwards_once laws.settling relay
-  obeys_once (order.Forget relay) = forgets_once relay
+  obeys_once : (what : Order) (old : Office) → IsWellNamed old.book → IsOneFrom old (Obeys what)
+  obeys_once (order.Publish text) old good = asks_once laws.meaning (codes "publish") (request.Publish text) old
+  obeys_once (order.Act text) old good = asks_once laws.meaning (codes "act") (request.Act text) old
+  obeys_once (order.Stop id) old good = asks_once laws.meaning (codes "stop") (request.Stop id) old
+  obeys_once (order.File bytes) old good = asks_once laws.meaning (codes "file") (request.File bytes) old
+  obeys_once (order.Relay name) old good = λ said other new two p q. (p.0 ∙ sym q.0, p.1 ∙ sym q.1)
+  obeys_once (order.Computer name relay world) old good = λ said other new two p q. (p.0 ∙ sym q.0, p.1 ∙ sym q.1)
+  obeys_once (order.Gather relay) old good = gathers_once relay old
+  obeys_once (order.Turn name moment) old good = turns_once name moment old
+  obeys_once (order.Restart name) old good = restarts_once name old
+  obeys_once (order.Send name seq) old good = sends_once name seq old
+  obeys_once (order.Push relay) old good = pushes_once relay old
+  obeys_once (order.Deliver message) old good = delivers_at_once laws.settling message old
+  obeys_once (order.Report name) old good = reports_once laws.settling name old
+  obeys_once (order.Forward relay) old good = forwards_once laws.settling relay old
+  obeys_once (order.Forget relay) old good = forgets_once relay old
+  obeys_once (order.Analysis analysis) old good = analysis_once analysis old good
+  obeys_once (order.Group group) old good = group_once group old
+  obeys_once (order.Measure name moment) old good = measures_once laws.sample name moment old
+  obeys_once (order.Members name) old good = says_members_once laws.members name old good
+  obeys_once (order.Target name text) old good = targets_once laws.meaning laws.members name text old good
 
-  pub plays_once : (what : Order) → IsOne (PlaysOrder what)
-  plays_once what old said other new two p q = obeys_once what old said other new two p.obeys q.obeys
+  pub plays_once : (what : Order) (old : Office) → IsWellNamed old.book → IsOneFrom old (PlaysOrder what)
+  plays_once what old good said other new two p q = obeys_once what old good said other new two p.obeys q.obeys
+
+  -- some orders are played to one thing
+  pub all_once : (orders : List Order) → IsOneFrom empty_office (DoesEach PlaysOrder orders)
+  all_once orders = each_kept_once HasNames PlaysOrder plays_named plays_once orders empty_office empty_named
 
   pub play_once : (orders : List Order) (written other : List ℕ) (one two : Office) → IsPlayed orders written one → IsPlayed orders other two → (written ≡ other) × (one ≡ two)
   play_once orders written other one two p q =
-      let same = each_once PlaysOrder plays_once orders empty_office p.said q.said one two p.plays q.plays in
+      let same = all_once orders p.said q.said one two p.plays q.plays in
       (p.written_is ∙ (λ j. same.0 j ++ ending_text (same.1 j)) ∙ sym q.written_is, same.1)

@@ -295,6 +295,7 @@ computer_once turn_once tells cause supply gathering name moment accepted sites 
     let commands : p.commands ≡ q.commands = told_once p.told.machine.acted q.told.machine.acted p.commands q.commands (λ j. (same.devices j).machine.acted) p.tells.acted q.tells.acted in
     let saved : new.saved ≡ two.saved = told_once p.told.pocket.saved q.told.pocket.saved new.saved two.saved (λ j. (same.devices j).pocket.saved) p.tells.saved q.tells.saved in
     let relay : new.relay ≡ two.relay = p.relay ∙ sym q.relay in
+    let analyst : new.analyst ≡ two.analyst = p.analyst ∙ sym q.analyst in
     let again : new.again ≡ two.again = p.again ∙ ap (λ (l : List Command). world_after moment old.again l) commands ∙ sym q.again in
-    let whole : new ≡ two = (λ j. record { relay = relay j; agent = same.states j; saved = saved j; world = world j; again = again j }) in
+    let whole : new ≡ two = (λ j. record { relay = relay j; agent = same.states j; saved = saved j; world = world j; again = again j; analyst = analyst j }) in
     (p.said_is ∙ (λ j. do_lines (answers_from moment old.again (commands j)) ++ turn_line name moment (answer j)) ∙ sym q.said_is, whole)

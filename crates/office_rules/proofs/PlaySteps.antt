@@ -24,6 +24,7 @@ use Rattle.office_rules.specs.WordSteps.{AreOfEach, AreStepsOf}
 use Rattle.office_rules.proofs.Networks.{Ends, FollowsOffice, IsKnown, computers_like, no_steps, reached_both, schedule_both}
 use Rattle.office_rules.proofs.TurningMail.{TurnsAreSteps}
 use Rattle.office_rules.proofs.DeedSteps.{Reopens, asking, forgetting, gathering, naming_computer, naming_relay, no_acting, no_filing, no_publishing, no_stopping, restarting, turning}
+use Rattle.office_rules.proofs.GroupSteps.{measuring, targeting}
 use Rattle.office_rules.proofs.MessageSteps.{delivering, forwarding, pushing, reporting, sending}
 
 -- ---- orders
@@ -56,6 +57,11 @@ module _ (law : TurnsAreSteps) (reopens : Reopens) where
   plays_steps (order.Report name) orders old n said new sound f p = reporting name old sound (coming_of orders) (later_of orders) n said new f p.obeys
   plays_steps (order.Forward relay) orders old n said new sound f p = forwarding relay old (coming_of orders) (later_of orders) n said new f p.obeys
   plays_steps (order.Forget relay) orders old n said new sound f p = forgetting relay old (coming_of orders) (later_of orders) n said new f p.obeys
+  plays_steps (order.Analysis analysis) orders old n said new sound f p = ([], refl, no_steps (coming_of orders) (later_of orders) n _ new p.obeys.new_is f)
+  plays_steps (order.Group group) orders old n said new sound f p = ([], refl, no_steps (coming_of orders) (later_of orders) n _ new p.obeys.new_is f)
+  plays_steps (order.Measure name moment) orders old n said new sound f p = measuring name moment old (coming_of orders) (later_of orders) n said new f p.obeys
+  plays_steps (order.Members name) orders old n said new sound f p = ([], refl, no_steps (coming_of orders) (later_of orders) n old new p.obeys.0 f)
+  plays_steps (order.Target name text) orders old n said new sound f p = targeting name text old (coming_of orders) (later_of orders) n said new f p.obeys
 
   all_steps : (orders : List Order) (old : Office) (n : Network) (said : List ℕ) (new : Office) → IsSoundOffice old → FollowsOffice (coming_of orders) (later_of orders) n old → DoesEach PlaysOrder orders old said new
       → (steps : List Step) × AreOfEach PlaysOrder AreStepsOf orders old steps × Ends [] [] n steps new

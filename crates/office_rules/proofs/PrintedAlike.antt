@@ -1,5 +1,5 @@
 -- What is printed of commands is what they were answered, since both worlds of a computer stay the same but for polls left.
-use Rattle.std.proofs.Common.{◌≡◌, ℕ, ℤ, Bool, true, false, cond, List, [], ◌∷◌, ◌++◌, Option, Some, None, refl, sym, ap, subst, ◌∙◌, arith}
+use Rattle.std.proofs.Common.{◌≡◌, ℕ, ℤ, Bool, true, false, cond, inl, inr, List, [], ◌∷◌, ◌++◌, Option, Some, None, refl, sym, ap, subst, ◌∙◌, arith}
 use Rattle.std.specs.Prelude.{bytes_eq}
 use Rattle.std.specs.Map.{set_value}
 use Rattle.bf_world.specs.declared.command.Command.{Command}
@@ -7,7 +7,6 @@ use Rattle.bf_world.specs.Worlds.{WorldState}
 use Rattle.bf_machine.specs.Steps.{Answered, AnswersAs, SameButPolls, Steady, Step, TakesAll, answered_in, answers_from, commands_of, world_after}
 use Rattle.bf_machine.specs.Told.{Grows}
 use Rattle.bf_machine.specs.Views.{MachineView}
-use Rattle.report_text.specs.declared.report.Report.{Report}
 use Rattle.script_run.specs.Asking.{When}
 use Rattle.agent_state.specs.States.{State}
 use Rattle.agent_core.specs.declared.turned.Turned.{Turned}
@@ -20,18 +19,19 @@ use Rattle.fix_site.specs.declared.site.Site.{Site}
 use Rattle.office_text.specs.declared.order.Order.{Order}
 use Rattle.office_text.specs.declared.order.Order.TheVariants as order
 use Rattle.delivery.specs.Messages.{Message, ReportToRelay, ReportToServer, VerdictToComputer, ReplyToRelay, changed, named, replaced}
-use Rattle.delivery.specs.Schedules.{message_at}
 use Rattle.turn_lines.specs.DoLines.{do_lines}
 use Rattle.turn_lines.specs.Givers.{Gives, GiverView}
 use Rattle.turn_lines.specs.TurnLines.{turn_line}
 use Rattle.turn_lines.specs.TurnsWithFiles.{Fetch, FetchesAll, TurnsWithFiles}
 use Rattle.office_rules.specs.ComputerWords.{RestartsAt, TurnsAt, TurnsComputer, devices_of, turn_time}
-use Rattle.office_rules.specs.Deeds.{AtComputer, AtRelay, Deed, DoesBoth, DoesEach}
-use Rattle.office_rules.specs.MessageWords.{DeliversAnswered, DeliversAt, DeliversFound, Dispatches, Forwards, PushesQueue, ReportsAll, ReportsOne, Sends, SendsFound, Tells, next_number, shown_numbers, shown_report}
+use Rattle.office_rules.specs.Deeds.{AtComputer, AtRelay}
+use Rattle.office_rules.specs.GroupWords.{Measures, TargetsGroup}
+use Rattle.office_rules.specs.MessageWords.{Delivers, Tells}
 use Rattle.office_rules.specs.Offices.{Office, PlayedComputer, empty_office}
 use Rattle.office_rules.specs.Plays.{IsPlayed, Obeys, PlaysOrder}
 use Rattle.office_rules.specs.RelayWords.{ForgetsAt, GathersAt}
 use Rattle.office_rules.specs.PrintedAnswers.{AreAlike, PrintsAnswers}
+use Rattle.office_rules.proofs.KeptDeeds.{Keeps, KeepsFrom, delivers_keep, each_keeps, forwards_keep, pushes_keep, reports_keep, sends_keep, stays}
 use Rattle.office_rules.proofs.OneDeed.{some_is}
 
 abbrev IsAlike : PlayedComputer → Type 0
@@ -131,45 +131,19 @@ more_alike [] x is h = (is, tt)
 more_alike (y ∷ ys) x is h = (h.0, more_alike ys x is h.1)
 
 -- ---- deeds
-abbrev KeepsFrom : Office → Deed → Type 0
-KeepsFrom old D = (said : List ℕ) (new : Office) → AreAlike old.computers → D old said new → AreAlike new.computers
+abbrev HasAlike : Office → Type 0
+HasAlike o = AreAlike o.computers
 
-abbrev Keeps : Deed → Type 0
-Keeps D = (old : Office) → KeepsFrom old D
-
--- the computers are as they were, or these
-stays : (old then new : Office) → new ≡ then → AreAlike then.computers → AreAlike new.computers
-stays old then new is h = subst (λ (o : Office). AreAlike o.computers) (sym is) h
-
-both_keep : (First Second : Deed) (old : Office) → KeepsFrom old First → Keeps Second → KeepsFrom old (DoesBoth First Second)
-both_keep First Second old one then said new h (mid, a, b, p, q, is) = then mid b new (one a mid h p) q
-
-each_keeps : {T : Type 0} (Does : T → Deed) → ((x : T) → Keeps (Does x)) → (xs : List T) → Keeps (DoesEach Does xs)
-each_keeps Does one [] = λ old said new h p. stays old old new p.1 h
-each_keeps Does one (x ∷ xs) = λ old. both_keep (Does x) (DoesEach Does xs) old (one x old) (each_keeps Does one xs)
-
-relay_keeps : (name : List ℕ) (Does : RelayState → List ℕ → RelayState → Type 0) (old : Office) → KeepsFrom old (AtRelay name Does)
-relay_keeps name Does old said new h (relay, then, here, does, is) = stays old _ new is h
+relay_keeps : (name : List ℕ) (Does : RelayState → List ℕ → RelayState → Type 0) (old : Office) → KeepsFrom HasAlike old (AtRelay name Does)
+relay_keeps name Does old said new h (relay, then, here, does, is) = stays HasAlike _ new is h
 
 computer_keeps : (name : List ℕ) (Does : PlayedComputer → List ℕ → PlayedComputer → Type 0) (old : Office)
-    → ((computer : PlayedComputer) (said : List ℕ) (new : PlayedComputer) → IsAlike computer → Does computer said new → IsAlike new) → KeepsFrom old (AtComputer name Does)
+    → ((computer : PlayedComputer) (said : List ℕ) (new : PlayedComputer) → IsAlike computer → Does computer said new → IsAlike new) → KeepsFrom HasAlike old (AtComputer name Does)
 computer_keeps name Does old one said new h (computer, then, here, does, is) =
-    stays old _ new is (changed_alike name old.computers then (one computer said then (found_alike name old.computers computer here h) does) h)
+    stays HasAlike _ new is (changed_alike name old.computers then (one computer said then (found_alike name old.computers computer here h) does) h)
 
-dispatches_keep : (message : Message) (report : Report) (to : List ℕ) → Keeps (Dispatches message report to)
-dispatches_keep message report to old said new h p = stays old _ new p.1 h
-
-sends_found_keep : (name : List ℕ) (seq : ℕ) (relay : List ℕ) (report : Option Report) → Keeps (SendsFound name seq relay report)
-sends_found_keep name seq relay None old said new h p = stays old old new p.1 h
-sends_found_keep name seq relay (Some report) old said new h p = dispatches_keep (ReportToRelay relay report) report relay old said new h p
-
-sends_keep : (name : List ℕ) (seq : ℕ) → Keeps (Sends name seq)
-sends_keep name seq old said new h (computer, here, p) = sends_found_keep name seq computer.relay (shown_report seq computer.agent) old said new h p
-
-queue_keeps : (name : List ℕ) (queue : List Report) → Keeps (PushesQueue name queue)
-queue_keeps name [] old said new h p = stays old old new p.1 h
-queue_keeps name (first ∷ more) old said new h p =
-    each_keeps (λ (report : Report). Dispatches (ReportToServer name report) report _) (λ report. dispatches_keep (ReportToServer name report) report _) (first ∷ more) old said new h p
+sent_alike : (old : Office) (messages : List Message) → AreAlike old.computers → AreAlike old.computers
+sent_alike old messages h = h
 
 tells_keep : (message : Message) (old : Office) (said : List (List ℕ)) (computers : List (List ℕ × PlayedComputer)) → AreAlike old.computers → Tells message old said computers → AreAlike computers
 tells_keep (VerdictToComputer name seq verdict) old said computers h (computer, agent, dropped, here, settles, p, is) =
@@ -178,24 +152,17 @@ tells_keep (ReplyToRelay relay key digest answered) old said computers h p = sub
 tells_keep (ReportToRelay relay report) old said computers h p = subst AreAlike (sym p.1) h
 tells_keep (ReportToServer relay report) old said computers h p = subst AreAlike (sym p.1) h
 
-found_delivers_keep : (number : ℕ) (message : Option Message) → Keeps (DeliversFound number message)
-found_delivers_keep number None old said new h p = stays old old new p.1 h
-found_delivers_keep number (Some message) old said new h p = tells_keep message old p.words new.computers h p.tells
+arrives_alike : (number : ℕ) (message : Message) → Keeps HasAlike (Delivers number message)
+arrives_alike number message old said new h p = tells_keep message old p.words new.computers h p.tells
 
-delivers_keep : (number : ℕ) → Keeps (DeliversAt number)
-delivers_keep number old said new h p = found_delivers_keep number (message_at number old.messages) old said new h p
+measures_alike : (name : List ℕ) (moment : ℤ) → Keeps HasAlike (Measures name moment)
+measures_alike name moment old said new h p =
+    let alike : IsAlike p.measured = subst IsAlike (sym p.measures.new_is) (found_alike name old.computers p.computer p.here h) in
+    stays HasAlike _ new p.new_is (changed_alike name old.computers p.measured alike h)
 
-answered_keeps : (number : ℕ) → Keeps (DeliversAnswered number)
-answered_keeps number old said new h p = both_keep (DeliversAt number) (DeliversAt (next_number old)) old (delivers_keep number old) (delivers_keep (next_number old)) said new h p
-
-reports_one_keeps : (name : List ℕ) (seq : ℕ) → Keeps (ReportsOne name seq)
-reports_one_keeps name seq old said new h p = both_keep (Sends name seq) (DeliversAnswered (next_number old)) old (sends_keep name seq old) (answered_keeps (next_number old)) said new h p
-
-reports_keep : (name : List ℕ) → Keeps (ReportsAll name)
-reports_keep name old said new h (computer, here, p) = each_keeps (ReportsOne name) (reports_one_keeps name) (shown_numbers computer.agent) old said new h p
-
-forwards_keep : (name : List ℕ) → Keeps (Forwards name)
-forwards_keep name old said new h (relay, here, p) = both_keep (PushesQueue name relay.queue) _ old (queue_keeps name relay.queue old) (each_keeps DeliversAnswered answered_keeps _) said new h p
+targets_alike : (name text : List ℕ) → Keeps HasAlike (TargetsGroup name text)
+targets_alike name text old said new h (inl (none, is, same)) = stays HasAlike old new same h
+targets_alike name text old said new h (inr (first, more, are, asks)) = stays HasAlike _ new asks.new_is h
 
 -- ---- orders
 polls_same : (w : WorldState) → SameButPolls w w
@@ -208,25 +175,30 @@ module _ (acts : ActsByStep) (answers : AnswersAlike) where
   restarted_at : (name : List ℕ) (computer : PlayedComputer) (said : List ℕ) (new : PlayedComputer) → IsAlike computer → RestartsAt name computer said new → IsAlike new
   restarted_at name computer said new alike (agent, opens, is, becomes) = subst IsAlike (sym becomes) alike
 
-  obeys_keep : (what : Order) → Keeps (Obeys what)
-  obeys_keep (order.Publish text) = λ old said new h p. stays old _ new p.new_is h
-  obeys_keep (order.Act text) = λ old said new h p. stays old _ new p.new_is h
-  obeys_keep (order.Stop id) = λ old said new h p. stays old _ new p.new_is h
-  obeys_keep (order.File bytes) = λ old said new h p. stays old _ new p.new_is h
-  obeys_keep (order.Relay name) = λ old said new h p. stays old _ new p.1 h
-  obeys_keep (order.Computer name relay world) = λ old said new h p. stays old _ new p.1 (more_alike old.computers _ (polls_same world) h)
+  obeys_keep : (what : Order) → Keeps HasAlike (Obeys what)
+  obeys_keep (order.Publish text) = λ old said new h p. stays HasAlike _ new p.new_is h
+  obeys_keep (order.Act text) = λ old said new h p. stays HasAlike _ new p.new_is h
+  obeys_keep (order.Stop id) = λ old said new h p. stays HasAlike _ new p.new_is h
+  obeys_keep (order.File bytes) = λ old said new h p. stays HasAlike _ new p.new_is h
+  obeys_keep (order.Relay name) = λ old said new h p. stays HasAlike _ new p.1 h
+  obeys_keep (order.Computer name relay world) = λ old said new h p. stays HasAlike _ new p.1 (more_alike old.computers _ (polls_same world) h)
   obeys_keep (order.Gather relay) = λ old said new h p. relay_keeps relay (GathersAt relay old) old said new h p
   obeys_keep (order.Turn name moment) = λ old said new h p. computer_keeps name (TurnsAt name moment old) old (turned_at name moment old) said new h p
   obeys_keep (order.Restart name) = λ old said new h p. computer_keeps name (RestartsAt name) old (restarted_at name) said new h p
-  obeys_keep (order.Send name seq) = sends_keep name seq
-  obeys_keep (order.Push relay) = λ old said new h p. queue_keeps relay p.0.queue old said new h p.2
-  obeys_keep (order.Deliver message) = delivers_keep message
-  obeys_keep (order.Report name) = reports_keep name
-  obeys_keep (order.Forward relay) = forwards_keep relay
+  obeys_keep (order.Send name seq) = sends_keep HasAlike sent_alike name seq
+  obeys_keep (order.Push relay) = pushes_keep HasAlike sent_alike relay
+  obeys_keep (order.Deliver message) = delivers_keep HasAlike sent_alike arrives_alike message
+  obeys_keep (order.Report name) = reports_keep HasAlike sent_alike arrives_alike name
+  obeys_keep (order.Forward relay) = forwards_keep HasAlike sent_alike arrives_alike relay
   obeys_keep (order.Forget relay) = λ old said new h p. relay_keeps relay (ForgetsAt relay) old said new h p
+  obeys_keep (order.Analysis analysis) = λ old said new h p. stays HasAlike _ new p.new_is h
+  obeys_keep (order.Group group) = λ old said new h p. stays HasAlike _ new p.new_is h
+  obeys_keep (order.Measure name moment) = measures_alike name moment
+  obeys_keep (order.Members name) = λ old said new h p. stays HasAlike _ new p.0 h
+  obeys_keep (order.Target name text) = targets_alike name text
 
-  plays_keep : (what : Order) → Keeps (PlaysOrder what)
+  plays_keep : (what : Order) → Keeps HasAlike (PlaysOrder what)
   plays_keep what old said new h p = obeys_keep what old said new h p.obeys
 
   pub worlds_alike : (orders : List Order) (written : List ℕ) (o : Office) → IsPlayed orders written o → AreAlike o.computers
-  worlds_alike orders written o p = each_keeps PlaysOrder plays_keep orders empty_office p.said o tt p.plays
+  worlds_alike orders written o p = each_keeps HasAlike PlaysOrder plays_keep orders empty_office p.said o tt p.plays

@@ -1,5 +1,5 @@
 -- The words `analysis`, `group`, `measure`, `members` and `target`.
-use Rattle.std.specs.Prelude.{◌≡◌, ◌≢◌, ◌⊎◌, ℕ, ℤ, if◌then◌else◌, List, [], ◌∷◌, ◌++◌, length, map, flat_map, codes, decimal, ⊥}
+use Rattle.std.specs.Prelude.{◌≡◌, ◌≢◌, ◌⊎◌, ℕ, ℤ, if◌then◌else◌, List, [], ◌∷◌, ◌++◌, length, map, flat_map, codes, decimal}
 use Rattle.std.specs.Fmt.{signed_decimal}
 use Rattle.std.specs.Str.{bytes_eq}
 use Rattle.line_forms.specs.Lines.{lines_text}
@@ -89,15 +89,15 @@ pub record MeasuresComputer (moment : ℤ) (properties : List Property) (old : P
 -- A computer is measured, and what was taken is put into the book. Printed is how many rows that has.
 pub record Measures (name : List ℕ) (moment : ℤ) (old : Office) (said : List ℕ) (new : Office) : Type 0 where
   pub computer : PlayedComputer
-  pub then : PlayedComputer
+  pub measured : PlayedComputer
   pub answer : Taken
   pub book : BookState
   pub here : named name old.computers ≡ Some computer
-  pub measures : MeasuresComputer moment old.book.properties computer answer then
+  pub measures : MeasuresComputer moment old.book.properties computer answer measured
   pub puts : PutsTaken old.book answer book
   pub said_is : said ≡ about_line (codes "measure" ∷ name ∷ signed_decimal moment ∷ [])
       (decimal (rows_taken answer) ∷ codes "rows" ∷ [])
-  pub new_is : new ≡ record (with_computer name then old) { book = book }
+  pub new_is : new ≡ record (with_computer name measured old) { book = book }
 
 -- ---- members
 -- a member of a group

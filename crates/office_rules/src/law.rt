@@ -17,6 +17,8 @@ use agent_core::{
 use bf_machine::commands_are_answered_alike;
 use delivery::what_is_dropped_is_held;
 use fix_site::one_reading;
+use group_core::one_list_of_members;
+use group_sample::one_sample;
 use server_text::one_meaning;
 
 /// Orders print one text and leave one office.
@@ -29,6 +31,8 @@ pub fn one_play()
     one_turn();
     devices_go_on_telling();
     one_change();
+    one_sample();
+    one_list_of_members();
 }
 
 /// What is written of orders that are played is a front of their play, and every front of it begins that.
@@ -42,6 +46,8 @@ pub fn fronts_begin_the_play()
     one_turn();
     devices_go_on_telling();
     one_change();
+    one_sample();
+    one_list_of_members();
 }
 
 /// Both worlds of each computer stay the same but for polls left. So what is printed of a turn's commands is what its machine answered.

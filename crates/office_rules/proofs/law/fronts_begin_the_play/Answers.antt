@@ -15,4 +15,6 @@ returns-clause-fronts c = front_begins (record {
   gathering = c.one_change.ensures.gathered;
   settling = c.one_change.ensures.settled;
   opening = c.one_change.ensures.opened;
+  sample = c.one_sample.ensures;
+  members = c.one_list_of_members.ensures;
 })

@@ -12,4 +12,6 @@ returns c = play_once (record {
   gathering = c.one_change.ensures.gathered;
   settling = c.one_change.ensures.settled;
   opening = c.one_change.ensures.opened;
+  sample = c.one_sample.ensures;
+  members = c.one_list_of_members.ensures;
 })
