@@ -1,5 +1,5 @@
 -- The words `measure` and `target` are steps of the delivery of reports: none, and one that asks the server.
-use Rattle.std.proofs.Common.{◌≡◌, ℕ, ℤ, inl, inr, List, [], Some, refl, sym, ap, subst, ◌∙◌}
+use Rattle.std.proofs.Common.{◌≡◌, ℕ, ℤ, inl, inr, List, [], ◌∷◌, Some, refl, sym, ap, subst, ◌∙◌}
 use Rattle.agent_core.specs.Schedules.{IsMailOf}
 use Rattle.server_text.specs.declared.request.Request.TheVariants as request
 use Rattle.delivery.specs.Messages.{named}
