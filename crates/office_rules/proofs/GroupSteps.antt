@@ -1,10 +1,9 @@
 -- The words `measure` and `target` are steps of the delivery of reports: none, and one that asks the server.
-use Rattle.std.proofs.Common.{◌≡◌, ℕ, ℤ, inl, inr, List, [], ◌∷◌, Some, refl, sym, ap, subst, ◌∙◌}
+use Rattle.std.proofs.Common.{◌≡◌, ℕ, ℤ, inl, inr, List, [], ◌∷◌, Some, refl, sym, ap, subst}
 use Rattle.agent_core.specs.Schedules.{IsMailOf}
 use Rattle.server_text.specs.declared.request.Request.TheVariants as request
-use Rattle.delivery.specs.Messages.{named}
 use Rattle.office_rules.specs.GroupWords.{Measures, TargetsGroup, aimed}
-use Rattle.office_rules.specs.Offices.{Office, PlayedComputer, carriers_of, with_computer}
+use Rattle.office_rules.specs.Offices.{Office, PlayedComputer, carriers_of}
 use Rattle.office_rules.specs.WordSteps.{AreOfTarget}
 use Rattle.office_rules.proofs.DeedSteps.{IsStepsFrom, asking, no_acting}
 use Rattle.office_rules.proofs.Networks.{Ends, computer_there, finds_like, mail_follows, no_steps}

@@ -1,7 +1,6 @@
 -- What holds of an office before a deed and holds after it.
 use Rattle.std.proofs.Common.{◌≡◌, ℕ, List, [], ◌∷◌, ◌++◌, Option, Some, None, sym, subst, ◌∙◌}
 use Rattle.report_text.specs.declared.report.Report.{Report}
-use Rattle.relay_core.specs.Relays.{RelayState}
 use Rattle.delivery.specs.Messages.{Message, ReportToRelay, ReportToServer}
 use Rattle.delivery.specs.Schedules.{message_at}
 use Rattle.office_rules.specs.Deeds.{Deed, DoesBoth, DoesEach}

@@ -1,5 +1,5 @@
 -- The words of groups come to one thing, from a book whose properties and groups have distinct names.
-use Rattle.std.proofs.Common.{◌≡◌, ◌≢◌, ℕ, zero, suc, ◌<◌, ◌≤◌, ◌+◌, ℤ, Bool, true, false, cond, ◌⊎◌, inl, inr, List, [], ◌∷◌, ◌++◌, length, map, All, Contains, bytes_eq, Some, refl, sym, ap, subst, ◌∙◌, arith}
+use Rattle.std.proofs.Common.{◌≡◌, ◌≢◌, ℕ, zero, suc, ◌≤◌, ℤ, Bool, true, false, cond, inl, inr, List, [], ◌∷◌, ◌++◌, length, map, All, Contains, bytes_eq, Some, refl, sym, ap, subst, ◌∙◌, arith}
 use Rattle.std.specs.Prelude.{codes, decimal}
 use Rattle.std.specs.Fmt.{signed_decimal}
 use Rattle.std.specs.List.{AllByRecursion, IsDistinct}
@@ -22,7 +22,7 @@ use Rattle.group_core.specs.declared.book.Added.{Added}
 use Rattle.group_core.specs.declared.book.Added.TheVariants as added
 use Rattle.group_core.specs.declared.book.Defined.{Defined}
 use Rattle.group_core.specs.declared.book.Defined.TheVariants as defined
-use Rattle.group_core.specs.Books.{AddsAnalysis, AreNew, BookState, DefinesGroup, HasGroup, HasMembers, HasPlace, IsFirstTaken, IsKept, IsTaken, new_ones, with_group}
+use Rattle.group_core.specs.Books.{AddsAnalysis, AreNew, BookState, DefinesGroup, HasGroup, HasMembers, HasPlace, IsFirstTaken, IsKept, IsTaken, with_group}
 use Rattle.group_core.specs.Members.{AreMembers}
 use Rattle.group_core.proofs.AddLemmas.{one_named, properties_with}
 use Rattle.server_text.specs.declared.request.Request.TheVariants as request

@@ -1,7 +1,6 @@
 -- In every office that is played the properties have distinct names, and so have the groups.
-use Rattle.std.proofs.Common.{ℕ, ℤ, inl, inr, List, sym, subst}
+use Rattle.std.proofs.Common.{ℕ, inl, inr, List, sym, subst}
 use Rattle.std.specs.List.{IsDistinct}
-use Rattle.std.specs.Prelude.{bytes_eq}
 use Rattle.std.proofs.lemmas.List.Elements.{All-nil}
 use Rattle.group_text.specs.declared.property.Property.{Property}
 use Rattle.group_text.specs.Properties.{IsQuestion}
