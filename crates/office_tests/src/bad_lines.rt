@@ -48,7 +48,7 @@ fn with_computer(alloc: Global, lines: &[u8]) -> Result<Vec<u8>, Fail> {
 }
 
 /// Lines behind a relay `r` and a computer `c`, each with the number of the first bad line of the whole.
-const LINES: [(&str, u32); 46] = [
+const LINES: [(&str, u32); 48] = [
     ("stop 1\nend\n", 0),
     ("stop 9007199254740992\nend\n", 0),
     ("stop 9007199254740993\nend\n", 10),
@@ -88,11 +88,13 @@ const LINES: [(&str, u32); 46] = [
     ("forward c\nend\n", 10),
     ("forget r\nend\n", 0),
     ("forget\nend\n", 10),
-    ("members g\nend\n", 10),
-    ("measure c 1\nend\n", 10),
-    ("target g\nend\nend\n", 10),
-    ("analysis\nend\nend\n", 10),
-    ("group g\nend\nend\n", 10),
+    ("members g\nend\n", 0),
+    ("members g/h\nend\n", 10),
+    ("members\nend\n", 10),
+    ("measure c 1\nend\n", 0),
+    ("measure r 1\nend\n", 10),
+    ("measure c 137438953473\nend\n", 10),
+    ("measure c\nend\n", 10),
     ("# a remark\nend\n", 10),
     ("gather r\ngather r", 11),
 ];
@@ -185,6 +187,47 @@ fn a_computer_has_a_world_of_its_name(rt: HostRuntime) -> Result<(), Fail> {
     for (lines, number) in WORLDS {
         let mut text = Vec::new(rt.alloc());
         text.extend_from_slice(b"office\nrelay r\ncomputer c r\n")?;
+        text.extend_from_slice(lines.as_bytes())?;
+        assert_eq!(rt; bad_line(rt.alloc(), text.as_slice()), number);
+    }
+    Ok(())
+}
+
+/// Analyses, groups and actions for groups, each with the number of the first bad line of the whole.
+const ENTRIES: [(&str, u32); 26] = [
+    ("analysis\nproperty a 0 1\nend\nend\n", 0),
+    ("analysis\nproperty a 0 1\nend\n", 5),
+    ("analysis\nproperty a 0 1\nproperty b -1 1\nend\nend\n", 4),
+    ("analysis\nproperty a 0 1\nproperty a 0 2\nend\nend\n", 4),
+    ("analysis\nproperty a 0 1\nproperty b 0 1 +\nend\nend\n", 4),
+    ("analysis\nend\nend\n", 3),
+    ("analysis\nproperty a 0 1\n", 4),
+    ("analysis\nproperty a 0 1\nend", 4),
+    ("analysis x\nproperty a 0 1\nend\nend\n", 2),
+    ("analyses\nproperty a 0 1\nend\nend\n", 2),
+    ("group g\nmatch all\nhas a 1\nend\nend\n", 0),
+    ("group g\nmatch all\nend\nend\n", 4),
+    ("group g\nmatch some\nhas a 1\nend\nend\n", 3),
+    ("group g\nmatch all\nhas a 1\nhad a 1\nend\nend\n", 5),
+    ("group g\nmatch all\nhas a 1\n", 5),
+    ("group g/h\nmatch all\nhas a 1\nend\nend\n", 2),
+    ("group\nmatch all\nhas a 1\nend\nend\n", 2),
+    ("target g\ntarget all\nend\nend\n", 0),
+    ("target g\nx\ntarget all\n\ntarget all\nend\nend\n", 0),
+    ("target g\nx\nend\nend\n", 4),
+    ("target g\nend\ntarget all\nend\nend\n", 3),
+    ("target g\ntarget all \nend\nend\n", 4),
+    ("target g\nx\ntarget all\n", 5),
+    ("target g\nx", 3),
+    ("target g h\ntarget all\nend\nend\n", 2),
+    ("target\ntarget all\nend\nend\n", 2),
+];
+
+#[test]
+fn entries_and_targets_end_at_their_lines(rt: HostRuntime) -> Result<(), Fail> {
+    for (lines, number) in ENTRIES {
+        let mut text = Vec::new(rt.alloc());
+        text.extend_from_slice(b"office\n")?;
         text.extend_from_slice(lines.as_bytes())?;
         assert_eq!(rt; bad_line(rt.alloc(), text.as_slice()), number);
     }

@@ -118,6 +118,16 @@ pub(crate) fn take_computer(
     own(alloc, take_computer_name(orders, fields))
 }
 
+/// A name that need not be known.
+pub(crate) fn take_any_name(
+    alloc: Global,
+    fields: &mut Fields<'_>,
+) -> Result<Option<Text>, AllocError>
+    ensures { IfOk result (TakesField IsName itself fields.old fields.new) }
+{
+    own(alloc, take_name(fields))
+}
+
 /// The name as a text of its own.
 fn own(alloc: Global, name: Option<&str>) -> Result<Option<Text>, AllocError>
     ensures { IfOk result (λ text. text ≡ option_copied name.entry) }

@@ -98,6 +98,17 @@ impl Order {
             Order::Report(name) => Ok(Order::Report(name.copy()?)),
             Order::Forward(relay) => Ok(Order::Forward(relay.copy()?)),
             Order::Forget(relay) => Ok(Order::Forget(relay.copy()?)),
+            Order::Analysis(analysis) => Ok(Order::Analysis(analysis.copy()?)),
+            Order::Group(group) => Ok(Order::Group(group.copy()?)),
+            Order::Measure { name, moment } => Ok(Order::Measure {
+                name: name.copy()?,
+                moment: *moment,
+            }),
+            Order::Members(group) => Ok(Order::Members(group.copy()?)),
+            Order::Target { group, action } => Ok(Order::Target {
+                group: group.copy()?,
+                action: action.copy()?,
+            }),
         }
     }
 }

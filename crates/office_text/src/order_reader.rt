@@ -1,12 +1,15 @@
-ghost use Rattle.std.specs.Prelude.{◌≡◌, MatchOption};
-ghost use Rattle.office_text.specs.OrderReadings.{IsInText, TakesOrder};
+ghost use Rattle.std.specs.Prelude.{◌≡◌, List, MatchOption};
+ghost use Rattle.office_text.specs.declared.order.Order.{Order};
+ghost use Rattle.office_text.specs.OrderReadings.{IsInText, TakesOrder, TakesWithText};
 
+use crate::book_reader::take_entry;
 use crate::computer_reader::take_computer_order;
 use crate::content_reader::take_content;
 use crate::error::OfficeError;
 use crate::order::Order;
 use crate::orders_so_far::OrdersSoFar;
 use crate::short_reader::take_short;
+use crate::target_reader::take_target;
 use crate::text_reader::{Last, take_text};
 use line_forms::Lines;
 use std::alloc::Global;
@@ -24,6 +27,22 @@ pub(crate) fn take_order(
     if let Some(order) = take_short(alloc, orders, lines)? {
         return Ok(Some(order));
     }
+    if let Some(order) = take_with_text(alloc, lines)? {
+        return Ok(Some(order));
+    }
+    if let Some(order) = take_entry(alloc, lines)? {
+        return Ok(Some(order));
+    }
+    if let Some(order) = take_target(alloc, lines)? {
+        return Ok(Some(order));
+    }
+    take_computer_order(alloc, orders, lines)
+}
+
+/// Takes the lines of a site, an action or a file, if the first of them is ahead.
+fn take_with_text(alloc: Global, lines: &mut Lines<'_>) -> Result<Option<Order>, OfficeError>
+    ensures { (before : List Order) → TakesWithText before lines.old lines.new result }
+{
     if lines.take_exactly(b"publish") {
         return whole(
             take_text(alloc, Last::Digest, lines)?.map(Order::Publish),
@@ -36,7 +55,7 @@ pub(crate) fn take_order(
     if lines.take_exactly(b"file") {
         return whole(take_content(alloc, lines)?.map(Order::File), lines);
     }
-    take_computer_order(alloc, orders, lines)
+    Ok(None)
 }
 
 /// An order whose lines were taken, or the line at which they don't go on.

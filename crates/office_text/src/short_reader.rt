@@ -4,7 +4,7 @@ ghost use Rattle.office_text.specs.OrderLines.{first_line};
 ghost use Rattle.office_text.specs.OrderReadings.{IsShort, TakesArguments};
 
 use crate::field_reader::{
-    take_computer, take_id, take_moment, take_new_relay, take_number, take_relay,
+    take_any_name, take_computer, take_id, take_moment, take_new_relay, take_number, take_relay,
 };
 use crate::order::Order;
 use crate::orders_so_far::OrdersSoFar;
@@ -71,6 +71,8 @@ fn take_arguments(
         Word::Report => Ok(take_computer(alloc, orders, fields)?.map(Order::Report)),
         Word::Forward => Ok(take_relay(alloc, orders, fields)?.map(Order::Forward)),
         Word::Forget => Ok(take_relay(alloc, orders, fields)?.map(Order::Forget)),
+        Word::Measure => take_measure(alloc, orders, fields),
+        Word::Members => Ok(take_any_name(alloc, fields)?.map(Order::Members)),
     }
 }
 
@@ -104,4 +106,20 @@ fn take_send(
         return Ok(None);
     };
     Ok(Some(Order::Send { name, seq }))
+}
+
+fn take_measure(
+    alloc: Global,
+    orders: &OrdersSoFar,
+    fields: &mut Fields<'_>,
+) -> Result<Option<Order>, AllocError>
+    ensures { IfOk result (TakesArguments orders.now Word.Measure fields.old fields.new) }
+{
+    let Some(name) = take_computer(alloc, orders, fields)? else {
+        return Ok(None);
+    };
+    let Some(moment) = take_moment(fields) else {
+        return Ok(None);
+    };
+    Ok(Some(Order::Measure { name, moment }))
 }

@@ -16,6 +16,8 @@ pub(crate) enum Word {
     Report,
     Forward,
     Forget,
+    Measure,
+    Members,
 }
 
 /// The word that this field is.
@@ -34,6 +36,8 @@ pub(crate) fn word_of(field: &[u8]) -> Option<Word>
         b"report" => Some(Word::Report),
         b"forward" => Some(Word::Forward),
         b"forget" => Some(Word::Forget),
+        b"measure" => Some(Word::Measure),
+        b"members" => Some(Word::Members),
         _ => None,
     }
 }
