@@ -11,6 +11,11 @@ use Rattle.world_text.specs.Rows.{AddsAll}
 use Rattle.world_text.specs.Texts.{Head, IsHead, Describes, bare}
 use Rattle.world_text.proofs.FieldLemmas.{content_one, end_not_content}
 use Rattle.world_text.proofs.RowLists.{end_not_among}
+use Rattle.group_text.specs.declared.analysis.Analysis.{Analysis}
+use Rattle.group_text.specs.declared.group.Group.{Group}
+use Rattle.group_text.specs.Analyses.{IsAnalysis}
+use Rattle.group_text.specs.Groups.{IsGroup}
+use Rattle.group_text.proofs.Ends.{EndsOnce, analysis_ends, group_ends}
 use Rattle.office_text.specs.OrderLines.{IsEnd, EndsAt, HoldContent}
 use Rattle.office_text.proofs.Fronts.{Lines}
 
@@ -53,6 +58,16 @@ world_ends lines w d = record {
   last_is = refl;
   others_are = All-append (λ line. ¬ IsEnd line) d.first d.rows (not_end_head d.first d.head d.head_is) (all_other d.rows (λ xs ys e. end_not_among xs ys (just (bare d.head)) d.last (subst (λ (l : Lines). AddsAll (just (bare d.head)) l d.last) e d.adds)));
 }
+
+-- so it is with an analysis and with a group
+ends_at : (lines : Lines) → EndsOnce lines → EndsAt IsEnd lines
+ends_at lines (before, e, all) = record { others = before; last = codes "end"; lines_are = e; last_is = refl; others_are = all }
+
+pub analysis_ends_at : (lines : Lines) (a : Analysis) → IsAnalysis a lines → EndsAt IsEnd lines
+analysis_ends_at lines a is = ends_at lines (analysis_ends lines a is)
+
+pub group_ends_at : (lines : Lines) (g : Group) → IsGroup g lines → EndsAt IsEnd lines
+group_ends_at lines g is = ends_at lines (group_ends lines g is)
 
 -- nor in a file
 pub not_end_contents : (contents : Lines) → All (λ line. ¬ IsEnd line) (map content_line contents)

@@ -53,9 +53,9 @@ pub ends_not_among : (L : List ℕ → Type 0) (x p lines : Lines) → EndsAt L 
 ends_not_among L x p lines a are e =
     ends_inside L a.others a.last p lines a.last_is are (e ∙ ap (λ z. z ++ p) a.lines_are ∙ append_assoc a.others (a.last ∷ []) p)
 
+pub nothing_last : (f : Lines) (last : List ℕ) → [] ≡ f ++ last ∷ [] → ⊥
+nothing_last [] last e = nothing last [] e
+nothing_last (x ∷ f) last e = nothing x (f ++ last ∷ []) e
+
 pub ends_some : (L : List ℕ → Type 0) → EndsAt L [] → ⊥
-ends_some L a = none a.others a.lines_are
-  where
-    none : (f : Lines) → [] ≡ f ++ a.last ∷ [] → ⊥
-    none [] e = nothing a.last [] e
-    none (x ∷ f) e = nothing x (f ++ a.last ∷ []) e
+ends_some L a = nothing_last a.others a.last a.lines_are

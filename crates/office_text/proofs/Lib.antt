@@ -8,7 +8,11 @@ pub mod Stops
 pub mod KnownLemmas
 pub mod ShortLemmas
 pub mod TextLemmas
+pub mod NameLemmas
+pub mod PartLemmas
 pub mod ComputerLemmas
+pub mod EntryLemmas
 pub mod OrderReading
+pub mod TargetLemmas
 pub mod OfficeReading
 pub mod MadeLemmas

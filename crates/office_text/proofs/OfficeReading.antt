@@ -19,10 +19,6 @@ use Rattle.line_forms.proofs.Sequences.{each_more, each_none}
 use Rattle.office_text.proofs.OrderLists.{lines_more, office_one}
 use Rattle.office_text.proofs.Stops.{office_ends, stops_between, stops_first, stops_inside}
 
--- a cursor that went on in a text stands in it
-pub in_text : (old new : LineState) (lines : Lines) → IsInText old → Passes old new lines → IsInText new
-in_text old new lines (text, before, stands) passes = (text, before ++ lines, passes.1 text before stands)
-
 pub at_first : (text : List ℕ) → IsInText (before_lines text)
 at_first text = (text, [], StandsBehind-start text)
 

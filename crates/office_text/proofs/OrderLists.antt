@@ -33,8 +33,8 @@ lines_more (o ∷ orders) lines order body (mine, more, mine_is, more_are, e) is
 )
 
 -- the last line of an office is no first line of an order
-pub first_not_end : (o : Order) → IsOrder o → codes "end" ≡ first_line o → ⊥
-first_not_end o is e = not_end o [] (sym (first_again o is) ∙ ap fields_of (sym e) ∙ line_again (codes "end") refl)
+pub first_not_end : (o : Order) (body : Lines) → IsOrder o → IsBody o body → codes "end" ≡ first_line o → ⊥
+first_not_end o body is has e = not_end o [] (sym (first_again o body is has) ∙ ap fields_of (sym e) ∙ line_again (codes "end") refl)
 
 -- lines that begin those of an office behind its orders so far, and end it
 pub record GoesOn (orders others : List Order) (rest : Lines) : Type 0 where
@@ -54,7 +54,7 @@ goes_on [] others x y rest is also x_are y_are e = record {
 }
 goes_on (o ∷ orders) [] x y rest is also (mine, more, mine_is, more_are, x_is) y_are e =
     let line : first_line o ∷ (mine ++ more ++ rest) ≡ codes "end" ∷ [] = ap (λ l. l ++ rest) (sym x_is) ∙ e ∙ ap (λ l. l ++ codes "end" ∷ []) y_are in
-    absurd (first_not_end o (All-head IsOrder o orders is) (sym (cons_head (first_line o) (codes "end") _ [] line)))
+    absurd (first_not_end o mine (All-head IsOrder o orders is) mine_is (sym (cons_head (first_line o) (codes "end") _ [] line)))
 goes_on (o ∷ orders) (p ∷ others) x y rest is also (mine, more, mine_is, more_are, x_is) (body, left, body_is, left_are, y_is) e =
     let mine_long : x ++ rest ≡ first_line o ∷ (mine ++ (more ++ rest)) = ap (λ l. l ++ rest) x_is ∙ append_assoc (first_line o ∷ mine) more rest in
     let body_long : y ++ codes "end" ∷ [] ≡ first_line p ∷ (body ++ (left ++ codes "end" ∷ [])) = ap (λ l. l ++ codes "end" ∷ []) y_is ∙ append_assoc (first_line p ∷ body) left (codes "end" ∷ []) in
@@ -100,4 +100,4 @@ office_one lines orders others office other =
     last [] behind are is e = append-nil orders
     last (o ∷ more) behind (body, left, body_is, left_are, b_is) is e =
         let k : codes "end" ∷ [] ≡ first_line o ∷ (body ++ left ++ codes "end" ∷ []) = e ∙ ap (λ l. l ++ codes "end" ∷ []) b_is in
-        absurd (first_not_end o (All-head IsOrder o more is) (cons_head (codes "end") (first_line o) [] _ k))
+        absurd (first_not_end o body (All-head IsOrder o more is) body_is (cons_head (codes "end") (first_line o) [] _ k))

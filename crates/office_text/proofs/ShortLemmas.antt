@@ -1,18 +1,20 @@
 -- Orders of one line, and the fields of their lines.
 use Rattle.std.proofs.Common.{ℕ, ◌≡◌, ◌+◌, ◌<◌, ◌==◌, ◌||◌, if◌then◌else◌, List, [], ◌∷◌, ◌++◌, length, Option, Some, None, refl, sym, ap, subst, ◌∙◌, arith, append-nil, length-append}
-use Rattle.std.specs.Prelude.{decimal, IsSomeAnd, MatchOption}
+use Rattle.std.specs.Prelude.{codes, decimal, IsSomeAnd, MatchOption, map}
 use Rattle.std.specs.Fmt.{signed_decimal}
 use Rattle.std.proofs.lemmas.List.{nil_from_length}
 use Rattle.line_forms.specs.FieldLists.{fields_of, line_of}
 use Rattle.line_forms.proofs.Passing.{cons_head, cons_tail}
 use Rattle.line_forms.proofs.Pieces.{join-pieces}
+use Rattle.group_text.specs.Groups.{group_line, match_line}
+use Rattle.group_text.specs.Properties.{property_line}
 use Rattle.office_text.specs.declared.order.Order.{Order}
 use Rattle.office_text.specs.declared.order.Order.TheVariants as order
 use Rattle.office_text.specs.declared.word.Word.{Word}
 use Rattle.office_text.specs.declared.word.Word.TheVariants as word
 use Rattle.office_text.specs.OrderLines.{first_fields, first_line, IsBody, IsEnd, IsSiteEnd}
 use Rattle.office_text.specs.OrderReadings.{keyword, IsShort, TakesArguments, TakesField}
-use Rattle.office_text.proofs.Fronts.{Lines, nothing, ends_some}
+use Rattle.office_text.proofs.Fronts.{Lines, nothing, nothing_last, ends_some}
 use Rattle.office_text.proofs.BodyLemmas.{content_ends, world_ends}
 use Rattle.office_text.proofs.FieldLemmas.{first_again}
 use Rattle.office_text.proofs.WordLemmas.{word_sum}
@@ -98,10 +100,15 @@ short_word (order.Deliver message) is = (word.Deliver, decimal message ∷ [], r
 short_word (order.Report name) is = (word.Report, name ∷ [], refl)
 short_word (order.Forward relay) is = (word.Forward, relay ∷ [], refl)
 short_word (order.Forget relay) is = (word.Forget, relay ∷ [], refl)
+short_word (order.Analysis analysis) is = absurd (nothing_last (map property_line analysis.properties) (codes "end") (cons_tail (codes "analysis") (codes "analysis") _ _ is.lines_are))
+short_word (order.Group group) is = absurd (nothing (match_line group.any) _ (cons_tail (group_line group.name) (group_line group.name) _ _ is.lines_are))
+short_word (order.Measure name moment) is = (word.Measure, name ∷ signed_decimal moment ∷ [], refl)
+short_word (order.Members group) is = (word.Members, group ∷ [], refl)
+short_word (order.Target group text) is = absurd (ends_some IsEnd is.0.0)
 
 -- how many fields a first line has, by the sum of its word
 abbrev count_of : ℕ → ℕ
-count_of s = if s == 879 || s == 457 || s == 426 then 3 else if s == 759 || s == 312 || s == 416 then 1 else 2
+count_of s = if s == 99879 || s == 116457 || s == 115426 || s == 109754 then 3 else if s == 112759 || s == 97312 || s == 102416 || s == 97868 then 1 else 2
 
 count_is : (o : Order) → length (first_fields o) ≡ count_of (word_sum (first_fields o))
 count_is (order.Publish text) = refl
@@ -120,7 +127,7 @@ no_more_fields a b rest e = none (first_fields a) (first_fields b) (count_is a) 
 
 -- ---- the line of an order
 line_fields : (line : List ℕ) (o : Order) (before : List Order) → IsShort before o → line ≡ first_line o → fields_of line ≡ first_fields o
-line_fields line o before short e = ap fields_of e ∙ first_again o short.0.form
+line_fields line o before short e = ap fields_of e ∙ first_again o [] short.0.form short.1
 
 -- it has no field, or its first one is no word
 pub no_field : (before : List Order) (line : List ℕ) → fields_of line ≡ [] → (o : Order) → IsShort before o → ¬ (line ≡ first_line o)

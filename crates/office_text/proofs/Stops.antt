@@ -4,13 +4,13 @@ use Rattle.std.specs.Prelude.{codes}
 use Rattle.std.proofs.lemmas.List.{append_cancel_left}
 use Rattle.line_forms.specs.BadLines.{Begins}
 use Rattle.line_forms.specs.LineStates.{LineState}
-use Rattle.line_forms.specs.Readers.{EachCan, IsNotAhead, NeverGoesOn, StopsAt}
+use Rattle.line_forms.specs.Readers.{EachCan, IsAny, IsNotAhead, NeverGoesOn, StopsAt}
 use Rattle.line_forms.proofs.Passing.{cons_head, cons_tail}
 use Rattle.office_text.specs.declared.order.Order.{Order}
 use Rattle.office_text.specs.Orders.{CanFollow}
 use Rattle.office_text.specs.OrderLines.{first_line, IsBody, AreLinesOf}
 use Rattle.office_text.specs.Offices.{AreOfficeLines}
-use Rattle.office_text.specs.OrderReadings.{AreNextLines}
+use Rattle.office_text.specs.OrderReadings.{AreNextLines, IsNext}
 use Rattle.office_text.proofs.Fronts.{Lines, fronts, nothing, something}
 use Rattle.office_text.proofs.OneOrder.{order_one}
 use Rattle.line_forms.proofs.Sequences.{each_more, each_none}
@@ -59,7 +59,7 @@ stops_inside orders between part bad each are some stops = record { begins = beg
     -- it isn't `end`
     not_last : (rest : Lines) → part ≡ codes "end" ∷ rest → Begins (AreNextLines orders) part → ⊥
     not_last rest e (more, (order, body, can, is, long)) =
-        first_not_end order can.form (cons_head (codes "end") (first_line order) (rest ++ more) body (ap (λ l. l ++ more) (sym e) ∙ long))
+        first_not_end order body can.form is (cons_head (codes "end") (first_line order) (rest ++ more) body (ap (λ l. l ++ more) (sym e) ∙ long))
 
     done : (more : List Order) (behind : Lines) → EachCan CanFollow (orders ++ more) → AreLinesOf more behind → part ≡ behind ++ codes "end" ∷ [] → ⊥
     done [] behind all b_are e = not_last [] (e ∙ ap (λ l. l ++ codes "end" ∷ []) b_are) stops.begins
@@ -101,7 +101,7 @@ stops_inside orders between part bad each are some stops = record { begins = beg
         behind_all line more left c.more c.behind is c.each c.behind_are c.rest_is
 
 -- no order and no last line is ahead
-pub stops_between : (orders : List Order) (between : Lines) (state : LineState) → EachCan CanFollow orders → AreLinesOf orders between → IsNotAhead (CanFollow orders) first_line state → ((more : Lines) → state.lines ≡ codes "end" ∷ more → ⊥) →
+pub stops_between : (orders : List Order) (between : Lines) (state : LineState) → EachCan CanFollow orders → AreLinesOf orders between → IsNotAhead (IsNext IsAny orders) first_line state → ((more : Lines) → state.lines ≡ codes "end" ∷ more → ⊥) →
     StopsAt AreOfficeLines (codes "office" ∷ between) state
 stops_between orders between state each are none no_end = record {
   begins = (codes "end" ∷ [], whole orders between each are);
@@ -122,7 +122,7 @@ stops_between orders between state each are none no_end = record {
     next line rest left [] behind is all b_are e =
         no_end rest (is ∙ ap (λ l. l ∷ rest) (cons_head line (codes "end") left [] (e ∙ ap (λ l. l ++ codes "end" ∷ []) b_are)))
     next line rest left (o ∷ more) behind is all (b, m, b_is, m_are, b_e) e =
-        none o rest (next_can orders o more all) (is ∙ ap (λ l. l ∷ rest) (cons_head line (first_line o) left _ (e ∙ ap (λ l. l ++ codes "end" ∷ []) b_e)))
+        none o rest (record { is = tt; can = next_can orders o more all; body = b; body_is = b_is }) (is ∙ ap (λ l. l ∷ rest) (cons_head line (first_line o) left _ (e ∙ ap (λ l. l ++ codes "end" ∷ []) b_e)))
 
     ahead : (line : List ℕ) (more : Lines) → state.lines ≡ line ∷ more → ¬ Begins AreOfficeLines ((codes "office" ∷ between) ++ line ∷ [])
     ahead line more is (left, office) =
@@ -148,7 +148,7 @@ office_ends orders between each are line more office =
     last : (others : List Order) (behind : Lines) → EachCan CanFollow (orders ++ others) → AreLinesOf others behind → codes "end" ∷ line ∷ more ≡ behind ++ codes "end" ∷ [] → ⊥
     last [] behind all b_are h = something line more (cons_tail (codes "end") (codes "end") (line ∷ more) [] (h ∙ ap (λ l. l ++ codes "end" ∷ []) b_are))
     last (o ∷ others) behind all (b, m, b_is, m_are, b_e) h =
-        first_not_end o (next_can orders o others all).form (cons_head (codes "end") (first_line o) (line ∷ more) _ (h ∙ ap (λ l. l ++ codes "end" ∷ []) b_e))
+        first_not_end o b (next_can orders o others all).form b_is (cons_head (codes "end") (first_line o) (line ∷ more) _ (h ∙ ap (λ l. l ++ codes "end" ∷ []) b_e))
 
 -- the lines behind a first line stop there, and so do those of the order
 pub behind_first : (before : List Order) (first : List ℕ) (AreBodies : Lines → Type 0) (part : Lines) (bad : LineState) →

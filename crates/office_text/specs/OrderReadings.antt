@@ -5,11 +5,19 @@ use Rattle.std.specs.declared.result.Result.{Result}
 use Rattle.std.specs.Prelude.{Ok, Err}
 use Rattle.line_forms.specs.Contents.{content_line}
 use Rattle.line_forms.specs.FieldLists.{line_of}
-use Rattle.line_forms.specs.LineStates.{LineState}
+use Rattle.line_forms.specs.LineStates.{LineState, lines_of}
+use Rattle.line_forms.specs.BadLines.{AnswersBadLine}
+use Rattle.line_forms.specs.Fields.{field_text}
 use Rattle.line_forms.specs.Lines.{StandsBehind, lines_text}
 use Rattle.line_forms.specs.Names.{IsName, IsLineText}
-use Rattle.line_forms.specs.Readers.{IsNotAhead, IsStuck, Passes, StopsAt, EachCan}
+use Rattle.line_forms.specs.Readers.{IsAny, IsNotAhead, IsStuck, Passes, StopsAt, EachCan}
+use Rattle.group_text.specs.declared.error.GroupError.{GroupError}
+use Rattle.group_text.specs.declared.error.GroupError.TheVariants as refused
+use Rattle.group_text.specs.Analyses.{AreAnalysisLines, IsAnalysis}
+use Rattle.group_text.specs.Groups.{AreGroupLines, IsGroup, group_line}
+use Rattle.group_text.specs.Properties.{AreProperties}
 use Rattle.office_text.specs.declared.order.Order.{Order}
+use Rattle.office_text.specs.declared.order.Order.TheVariants as order
 use Rattle.office_text.specs.declared.error.OfficeError.{OfficeError}
 use Rattle.office_text.specs.declared.error.OfficeError.TheVariants.{BadLine, Memory}
 use Rattle.office_text.specs.declared.word.Word.{Word}
@@ -18,6 +26,8 @@ use Rattle.office_text.specs.declared.text_reader.Last.{Last}
 use Rattle.office_text.specs.declared.text_reader.Last.TheVariants as last
 use Rattle.office_text.specs.declared.text_reader.Taken.{Taken}
 use Rattle.office_text.specs.declared.computer_reader.Names.{Names}
+use Rattle.office_text.specs.declared.book_reader.Entry.{Entry}
+use Rattle.office_text.specs.declared.book_reader.Entry.TheVariants as entry
 use Rattle.office_text.specs.Orders.{CanFollow, HasRelay, HasComputer}
 use Rattle.office_text.specs.OrderLines.{first_fields, first_line, IsBody, AreLinesOf, IsSiteEnd, IsEnd, EndsAt}
 
@@ -38,6 +48,8 @@ keyword word.Deliver = codes "deliver"
 keyword word.Report = codes "report"
 keyword word.Forward = codes "forward"
 keyword word.Forget = codes "forget"
+keyword word.Measure = codes "measure"
+keyword word.Members = codes "members"
 
 -- an order of one line that can follow these
 abbrev pub IsShort : List Order → Order → Type 0
@@ -119,9 +131,86 @@ TakesOr IsNone before old new (Ok None) = (new ≡ old) × IsNone
 TakesOr IsNone before old new (Err (BadLine number)) = IsBadAt (AreNextLines before) old number
 TakesOr IsNone before old new (Err Memory) = ⊤
 
--- The lines of an order were taken, or the first line of none is ahead, or its lines go on to this line.
+-- an order that is one of these, can follow those before, and has lines
+pub record IsNext (Is : Order → Type 0) (before : List Order) (order : Order) : Type 0 where
+  pub is : Is order
+  pub can : CanFollow before order
+  pub body : List (List ℕ)
+  pub body_is : IsBody order body
+
+-- The lines of such an order were taken, or the first line of none is ahead, or its lines go on to this line.
+abbrev pub TakesOneOf : (Order → Type 0) → List Order → LineState → LineState → Result (Option Order) OfficeError → Type 0
+TakesOneOf Is before old new answer = TakesOr (IsNotAhead (IsNext Is before) first_line old) before old new answer
+
+-- the same of any order
 abbrev pub TakesOrder : List Order → LineState → LineState → Result (Option Order) OfficeError → Type 0
-TakesOrder before old new answer = TakesOr (IsNotAhead (CanFollow before) first_line old) before old new answer
+TakesOrder before old new answer = TakesOneOf IsAny before old new answer
+
+-- the same of a site, an action and a file
+abbrev pub HasText : Order → Type 0
+HasText (order.Publish text) = ⊤
+HasText (order.Act text) = ⊤
+HasText (order.File bytes) = ⊤
+HasText other = ⊥
+
+abbrev pub TakesWithText : List Order → LineState → LineState → Result (Option Order) OfficeError → Type 0
+TakesWithText before old new answer = TakesOneOf HasText before old new answer
+
+-- the same of an analysis and a group
+abbrev pub IsEntry : Order → Type 0
+IsEntry (order.Analysis analysis) = ⊤
+IsEntry (order.Group group) = ⊤
+IsEntry other = ⊥
+
+abbrev pub TakesEntry : List Order → LineState → LineState → Result (Option Order) OfficeError → Type 0
+TakesEntry before old new answer = TakesOneOf IsEntry before old new answer
+
+-- the first line of an entry
+abbrev pub Begins : Entry → List ℕ → Type 0
+Begins entry.Analysis line = line ≡ codes "analysis"
+Begins entry.Group line = (name : List ℕ) × IsName name × (line ≡ group_line name)
+
+-- what is given by the lines ahead, if the first of them is that of an analysis or of a group
+abbrev pub FindsEntry : LineState → Option Entry → Type 0
+FindsEntry state answer =
+    MatchOption answer (((more : List (List ℕ)) → ¬ (state.lines ≡ codes "analysis" ∷ more)) × IsNotAhead IsName group_line state)
+    (λ entry. (line : List ℕ) × (more : List (List ℕ)) × Begins entry line × (state.lines ≡ line ∷ more))
+
+-- the lines are those of some entry of this sort
+abbrev pub AreEntryLines : Entry → List (List ℕ) → Type 0
+AreEntryLines entry.Analysis lines = AreAnalysisLines lines
+AreEntryLines entry.Group lines = AreGroupLines lines
+
+-- they are those of this entry
+abbrev pub IsEntryOf : Entry → Order → List (List ℕ) → Type 0
+IsEntryOf entry.Analysis (order.Analysis analysis) lines = IsAnalysis analysis lines × AreProperties analysis.properties
+IsEntryOf entry.Group (order.Group group) lines = IsGroup group lines
+IsEntryOf sort other lines = ⊥
+
+-- The answer is the entry whose text this is, or else the number of its first bad line.
+abbrev pub ReadsEntry : Entry → List ℕ → Result Order GroupError → Type 0
+ReadsEntry sort text (Ok order) = IsEntryOf sort order (lines_of text)
+ReadsEntry sort text (Err (refused.BadAnalysis line)) = AnswersBadLine (AreEntryLines sort) text line
+ReadsEntry sort text (Err (refused.BadGroup line)) = AnswersBadLine (AreEntryLines sort) text line
+ReadsEntry sort text (Err refused.Memory) = ⊤
+
+-- the same as of any order, of an action for the members of a group
+abbrev pub IsTarget : Order → Type 0
+IsTarget (order.Target group text) = ⊤
+IsTarget other = ⊥
+
+abbrev pub TakesTarget : List Order → LineState → LineState → Result (Option Order) OfficeError → Type 0
+TakesTarget before old new answer = TakesOneOf IsTarget before old new answer
+
+-- a word and a name
+abbrev pub named_line : List ℕ → List ℕ → List ℕ
+named_line word name = field_text word ++ name
+
+-- the name behind the word on the line ahead, which has nothing else
+abbrev pub FindsName : List ℕ → LineState → Option (List ℕ) → Type 0
+FindsName word state answer =
+    MatchOption answer (IsNotAhead IsName (named_line word) state)
+    (λ name. IsName name × ((more : List (List ℕ)) × (state.lines ≡ named_line word name ∷ more)))
 
 -- the same of a computer
 abbrev pub computer_line : List ℕ × List ℕ → List ℕ
@@ -142,7 +231,7 @@ pub record HasOrders (old : LineState) (new : LineState) (orders : List Order) :
 
 -- The orders were taken, and the first line of no other is ahead; or the lines of an order go on to this line.
 abbrev pub TakesOrders : LineState → LineState → Result (List Order) OfficeError → Type 0
-TakesOrders old new (Ok orders) = HasOrders old new orders × IsNotAhead (CanFollow orders) first_line new
+TakesOrders old new (Ok orders) = HasOrders old new orders × IsNotAhead (IsNext IsAny orders) first_line new
 TakesOrders old new (Err (BadLine number)) =
     (orders : List Order) × (mid : LineState) × HasOrders old mid orders × IsBadAt (AreNextLines orders) mid number
 TakesOrders old new (Err Memory) = ⊤

@@ -32,7 +32,10 @@ pub(crate) fn take_entry(alloc: Global, lines: &mut Lines<'_>) -> Result<Option<
     lines_are_read_again();
     match read_entry(alloc, entry, taken.text.as_slice()) {
         Ok(order) => Ok(Some(order)),
-        Err(GroupError::BadAnalysis(line) | GroupError::BadGroup(line)) => {
+        Err(GroupError::BadAnalysis(line)) => {
+            Err(OfficeError::BadLine(first.saturating_add(line - 1)))
+        }
+        Err(GroupError::BadGroup(line)) => {
             Err(OfficeError::BadLine(first.saturating_add(line - 1)))
         }
         Err(GroupError::Memory) => Err(OfficeError::Memory),

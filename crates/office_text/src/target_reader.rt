@@ -1,4 +1,4 @@
-ghost use Rattle.std.specs.Prelude.{List, IfOk};
+ghost use Rattle.std.specs.Prelude.{◌≡◌, ◌↔◌, List, codes, IfOk, IsTrue};
 ghost use Rattle.office_text.specs.declared.order.Order.{Order};
 ghost use Rattle.office_text.specs.OrderLines.{AreTargetLines};
 ghost use Rattle.office_text.specs.OrderReadings.{TakesBody, TakesTarget};
@@ -6,6 +6,7 @@ ghost use Rattle.office_text.specs.OrderReadings.{TakesBody, TakesTarget};
 use crate::error::OfficeError;
 use crate::name_reader::name_ahead;
 use crate::order::Order;
+use crate::text_reader::{Last, is_last};
 use desk_base::Bytes;
 use line_forms::Lines;
 use rel_lexer::Text;
@@ -36,7 +37,7 @@ fn take_action(alloc: Global, lines: &mut Lines<'_>) -> Result<Option<Bytes>, Al
     let mut text = Bytes::new(alloc);
     let mut for_all = false;
     while let Some(line) = lines.line_ahead() {
-        let last = line == b"end".as_slice();
+        let last = is_last(Last::End, line);
         if last && !for_all {
             return Ok(None);
         }
@@ -46,7 +47,13 @@ fn take_action(alloc: Global, lines: &mut Lines<'_>) -> Result<Option<Bytes>, Al
         if last {
             return Ok(Some(text));
         }
-        for_all = for_all || line == b"target all".as_slice();
+        for_all = is_for_all(line) || for_all;
     }
     Ok(None)
+}
+
+fn is_for_all(line: &[u8]) -> bool
+    ensures { IsTrue result ↔ (line.now ≡ codes "target all") }
+{
+    line == b"target all".as_slice()
 }

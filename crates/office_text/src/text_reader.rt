@@ -53,7 +53,8 @@ pub(crate) fn take_to(alloc: Global, last: Last, lines: &mut Lines<'_>) -> Resul
     Ok(Taken { text, ended: false })
 }
 
-fn is_last(last: Last, line: &[u8]) -> bool
+/// Whether this is such a line.
+pub(crate) fn is_last(last: Last, line: &[u8]) -> bool
     ensures { IsTrue result ↔ IsLast last line.now }
 {
     match last {

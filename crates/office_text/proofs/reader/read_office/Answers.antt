@@ -6,7 +6,8 @@ use Rattle.line_forms.specs.BadLines.{AnswersBadLine}
 use Rattle.line_forms.specs.LineStates.{LineState}
 use Rattle.line_forms.specs.Readers.{TakesExactly}
 use Rattle.office_text.specs.Offices.{AreOfficeLines}
-use Rattle.office_text.proofs.OfficeReading.{at_first, bad_order, from_first, in_text, no_end, no_office, office_is, something_left}
+use Rattle.office_text.proofs.OfficeReading.{at_first, bad_order, from_first, no_end, no_office, office_is, something_left}
+use Rattle.office_text.proofs.PartLemmas.{in_text}
 use Rattle.office_text.proofs.reader.read_office.Goals as goal
 
 pub returns-then-not-take_exactly : goal.returns-then-not-take_exactly
