@@ -123,22 +123,23 @@ def unproved(folder):
     return run.stdout + run.stderr
 
 
-def copied(folder, program, over):
-    """Copies the program as soon as it has been made somewhere in a folder, whose making is over where `over` is set."""
+def linked(folder, program, over):
+    """Gives the program a second name as soon as it stands somewhere in a folder, whose making is over where `over` is set: it may still be
+    written then, and is whole when the making is over."""
     while not over.is_set():
         for at, _, files in os.walk(folder):
             if "program" in files and os.access(os.path.join(at, "program"), os.X_OK):
                 with contextlib.suppress(FileNotFoundError):
-                    shutil.copyfile(os.path.join(at, "program"), program)
+                    os.link(os.path.join(at, "program"), program)
                     return
         time.sleep(0.02)
 
 
 def kept(folder, program, *words):
-    """Has `rt try` make the unproved program of a folder and run it without input, and keeps a copy of it. What was written."""
+    """Has `rt try` make the unproved program of a folder and run it without input, and keeps it. What was written."""
     room, over = f"{program}-made", threading.Event()
     os.mkdir(room)
-    watcher = threading.Thread(target=copied, args=(room, program, over))
+    watcher = threading.Thread(target=linked, args=(room, program, over))
     watcher.start()
     try:
         run = subprocess.run(["rt", "try", "--seconds", "600", *words], cwd=folder, env={**os.environ, "TMPDIR": room}, text=True,
