@@ -10,3 +10,5 @@ pub mod Turning
 pub mod Messages
 pub mod Ending
 pub mod Plays
+pub mod Measuring
+pub mod Aiming

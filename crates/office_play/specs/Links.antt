@@ -15,7 +15,7 @@ use Rattle.turn_lines.specs.VerdictWords.{reply_word}
 use Rattle.office_text.specs.declared.order.Order.{Order}
 use Rattle.office_text.specs.declared.order.Order.TheVariants as order
 use Rattle.delivery.specs.Messages.{Message, ReportToRelay, ReportToServer, VerdictToComputer, ReplyToRelay, named}
-use Rattle.office_rules.specs.Offices.{IsSoundComputer, PlayedComputer}
+use Rattle.office_rules.specs.Offices.{IsSoundComputer, PlayedComputer, most_kept}
 use Rattle.office_play.specs.Kept.{KeptOffice}
 
 -- ---- names
@@ -96,6 +96,7 @@ pub record IsGoodOffice (o : KeptOffice) : Type 0 where
   pub computers : All (IsGoodComputer o.relays) o.computers
   pub computers_found : FindsPlaces o.computer_places o.computers
   pub messages : All (CanArrive o.relays o.computers) o.messages
+  pub book : o.book.limit ≡ most_kept
 
 -- ---- orders
 -- A relay or a computer that the order names is new, and one that it speaks of is there.
@@ -110,4 +111,5 @@ KnowsNames o (order.Push relay) = IsNamed relay o.relays
 KnowsNames o (order.Report name) = IsNamed name o.computers
 KnowsNames o (order.Forward relay) = IsNamed relay o.relays
 KnowsNames o (order.Forget relay) = IsNamed relay o.relays
+KnowsNames o (order.Measure name moment) = IsNamed name o.computers
 KnowsNames o other = ⊤

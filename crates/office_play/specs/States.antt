@@ -3,6 +3,8 @@ use Rattle.std.specs.Prelude.{ℕ, List, map}
 use Rattle.std.specs.declared.option.Option.{Option}
 use Rattle.bf_world.specs.Worlds.{WorldState}
 use Rattle.desk_keep.specs.declared.change.Change.{Change}
+use Rattle.group_core.specs.Books.{BookState}
+use Rattle.group_sample.specs.Due.{AnalystState}
 use Rattle.relay_core.specs.Relays.{RelayState}
 use Rattle.agent_core.specs.Agents.{AgentState, shown_state}
 use Rattle.delivery.specs.Messages.{Message}
@@ -16,11 +18,19 @@ pub record ComputerState : Type 0 where
   pub saved : Option (List ℕ)
   pub world : WorldState
   pub again : WorldState
+  pub analyst : AnalystState
 
 -- the computer that it is
 abbrev pub shown_computer : ComputerState → PlayedComputer
 shown_computer c =
-    record { relay = c.relay; agent = shown_state c.agent; saved = c.saved; world = c.world; again = c.again }
+    record {
+      relay = c.relay;
+      agent = shown_state c.agent;
+      saved = c.saved;
+      world = c.world;
+      again = c.again;
+      analyst = c.analyst;
+    }
 
 -- so it is under its name
 abbrev pub shown_entry : List ℕ × ComputerState → List ℕ × PlayedComputer
@@ -34,6 +44,7 @@ pub record OfficeState : Type 0 where
   pub computers : List (List ℕ × ComputerState)
   pub computer_places : List (List ℕ × ℕ)
   pub messages : List Message
+  pub book : BookState
 
 -- the office that it is
 abbrev pub kept_of : OfficeState → KeptOffice
@@ -44,4 +55,5 @@ kept_of o = record {
   computers = map shown_entry o.computers;
   computer_places = o.computer_places;
   messages = o.messages;
+  book = o.book;
 }

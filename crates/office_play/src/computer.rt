@@ -11,6 +11,7 @@ use crate::restarting::opened;
 use agent_core::Agent;
 use agent_text::SurePocket;
 use bf_machine::{SureMachine, World};
+use group_core::Analyst;
 use rel_lexer::Text;
 use std::alloc::{AllocError, Global};
 use std::marker::Model;
@@ -26,6 +27,8 @@ pub(crate) struct PlayedComputer {
     pub(crate) machine: SureMachine,
     /// The world in which its commands are done again for their lines.
     pub(crate) again: World,
+    /// Who measures it.
+    pub(crate) analyst: Analyst,
 }
 
 impl Model for PlayedComputer {
@@ -46,6 +49,7 @@ impl Model for PlayedComputer {
         saved = c.pocket;
         world = c.machine.world;
         again = c.again;
+        analyst = c.analyst;
       },
     ) };
 }
@@ -104,6 +108,7 @@ impl PlayedComputer {
         ensures sound { IfOk result (λ computer. IsSound (new_state name)) }
     {
         let begun = begun(alloc, &name)?;
+        let analyst = Analyst::new(alloc, &name)?;
         Ok(PlayedComputer {
             name,
             relay,
@@ -111,6 +116,7 @@ impl PlayedComputer {
             pocket: begun.pocket,
             machine: worlds.machine,
             again: worlds.again,
+            analyst,
         })
     }
 }

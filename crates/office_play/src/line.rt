@@ -5,6 +5,7 @@ ghost use Rattle.office_rules.specs.OfficeLines.{about_line, words_line};
 ghost use Rattle.office_play.specs.Words.{spelled};
 
 use desk_base::{Bytes, decimal};
+use line_forms::write_signed_number;
 use std::alloc::AllocError;
 
 /// A word of a line.
@@ -15,6 +16,8 @@ pub(crate) enum Word<'a> {
     /// With a comma behind it.
     Comma(&'a str),
     Number(u64),
+    /// A number that may have a sign.
+    Signed(i64),
 }
 
 /// Appends a line of words. The error is want of memory, here and below, after which `out` is of no use.
@@ -68,5 +71,6 @@ fn say_word(word: &Word<'_>, out: &mut Bytes) -> Result<(), AllocError>
             out.extend(b",")
         }
         Word::Number(number) => decimal(*number, out),
+        Word::Signed(number) => write_signed_number(*number, out),
     }
 }

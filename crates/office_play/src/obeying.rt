@@ -39,6 +39,11 @@ impl Office {
             Order::Report(name) => self.report(&name, out),
             Order::Forward(relay) => self.forward(&relay, out),
             Order::Forget(relay) => self.forget(&relay, out),
+            Order::Analysis(analysis) => self.keep_analysis(&analysis, out),
+            Order::Group(group) => self.keep_group(&group, out),
+            Order::Measure { name, moment } => self.measure(&name, moment, out),
+            Order::Members(group) => self.list_members(&group, out),
+            Order::Target { group, action } => self.target(&group, &action, out),
         }
     }
 }

@@ -8,6 +8,7 @@ use crate::message::Message;
 use crate::relay::PlayedRelay;
 use bf_world::TextMap;
 use desk_keep::SureKeeper;
+use group_core::Book;
 use rel_lexer::Text;
 use std::alloc::Global;
 use std::marker::Model;
@@ -26,7 +27,12 @@ pub(crate) struct Office {
     pub(crate) computer_places: TextMap<usize>,
     /// In the order in which they were sent, of which the first has the number 1.
     pub(crate) messages: Vec<Message>,
+    /// What is measured, and the groups.
+    pub(crate) book: Book,
 }
+
+/// The most properties of the book, and the most groups.
+const MOST_KEPT: u64 = 1000;
 
 impl Model for Office {
     ghost use Rattle.std.specs.Prelude.{map};
@@ -46,6 +52,7 @@ impl Model for Office {
       computers = o.computers.items;
       computer_places = o.computer_places;
       messages = map shown_message o.messages.items;
+      book = o.book;
     } };
 }
 
@@ -62,6 +69,7 @@ impl Office {
             computers: Vec::new(alloc),
             computer_places: TextMap::new(alloc),
             messages: Vec::new(alloc),
+            book: Book::new(alloc, MOST_KEPT),
         }
     }
 
