@@ -86,6 +86,7 @@ arrives_at_relay law up old new name report place entry verdict number out writt
           carriers = carriers_changed name old.relays entry.1 w (carried report) found.1 (up entry.1 report);
           sites = sites_set name old.relays entry.1 w found.1 (up_sites entry.1 report);
           messages = ap (λ (m : Option Message). old.messages ++ option_to_list m) (sym answers);
+          book = refl;
         };
         tells = ((answer, verdict_word verdict, answers, refl, refl), refl);
         said_is = refl;
@@ -152,6 +153,7 @@ arrives_at_server report only old new name answer rows2 word digest number out w
           carriers = refl;
           sites = refl;
           messages = ap (λ (m : Option Message). old.messages ++ option_to_list m) (sym same);
+          book = refl;
         };
         tells = ((message, word, same, worded, refl), refl);
         said_is = refl;
@@ -208,6 +210,7 @@ notes law old new name key digest held answered place entry number out written a
           carriers = carriers_changed name old.relays entry.1 w (told key (held_by digest answered)) found.1 same;
           sites = sites_set name old.relays entry.1 w found.1 (sent_sites entry.1 key held);
           messages = sym (append-nil old.messages);
+          book = refl;
         };
         tells = (refl, refl);
         said_is = refl;
@@ -233,6 +236,7 @@ notes_none old name key digest answered number out written there good held_is wr
       carriers = sym (ap (λ h. changed name (told key h) (carriers_of old.relays)) held_is ∙ same_carriers name (carriers_of old.relays));
       sites = refl;
       messages = sym (append-nil old.messages);
+      book = refl;
     };
     tells = (refl, refl);
     said_is = refl;
@@ -260,7 +264,7 @@ settles old new name seq verdict place entry agent dropped number out written at
       said = delivered_line number (settled_word dropped ∷ []);
       does = record {
         words = settled_word dropped ∷ [];
-        reaches = record { accepted = refl; carriers = refl; sites = refl; messages = sym (append-nil old.messages) };
+        reaches = record { accepted = refl; carriers = refl; sites = refl; messages = sym (append-nil old.messages); book = refl };
         tells = (entry.1, agent, dropped, found.1, settled, refl, sym (changed_to name old.computers entry.1 w found.1));
         said_is = refl;
       };

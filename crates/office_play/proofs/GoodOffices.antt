@@ -1,11 +1,12 @@
 -- Good offices stay good.
-use Rattle.std.proofs.Common.{◌≡◌, ℕ, List, [], ◌∷◌, ◌++◌, sym, subst}
+use Rattle.std.proofs.Common.{◌≡◌, ℕ, List, [], ◌∷◌, ◌++◌, sym, subst, ◌∙◌}
 use Rattle.std.specs.Prelude.{bytes_eq, All, Some}
 use Rattle.std.specs.Map.{set_value}
 use Rattle.std.proofs.lemmas.List.Elements.{All-push, All-set}
 use Rattle.std.proofs.lemmas.Map.{keys-set_value}
 use Rattle.desk_keep.specs.declared.change.Change.{Change}
 use Rattle.report_text.specs.declared.report.Report.{Report}
+use Rattle.group_core.specs.Books.{BookState}
 use Rattle.relay_core.specs.Relays.{RelayState}
 use Rattle.delivery.specs.Messages.{Message, ReportToRelay, ReportToServer, VerdictToComputer, ReplyToRelay}
 use Rattle.office_rules.specs.Offices.{PlayedComputer}
@@ -47,6 +48,7 @@ relay_set o name p w at good one = record {
       record { sound = c.sound; name = c.name; mail = c.mail; relay = named_still _ name o.relays w c.relay };
   computers_found = good.computers_found;
   messages = λ i d h. relay_messages o.relays o.computers name w _ (good.messages i d h);
+  book = good.book;
 }
 
 -- ---- another computer
@@ -72,9 +74,10 @@ computer_set o name p w at good one = record {
   computers = all_set (IsGoodComputer o.relays) name o.computers p w at good.computers one;
   computers_found = finds_set o.computer_places name o.computers w good.computers_found;
   messages = λ i d h. computer_messages o.relays o.computers name w _ (good.messages i d h);
+  book = good.book;
 }
 
--- ---- one message more, and other rows
+-- ---- one message more, other rows, and another book
 pub message_sent : (o : KeptOffice) (message : Message) → IsGoodOffice o → CanArrive o.relays o.computers message
     → IsGoodOffice (record o { messages = o.messages ++ message ∷ [] })
 message_sent o message good can = record {
@@ -83,6 +86,7 @@ message_sent o message good can = record {
   computers = good.computers;
   computers_found = good.computers_found;
   messages = All-push (CanArrive o.relays o.computers) o.messages message good.messages can;
+  book = good.book;
 }
 
 pub rows_changed : (o : KeptOffice) (rows : List Change) → IsGoodOffice o → IsGoodOffice (record o { rows = rows })
@@ -92,4 +96,16 @@ rows_changed o rows good = record {
   computers = good.computers;
   computers_found = good.computers_found;
   messages = good.messages;
+  book = good.book;
+}
+
+pub book_changed : (o : KeptOffice) (book : BookState) → IsGoodOffice o → book.limit ≡ o.book.limit
+    → IsGoodOffice (record o { book = book })
+book_changed o book good same = record {
+  relays = good.relays;
+  relays_found = good.relays_found;
+  computers = good.computers;
+  computers_found = good.computers_found;
+  messages = good.messages;
+  book = same ∙ good.book;
 }

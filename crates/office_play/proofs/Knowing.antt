@@ -136,4 +136,5 @@ known done o (order.Push relay) relays computers h = there_by o.relays (flat_map
 known done o (order.Report name) relays computers h = there_by o.computers (flat_map added_computers done) computers name (computer_added done name h)
 known done o (order.Forward relay) relays computers h = there_by o.relays (flat_map added_relays done) relays relay (relay_added done relay h)
 known done o (order.Forget relay) relays computers h = there_by o.relays (flat_map added_relays done) relays relay (relay_added done relay h)
+known done o (order.Measure name moment) relays computers h = there_by o.computers (flat_map added_computers done) computers name (computer_added done name h)
 known done o other relays computers h = tt

@@ -20,3 +20,6 @@ mod ComputerWords
 mod MessageWords
 mod Playing
 mod Knowing
+mod GroupWords
+mod Aimed
+mod Measured

@@ -5,6 +5,7 @@ use Rattle.line_forms.specs.Names.{IsName}
 use Rattle.report_text.specs.declared.answer.Verdict.{Verdict}
 use Rattle.report_text.specs.declared.answer.Verdict.TheVariants as verdict
 use Rattle.bf_world.specs.Worlds.{WorldState}
+use Rattle.group_sample.specs.Due.{AnalystState, new_analyst}
 use Rattle.relay_core.specs.Relays.{RelayState}
 use Rattle.agent_text.specs.PocketStates.{sure_view}
 use Rattle.agent_state.specs.Changes.{SettlesState}
@@ -110,12 +111,12 @@ pub pocket_new : (name : List ℕ) → IsPocketOf name None
 pocket_new name = (record { computer = name; next = 1; outbox = []; saved_next = 1; saved_outbox = [] }, refl, (refl, refl))
 
 -- what the code sees of a computer that begins
-pub new_shown : (name relay : List ℕ) (own again : WorldState) (agent : AgentState) (saved : Option (List ℕ))
-    → shown_state agent ≡ new_state name → saved ≡ None
-    → shown_computer (record { relay = relay; agent = agent; saved = saved; world = own; again = again })
+pub new_shown : (name relay : List ℕ) (own again : WorldState) (agent : AgentState) (saved : Option (List ℕ)) (analyst : AnalystState)
+    → shown_state agent ≡ new_state name → saved ≡ None → analyst ≡ new_analyst name
+    → shown_computer (record { relay = relay; agent = agent; saved = saved; world = own; again = again; analyst = analyst })
     ≡ record (new_computer name relay own) { again = again }
-new_shown name relay own again agent saved fresh none =
-    λ k. record { relay = relay; agent = fresh k; saved = none k; world = own; again = again }
+new_shown name relay own again agent saved analyst fresh none unmeasured =
+    λ k. record { relay = relay; agent = fresh k; saved = none k; world = own; again = again; analyst = unmeasured k }
 
 -- of which both worlds are one
 pub new_of : (name relay : List ℕ) (own again world : WorldState) → own ≡ world → again ≡ world

@@ -69,6 +69,7 @@ names_relay old new name out good free is accepted rows = record {
         record { sound = c.sound; name = c.name; mail = c.mail; relay = named_more _ name w old.relays c.relay };
     computers_found = good.computers_found;
     messages = λ i d h. relay_messages old.relays old.computers name w _ (good.messages i d h);
+    book = good.book;
   });
 }
   where
@@ -115,6 +116,7 @@ names_computer old new name relay out world good free one is accepted rows = rec
     computers_found = finds_more old.computer_places (put name (length old.computers) old.computer_places) old.computers (old.computers ++ (name, w) ∷ []) name w
         good.computers_found free refl refl;
     messages = λ i d h. computer_messages old.relays old.computers name w _ (good.messages i d h);
+    book = good.book;
   });
 }
   where

@@ -63,6 +63,7 @@ begins orders a = record {
     computers = λ i d h. absurd (omega (arith, h));
     computers_found = λ name. refl;
     messages = λ i d h. absurd (omega (arith, h));
+    book = refl;
   };
   written = Appends-nil a;
   relays = refl;

@@ -4,7 +4,9 @@ use Rattle.std.specs.Prelude.{get_or, map, slice_set}
 use Rattle.std.proofs.Math.ListN.{get_or-map}
 use Rattle.std.proofs.lemmas.List.{map-set}
 use Rattle.desk_keep.specs.declared.change.Change.{Change}
+use Rattle.group_core.specs.Books.{BookState}
 use Rattle.relay_core.specs.Relays.{RelayState}
+use Rattle.office_play.specs.Kept.{KeptOffice}
 use Rattle.office_play.specs.States.{ComputerState, OfficeState, kept_of, shown_computer, shown_entry}
 
 -- the one at a place
@@ -46,3 +48,11 @@ computer_turned seen old place then rows is still =
     ap (λ (r : List Change). kept_of (record seen { rows = r; computers = slice_set seen.computers place then })) still
     ∙ ap (λ (o : OfficeState). kept_of (record o { computers = slice_set o.computers place then })) is
     ∙ set_seen old place then
+
+-- So it is of a computer that was measured, with another book.
+pub computer_measured : (seen old : OfficeState) (place : ℕ) (then : List ℕ × ComputerState) (book : BookState) → seen ≡ old
+    → kept_of (record seen { computers = slice_set seen.computers place then; book = book })
+    ≡ record (kept_of old) { computers = slice_set (kept_of old).computers place (shown_entry then); book = book }
+computer_measured seen old place then book is =
+    ap (λ (o : OfficeState). kept_of (record o { computers = slice_set o.computers place then; book = book })) is
+    ∙ ap (λ (o : KeptOffice). record o { book = book }) (set_seen old place then)

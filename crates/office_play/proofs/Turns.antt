@@ -58,6 +58,7 @@ pub computer_turns : (name : List ℕ) (moment : ℤ) (accepted : List Entry) (s
       saved = then.pocket;
       world = then.machine.world;
       again = world_after moment old.again then.machine.acted;
+      analyst = old.analyst;
     } → said ≡ do_lines (answers_from moment old.again then.machine.acted) ++ turn_line name moment answer
     → TurnsComputer name moment accepted sites old said new
 computer_turns name moment accepted sites old gathered answer then new said gathers made is said_is =
@@ -72,6 +73,7 @@ computer_turns name moment accepted sites old gathered answer then new said gath
       memory = made.memory;
       tells = record { world = refl; acted = refl; saved = refl; machine_faults = refl; pocket_faults = refl };
       relay = refl;
+      analyst = refl;
       again = refl;
       said_is = said_is;
     })
@@ -133,6 +135,7 @@ pub turned_entry : (moment : ℤ) (rows : List Change) (sites : List Site) (seen
       saved = then.pocket;
       world = then.machine.world;
       again = world_after moment seen.1.again acted;
+      analyst = seen.1.analyst;
     } → mid ≡ out ++ do_lines (answers_from moment seen.1.again acted) → written ≡ mid ++ turn_line seen.0 moment answer
     → TurnsOver moment rows sites (shown_entry old) out (seen.0, new) written
 turned_entry moment rows sites seen old gathered answer then begun acted new out mid written is begun_is acted_is gathers makes new_is lines line =
@@ -144,7 +147,7 @@ turned_entry moment rows sites seen old gathered answer then begun acted new out
     let made = subst (λ (m : SureState). MakesTurns moment accepted (record { agent = gathered; machine = m; pocket = seen.1.saved }) answer then) begun_is
     (makes accepted are) in
     let became = new_is
-    ∙ ap (λ (a : List Command). record { relay = seen.1.relay; agent = then.agent; saved = then.pocket; world = then.machine.world; again = world_after moment again a })
+    ∙ ap (λ (a : List Command). record { relay = seen.1.relay; agent = then.agent; saved = then.pocket; world = then.machine.world; again = world_after moment again a; analyst = seen.1.analyst })
     acted_is in (
       done ++ last,
       computer_turns seen.0 moment accepted sites (shown_computer seen.1) gathered answer then new (done ++ last) gathers made became refl,

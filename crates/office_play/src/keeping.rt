@@ -33,7 +33,7 @@ impl Office {
 
     /// The book gets a group.
     pub(crate) fn keep_group(&mut self, group: &Group, out: &mut Bytes) -> Result<(), AllocError>
-        requires good { IsGoodOffice (kept_of self.old) }
+        requires { IsGoodOffice (kept_of self.old) }
         ensures plays { OnOk result (Plays (KeepsGroup group.now) (kept_of self.old) out.old (kept_of self.new) out.new) }
         ensures names { OnOk result (KeepsNames (kept_of self.old) (kept_of self.new)) }
     {

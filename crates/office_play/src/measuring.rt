@@ -1,9 +1,7 @@
 // The word `measure`.
-ghost use Rattle.std.specs.Prelude.{◌≡◌, ◌<◌, ◌^◌, length, IfOk, IfSome, OnOk};
+ghost use Rattle.std.specs.Prelude.{◌≡◌, IfOk, OnOk};
 ghost use Rattle.desk_base.specs.Moments.{IsMoment};
-ghost use Rattle.group_sample.specs.declared.sample.Sample.{Sample};
 ghost use Rattle.group_sample.specs.Due.{CanBeMeasured};
-ghost use Rattle.group_sample.specs.Samples.{AreRows};
 ghost use Rattle.office_rules.specs.GroupWords.{Measures, MeasuresComputer, PutsTaken, rows_taken};
 ghost use Rattle.office_play.specs.Links.{IsGoodOffice, IsNamed, KeepsNames};
 ghost use Rattle.office_play.specs.Measuring.{HasRows, taken_of};
@@ -35,7 +33,7 @@ impl Office {
         let place = self.computer_place(name);
         let properties = self.book.properties();
         let taken = self.computers[place].measure(self.alloc, properties, moment)?;
-        let rows = put_taken(&mut self.book, taken.as_ref())?;
+        let rows = put_taken(&mut self.book, taken)?;
         say_about(
             &[
                 Word::Text("measure"),
@@ -77,7 +75,7 @@ impl PlayedComputer {
 }
 
 /// Puts what was taken into the book, and says how many rows that has.
-fn put_taken(book: &mut Book, taken: Option<&Sample>) -> Result<u64, AllocError>
+fn put_taken(book: &mut Book, taken: Option<Sample>) -> Result<u64, AllocError>
     requires { HasRows taken }
     ensures puts { IfOk result (λ rows. PutsTaken book.old (taken_of taken) book.new) }
     ensures rows { IfOk result (λ rows. rows ≡ rows_taken (taken_of taken)) }
@@ -85,7 +83,7 @@ fn put_taken(book: &mut Book, taken: Option<&Sample>) -> Result<u64, AllocError>
     let Some(sample) = taken else {
         return Ok(0);
     };
-    match book.put(sample) {
+    match book.put(&sample) {
         PutAnswer::Changed(_) => Ok(sample.rows.as_slice().len() as u64),
         PutAnswer::Memory => Err(AllocError),
     }

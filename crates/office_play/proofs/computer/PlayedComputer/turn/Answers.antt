@@ -16,7 +16,7 @@ use Rattle.office_play.proofs.computer.PlayedComputer.turn.Goals as goal
 pub turned-requires : goal.turned-requires
 turned-requires c =
     let i = c.self.inside in
-    let seen : List ℕ × ComputerState = (i.name, record { relay = i.relay; agent = i.agent; saved = i.pocket; world = i.machine.world; again = i.again }) in
+    let seen : List ℕ × ComputerState = (i.name, record { relay = i.relay; agent = i.agent; saved = i.pocket; world = i.machine.world; again = i.again; analyst = i.analyst }) in
     let is : seen ≡ c.args.self.now = c.self.view_is in
     let waits : HeldWaitsBelow (length i.machine.world.started) (shown_state i.agent).held =
     subst (λ (e : List ℕ × ComputerState). HeldWaitsBelow (length e.1.world.started) (shown_state e.1.agent).held) (sym is) c.requires.sound.waits in
@@ -37,16 +37,16 @@ pub returns-clause-turns : goal.returns-clause-turns
 returns-clause-turns c =
     let i = c.self.inside in
     let then : Turner = record { agent = shown_state c.turned.new.agent; machine = c.turned.new.machine; pocket = c.turned.new.pocket } in
-    let seen : List ℕ × ComputerState = (i.name, record { relay = i.relay; agent = i.agent; saved = i.pocket; world = i.machine.world; again = i.again }) in
+    let seen : List ℕ × ComputerState = (i.name, record { relay = i.relay; agent = i.agent; saved = i.pocket; world = i.machine.world; again = i.again; analyst = i.analyst }) in
     let new : PlayedComputer =
-    record { relay = i.relay; agent = then.agent; saved = then.pocket; world = then.machine.world; again = c.say_again.new.world } in
+    record { relay = i.relay; agent = then.agent; saved = then.pocket; world = then.machine.world; again = c.say_again.new.world; analyst = i.analyst } in
     on_ok_weaker c.say_turn.result
     (λ said. subst (λ (m : ℤ). TurnsOver m c.args.keeper.now c.args.sites.now (shown_entry c.args.self.now) c.args.out.now (i.name, new) c.say_turn.new.out)
     (to_z-of_z w64 c.args.moment c.ranges.moment)
     (turned_entry (to_z w64 (of_z w64 c.args.moment)) c.args.keeper.now c.args.sites.now seen c.args.self.now (shown_state c.gather_each.new.agent) c.in_ok-turned.turned then
     c.begin_anew.new.self c.acted.result.now new c.args.out.now c.say_again.new.out c.say_turn.new.out c.self.view_is c.begin_anew.ensures c.acted.ensures.acted
     c.in_ok-gather_each.ensures.gathers c.in_ok-turned.ensures.turns
-    (λ k. record { relay = i.relay; agent = then.agent; saved = then.pocket; world = then.machine.world; again = c.in_ok-say_again.ensures.world k })
+    (λ k. record { relay = i.relay; agent = then.agent; saved = then.pocket; world = then.machine.world; again = c.in_ok-say_again.ensures.world k; analyst = i.analyst })
     c.in_ok-say_again.ensures.lines said))
     c.say_turn.ensures
 

@@ -7,12 +7,13 @@ use Rattle.office_text.specs.declared.order.Order.{Order}
 use Rattle.office_text.specs.declared.order.Order.TheVariants as order
 use Rattle.office_text.specs.Orders.{IsOrder}
 use Rattle.office_rules.specs.ComputerWords.{Turns}
+use Rattle.office_rules.specs.GroupWords.{Measures}
 use Rattle.office_rules.specs.Plays.{Obeys}
 use Rattle.office_play.specs.Kept.{KeptOffice}
 use Rattle.office_play.specs.Links.{AddsNames, KnowsNames, added_computers, added_relays}
 use Rattle.office_play.specs.Played.{Plays}
 use Rattle.office_play.specs.States.{kept_of}
-use Rattle.office_play.proofs.Names.{adds_none}
+use Rattle.office_play.proofs.Names.{adds_none, keeps_same}
 use Rattle.office_play.proofs.Turns.{moment_fits}
 use Rattle.office_play.proofs.office.Office.obey.Goals as goal
 
@@ -26,9 +27,12 @@ module _ {E : Type 0} (result : Result (Unit {0}) E) (given other : Order) (old 
       → OnOk result (AddsNames (added_relays given) (added_computers given) old new)
   adds is names = subst (λ (o : Order). OnOk result (AddsNames (added_relays o) (added_computers o) old new)) (sym is) names
 
--- the moment of a turn
+-- the moment of a turn, and of a measuring
 turn_moment : (o : Order) (name : List ℕ) (moment : ℤ) → o ≡ order.Turn name moment → IsOrder o → IsMoment moment
 turn_moment o name moment is good = (subst IsOrder is good).1
+
+measure_moment : (o : Order) (name : List ℕ) (moment : ℤ) → o ≡ order.Measure name moment → IsOrder o → IsMoment moment
+measure_moment o name moment is good = (subst IsOrder is good).1
 
 pub returns-in-Publish-clause-plays : goal.returns-in-Publish-clause-plays
 returns-in-Publish-clause-plays c =
@@ -236,3 +240,63 @@ pub returns-in-Forget-clause-names : goal.returns-in-Forget-clause-names
 returns-in-Forget-clause-names c =
     adds c.forget.result c.args.order _ (kept_of c.args.self.now) (kept_of c.forget.new.self) c.in-Forget.is
     (on_ok_weaker c.forget.result (adds_none (kept_of c.args.self.now) (kept_of c.forget.new.self)) c.forget.ensures.names)
+
+pub keep_analysis-requires : goal.keep_analysis-requires
+keep_analysis-requires c = record { good = c.requires.good; properties = subst IsOrder c.in-Analysis.is c.requires.order }
+
+pub returns-in-Analysis-clause-plays : goal.returns-in-Analysis-clause-plays
+returns-in-Analysis-clause-plays c =
+    obeyed c.keep_analysis.result c.args.order _ (kept_of c.args.self.now) (kept_of c.keep_analysis.new.self) c.args.out.now c.keep_analysis.new.out c.in-Analysis.is c.keep_analysis.ensures.plays
+
+pub returns-in-Analysis-clause-names : goal.returns-in-Analysis-clause-names
+returns-in-Analysis-clause-names c =
+    adds c.keep_analysis.result c.args.order _ (kept_of c.args.self.now) (kept_of c.keep_analysis.new.self) c.in-Analysis.is
+    (on_ok_weaker c.keep_analysis.result (adds_none (kept_of c.args.self.now) (kept_of c.keep_analysis.new.self)) c.keep_analysis.ensures.names)
+
+pub returns-in-Group-clause-plays : goal.returns-in-Group-clause-plays
+returns-in-Group-clause-plays c =
+    obeyed c.keep_group.result c.args.order _ (kept_of c.args.self.now) (kept_of c.keep_group.new.self) c.args.out.now c.keep_group.new.out c.in-Group.is c.keep_group.ensures.plays
+
+pub returns-in-Group-clause-names : goal.returns-in-Group-clause-names
+returns-in-Group-clause-names c =
+    adds c.keep_group.result c.args.order _ (kept_of c.args.self.now) (kept_of c.keep_group.new.self) c.in-Group.is
+    (on_ok_weaker c.keep_group.result (adds_none (kept_of c.args.self.now) (kept_of c.keep_group.new.self)) c.keep_group.ensures.names)
+
+pub measure-requires : goal.measure-requires
+measure-requires c = record {
+  good = c.requires.good;
+  name = subst (KnowsNames (kept_of c.args.self.now)) c.in-Measure.is c.requires.names;
+  moment = let m = measure_moment c.args.order c.in-Measure.name c.in-Measure.moment c.in-Measure.is c.requires.order in
+      subst IsMoment (sym (to_z-of_z w64 c.in-Measure.moment (moment_fits c.in-Measure.moment m))) m;
+}
+
+pub returns-in-Measure-clause-plays : goal.returns-in-Measure-clause-plays
+returns-in-Measure-clause-plays c =
+    let moment = c.in-Measure.moment in
+    let fits = moment_fits moment (measure_moment c.args.order c.in-Measure.name moment c.in-Measure.is c.requires.order) in
+    obeyed c.measure.result c.args.order _ (kept_of c.args.self.now) (kept_of c.measure.new.self) c.args.out.now c.measure.new.out c.in-Measure.is
+    (subst (λ (m : ℤ). OnOk c.measure.result (Plays (Measures c.in-Measure.name m) (kept_of c.args.self.now) c.args.out.now (kept_of c.measure.new.self) c.measure.new.out)) (to_z-of_z w64 moment fits)
+    c.measure.ensures.plays)
+
+pub returns-in-Measure-clause-names : goal.returns-in-Measure-clause-names
+returns-in-Measure-clause-names c =
+    adds c.measure.result c.args.order _ (kept_of c.args.self.now) (kept_of c.measure.new.self) c.in-Measure.is
+    (on_ok_weaker c.measure.result (adds_none (kept_of c.args.self.now) (kept_of c.measure.new.self)) c.measure.ensures.names)
+
+pub returns-in-Members-clause-plays : goal.returns-in-Members-clause-plays
+returns-in-Members-clause-plays c =
+    obeyed c.list_members.result c.args.order _ (kept_of c.args.self.now) (kept_of c.args.self.now) c.args.out.now c.list_members.new.out c.in-Members.is c.list_members.ensures
+
+pub returns-in-Members-clause-names : goal.returns-in-Members-clause-names
+returns-in-Members-clause-names c =
+    adds c.list_members.result c.args.order _ (kept_of c.args.self.now) (kept_of c.args.self.now) c.in-Members.is
+    (on_ok_weaker c.list_members.result (λ said. adds_none (kept_of c.args.self.now) (kept_of c.args.self.now) (keeps_same (kept_of c.args.self.now))) c.list_members.ensures)
+
+pub returns-in-Target-clause-plays : goal.returns-in-Target-clause-plays
+returns-in-Target-clause-plays c =
+    obeyed c.target.result c.args.order _ (kept_of c.args.self.now) (kept_of c.target.new.self) c.args.out.now c.target.new.out c.in-Target.is c.target.ensures.plays
+
+pub returns-in-Target-clause-names : goal.returns-in-Target-clause-names
+returns-in-Target-clause-names c =
+    adds c.target.result c.args.order _ (kept_of c.args.self.now) (kept_of c.target.new.self) c.in-Target.is
+    (on_ok_weaker c.target.result (adds_none (kept_of c.args.self.now) (kept_of c.target.new.self)) c.target.ensures.names)

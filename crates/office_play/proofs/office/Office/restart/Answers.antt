@@ -39,7 +39,7 @@ returns-clause-plays c =
     let w : ComputerState = record entry.1 { agent = agent } in
     let i = c.computer.inside in
     let item =
-    ap (λ (s : Option (List ℕ)). (i.name, record { relay = i.relay; agent = agent; saved = s; world = i.machine.world; again = i.again })) c.opened.ensures.pocket
+    ap (λ (s : Option (List ℕ)). (i.name, record { relay = i.relay; agent = agent; saved = s; world = i.machine.world; again = i.again; analyst = i.analyst })) c.opened.ensures.pocket
     ∙ ap (λ (e : List ℕ × ComputerState). (e.0, record e.1 { agent = agent })) c.computer.view_is in
     let opens = subst (λ (e : List ℕ × ComputerState). OpensAgent c.args.name.now (Some e.1.saved) (opened.Agent agent)) c.computer.view_is c.in_ok-agent.ensures.agent in
     on_ok_weaker c.say_words.result
@@ -60,7 +60,7 @@ returns-clause-names c =
     let w : ComputerState = record entry.1 { agent = agent } in
     let i = c.computer.inside in
     let item =
-    ap (λ (s : Option (List ℕ)). (i.name, record { relay = i.relay; agent = agent; saved = s; world = i.machine.world; again = i.again })) c.opened.ensures.pocket
+    ap (λ (s : Option (List ℕ)). (i.name, record { relay = i.relay; agent = agent; saved = s; world = i.machine.world; again = i.again; analyst = i.analyst })) c.opened.ensures.pocket
     ∙ ap (λ (e : List ℕ × ComputerState). (e.0, record e.1 { agent = agent })) c.computer.view_is in
     on_ok_weaker c.say_words.result
     (λ said. keeps_computer_set c.args.name.now (kept_of old) _ place (shown_entry entry) (shown_computer w) c.computer_place-place.ensures
