@@ -1,67 +1,16 @@
 -- The lines of an action that is aimed at computers.
-use Rattle.std.proofs.Common.{◌≡◌, ◌≢◌, ℕ, ◌+◌, ◌<◌, Bool, true, false, cond, List, [], ◌∷◌, ◌++◌, length, take, refl, sym, ap, ◌∙◌}
-use Rattle.std.specs.Prelude.{bytes_eq, codes, flat_map, get_or, map}
+use Rattle.std.proofs.Common.{◌≡◌, ℕ, ◌+◌, ◌<◌, Bool, List, [], ◌∷◌, ◌++◌, length, take, sym, ap, ◌∙◌}
+use Rattle.std.specs.Prelude.{codes, flat_map, get_or, map}
 use Rattle.std.proofs.lemmas.List.{append_assoc, append-nil, map-append, take_more}
 use Rattle.std.proofs.lemmas.List.Concat.{flat_map-append}
 use Rattle.line_forms.specs.Lines.{ended_line, lines_text}
 use Rattle.line_forms.specs.LineStates.{LineState}
 use Rattle.line_forms.specs.Readers.{Passes}
 use Rattle.fix_site.specs.Actions as action
-use Rattle.office_rules.specs.GroupWords.{aimed_lines, all_line}
 use Rattle.office_play.specs.Aiming.{rest_aimed}
-use Rattle.office_play.proofs.Places.{is_same, same_name}
 
-pub flat_map_push : (f : List ℕ → List ℕ) (xs : List (List ℕ)) (x : List ℕ) → flat_map f (xs ++ x ∷ []) ≡ flat_map f xs ++ f x
+flat_map_push : (f : List ℕ → List ℕ) (xs : List (List ℕ)) (x : List ℕ) → flat_map f (xs ++ x ∷ []) ≡ flat_map f xs ++ f x
 flat_map_push f xs x = flat_map-append f xs (x ∷ []) ∙ ap (λ l. flat_map f xs ++ l) (append-nil (f x))
-
--- the first line for all computers
-pub aims : (line : List ℕ) (computers more : List (List ℕ)) → line ≡ all_line
-    → aimed_lines computers (line ∷ more) ≡ map action.computer_line computers ++ more
-aims line computers more is =
-    ap (λ b. cond b (map action.computer_line computers ++ more) (line ∷ aimed_lines computers more)) (is_same line all_line is)
-
--- another line
-pub passes : (line : List ℕ) (computers more : List (List ℕ)) → line ≢ all_line
-    → aimed_lines computers (line ∷ more) ≡ line ∷ aimed_lines computers more
-passes line computers more never = by (bytes_eq line all_line) refl
-  where
-    by : (b : Bool) → bytes_eq line all_line ≡ b
-        → cond b (map action.computer_line computers ++ more) (line ∷ aimed_lines computers more) ≡ line ∷ aimed_lines computers more
-    by true is = absurd (never (same_name line all_line is))
-    by false is = refl
-
--- It is appended where such a line stood before, or it isn't one.
-pub line_said : (is_aimed : Bool) (computers : List (List ℕ)) (line out then : List ℕ) → (is_aimed ≡ false → line ≢ all_line)
-    → then ≡ out ++ ended_line line
-    → (more : List (List ℕ)) → then ++ lines_text (rest_aimed is_aimed computers more)
-    ≡ out ++ lines_text (rest_aimed is_aimed computers (line ∷ more))
-line_said true computers line out then other is more =
-    ap (λ t. t ++ lines_text more) is ∙ append_assoc out (ended_line line) (lines_text more)
-line_said false computers line out then other is more =
-    ap (λ t. t ++ lines_text (aimed_lines computers more)) is ∙ append_assoc out (ended_line line) (lines_text (aimed_lines computers more))
-    ∙ ap (λ l. out ++ lines_text l) (sym (passes line computers more (other refl)))
-
--- One line for each computer is appended in its place.
-pub computers_said : (is_aimed : Bool) (computers : List (List ℕ)) (line out then : List ℕ) → is_aimed ≡ false → line ≡ all_line
-    → then ≡ out ++ lines_text (map action.computer_line computers)
-    → (more : List (List ℕ)) → then ++ lines_text (rest_aimed true computers more)
-    ≡ out ++ lines_text (rest_aimed is_aimed computers (line ∷ more))
-computers_said true computers line out then not_yet here is more = absurd cc
-computers_said false computers line out then not_yet here is more =
-    let lines = map action.computer_line computers in
-    ap (λ t. t ++ lines_text more) is ∙ append_assoc out (lines_text lines) (lines_text more)
-    ∙ ap (λ t. out ++ t) (sym (flat_map-append ended_line lines more))
-    ∙ ap (λ l. out ++ lines_text l) (sym (aims line computers more here))
-
--- Nothing is left.
-pub all_said : (is_aimed : Bool) (computers left : List (List ℕ)) (out all : List ℕ) → left ≡ []
-    → out ++ lines_text (rest_aimed is_aimed computers left) ≡ all → out ≡ all
-all_said is_aimed computers left out all none h =
-    sym (append-nil out) ∙ ap (λ t. out ++ t) (sym (no_lines is_aimed)) ∙ ap (λ l. out ++ lines_text (rest_aimed is_aimed computers l)) (sym none) ∙ h
-  where
-    no_lines : (b : Bool) → lines_text (rest_aimed b computers []) ≡ []
-    no_lines true = refl
-    no_lines false = refl
 
 -- One line more is said.
 pub goes_on : (is_aimed then_aimed : Bool) (computers : List (List ℕ)) (old new : LineState) (line out then all : List ℕ)

@@ -145,7 +145,7 @@ measured old new name moment place entry then answer book out written at is good
       said = about_line (codes "measure" ∷ name ∷ signed_decimal moment ∷ []) (decimal (rows_taken answer) ∷ codes "rows" ∷ []);
       does = record {
         computer = entry.1;
-        then = then;
+        measured = then;
         answer = answer;
         book = book;
         here = found.1;

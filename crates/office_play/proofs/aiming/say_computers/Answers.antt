@@ -1,8 +1,4 @@
-use Rattle.std.proofs.Common.{◌≡◌, ◌<◌, ◌≤◌, ◌++◌, List, ℕ, [], ◌∷◌, length, take, arith, refl, ap, ◌∙◌}
-use Rattle.std.specs.Prelude.{codes, map}
-use Rattle.std.proofs.lemmas.List.{append_assoc, take_all}
-use Rattle.line_forms.specs.Lines.{lines_text}
-use Rattle.fix_site.specs.Actions as action
+use Rattle.std.proofs.Common.{◌<◌, List, ℕ, ◌++◌, length, arith, ap, ◌∙◌}
 use Rattle.office_play.proofs.Aimed.{computer_more, written_line}
 use Rattle.office_play.proofs.aiming.say_computers.Goals as goal
 
