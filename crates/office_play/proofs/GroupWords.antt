@@ -1,5 +1,5 @@
 -- The words of analyses and groups.
-use Rattle.std.proofs.Common.{◌≡◌, ◌≢◌, ℕ, ℤ, List, [], ◌∷◌, ◌++◌, Option, Some, None, inl, inr, refl, sym, ap, subst, ◌∙◌}
+use Rattle.std.proofs.Common.{◌≡◌, ◌≢◌, ℕ, ℤ, List, [], ◌∷◌, ◌++◌, Some, length, arith, inl, inr, refl, sym, ap, subst, ◌∙◌}
 use Rattle.std.specs.Prelude.{bytes_eq, codes, decimal, get_or, slice_set, Result, Ok, Err, OnOk}
 use Rattle.std.specs.Fmt.{signed_decimal}
 use Rattle.std.specs.Map.{keys_of, set_value}
@@ -16,12 +16,13 @@ use Rattle.group_core.specs.declared.book.Added.{Added}
 use Rattle.group_core.specs.declared.book.Added.TheVariants as added
 use Rattle.group_core.specs.declared.book.Defined.{Defined}
 use Rattle.group_core.specs.declared.book.Defined.TheVariants as defined
-use Rattle.group_core.specs.Books.{AddsAnalysis, BookState, DefinesGroup, HasMembers}
+use Rattle.group_core.specs.Books.{AddsAnalysis, BookState, DefinesGroup, HasGroup, HasMembers}
 use Rattle.office_rules.specs.Deeds.{Deed}
-use Rattle.office_rules.specs.GroupWords.{KeepsAnalysis, KeepsGroup, Measures, MeasuresComputer, PutsTaken, TargetsGroup, HasNoMember, added_words, aimed, defined_words, rows_taken}
+use Rattle.office_rules.specs.GroupWords.{HasNoMember, KeepsAnalysis, KeepsGroup, Measures, MeasuresComputer, PutsTaken, SaysMembers, TargetsGroup, added_words, aimed, defined_words, rows_taken}
 use Rattle.office_rules.specs.OfficeLines.{about_line, nothing_line}
 use Rattle.office_rules.specs.Offices.{Office, PlayedComputer}
 use Rattle.office_rules.specs.ServerWords.{AsksServer}
+use Rattle.office_play.specs.Aiming.{IsAimedAt}
 use Rattle.office_play.specs.Kept.{AreRowsOf, KeptOffice, office_of}
 use Rattle.office_play.specs.Links.{IsGoodComputer, IsGoodOffice, IsPlaceOf, KeepsNames}
 use Rattle.office_play.specs.Played.{Plays}
@@ -112,7 +113,7 @@ keeps_group old new group answer book out written good defines is memory said_is
 
 -- ---- measure
 puts_limit : (old : BookState) (answer : Taken) (new : BookState) → PutsTaken old answer new → new.limit ≡ old.limit
-puts_limit old (taken.Sample sample) new h = ap (λ (book : BookState). book.limit) h.2
+puts_limit old (taken.Sample sample) new h = ap (λ (book : BookState). book.limit) h.1.1
 puts_limit old taken.Nothing new h = limit_of new old h
 puts_limit old taken.Memory new h = absurd h
 
@@ -169,7 +170,26 @@ keeps_measured old new name place entry then book at is new_is = record {
   computers_are = ap (λ (o : KeptOffice). keys_of o.computers) new_is ∙ keys_stay name old.computers place entry then at.first is;
 }
 
+-- ---- members
+pub says_none : (old : KeptOffice) (name out written : List ℕ) → IsGoodOffice old → ¬ HasGroup old.book.groups name
+    → written ≡ out ++ nothing_line (codes "members" ∷ name ∷ []) → Plays (SaysMembers name) old out old written
+says_none old name out written good none said_is =
+    plays_same (SaysMembers name) old (nothing_line (codes "members" ∷ name ∷ [])) out written good said_is
+    (λ accepted. (refl, inr (none, refl)))
+
 -- ---- target
+-- A group without members has none.
+pub no_members : (book : BookState) (name : List ℕ) (members : List (List ℕ)) → HasMembers book name members → length members ≡ 0
+    → HasNoMember book name
+no_members book name [] has none = inr has
+no_members book name (first ∷ more) has none = absurd (omega (arith, none))
+
+-- The text is aimed at those that it has.
+pub some_members : (book : BookState) (name text : List ℕ) (members : List (List ℕ)) (then : List ℕ) → HasMembers book name members
+    → ¬ (length members ≡ 0) → then ≡ aimed members text → IsAimedAt book name text (Some then)
+some_members book name text [] then has some is = absurd (some refl)
+some_members book name text (first ∷ more) then has some is = (first, more, has, is)
+
 pub targets : (old new : KeptOffice) (name text first : List ℕ) (more : List (List ℕ)) (then out written : List ℕ)
     → HasMembers old.book name (first ∷ more) → then ≡ aimed (first ∷ more) text
     → Plays (AsksServer (codes "target") (request.Act then)) old out new written → Plays (TargetsGroup name text) old out new written

@@ -22,4 +22,3 @@ mod Playing
 mod Knowing
 mod GroupWords
 mod Aimed
-mod Measured

@@ -36,11 +36,12 @@ impl Office {
     fn aimed_at(&self, group: &Text, action: &Bytes) -> Result<Option<Bytes>, AllocError>
         ensures { IfOk result (IsAimedAt (kept_of self.now).book group.now action.now) }
     {
-        match self.book.members(group) {
-            Some(members) if !members.is_empty() => {
-                Ok(Some(aimed(self.alloc, members, action.as_slice())?))
-            }
-            _ => Ok(None),
+        let Some(members) = self.book.members(group) else {
+            return Ok(None);
+        };
+        if members.is_empty() {
+            return Ok(None);
         }
+        Ok(Some(aimed(self.alloc, members, action.as_slice())?))
     }
 }
