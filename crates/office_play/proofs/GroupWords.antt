@@ -1,8 +1,9 @@
 -- The words of analyses and groups.
-use Rattle.std.proofs.Common.{◌≡◌, ◌≢◌, ℕ, ℤ, List, [], ◌∷◌, ◌++◌, Some, length, arith, inl, inr, refl, sym, ap, subst, ◌∙◌}
-use Rattle.std.specs.Prelude.{bytes_eq, codes, decimal, get_or, slice_set, Result, Ok, Err, OnOk}
+use Rattle.std.proofs.Common.{◌≡◌, ◌≢◌, ℕ, ℤ, List, [], ◌∷◌, ◌++◌, Some, true, false, true≢false, arith, length, inl, inr, refl, sym, ap, subst, ◌∙◌}
+use Rattle.std.specs.Prelude.{◌==◌, bytes_eq, codes, decimal, get_or, slice_set, Result, Ok, Err, OnOk}
 use Rattle.std.specs.Fmt.{signed_decimal}
 use Rattle.std.specs.Map.{keys_of, set_value}
+use Rattle.std.proofs.lemmas.Bool.Decides.{nat_tests}
 use Rattle.relay_core.specs.Relays.{RelayState}
 use Rattle.server_text.specs.Entries.{Entry}
 use Rattle.server_text.specs.declared.request.Request.TheVariants as request
@@ -179,15 +180,15 @@ says_none old name out written good none said_is =
 
 -- ---- target
 -- A group without members has none.
-pub no_members : (book : BookState) (name : List ℕ) (members : List (List ℕ)) → HasMembers book name members → length members ≡ 0
-    → HasNoMember book name
-no_members book name [] has none = inr has
-no_members book name (first ∷ more) has none = absurd (omega (arith, none))
+pub no_members : (book : BookState) (name : List ℕ) (members : List (List ℕ)) → HasMembers book name members
+    → (length members == 0) ≡ true → HasNoMember book name
+no_members book name [] has empty = inr has
+no_members book name (first ∷ more) has empty = absurd (grind (arith, nat_tests))
 
 -- The text is aimed at those that it has.
 pub some_members : (book : BookState) (name text : List ℕ) (members : List (List ℕ)) (then : List ℕ) → HasMembers book name members
-    → ¬ (length members ≡ 0) → then ≡ aimed members text → IsAimedAt book name text (Some then)
-some_members book name text [] then has some is = absurd (some refl)
+    → (length members == 0) ≡ false → then ≡ aimed members text → IsAimedAt book name text (Some then)
+some_members book name text [] then has some is = absurd (true≢false some)
 some_members book name text (first ∷ more) then has some is = (first, more, has, is)
 
 pub targets : (old new : KeptOffice) (name text first : List ℕ) (more : List (List ℕ)) (then out written : List ℕ)

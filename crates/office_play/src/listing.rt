@@ -29,11 +29,7 @@ impl Office {
 }
 
 /// Says the members of a group, and how many they are.
-fn say_members<'a>(
-    group: &'a Text,
-    members: &'a [Text],
-    out: &mut Bytes,
-) -> Result<(), AllocError>
+fn say_members<'a>(group: &'a Text, members: &'a [Text], out: &mut Bytes) -> Result<(), AllocError>
     ensures { OnOk result (out.new ≡ out.old ++ members_lines group.now members.now) }
 {
     for member in members {
