@@ -11,8 +11,9 @@ use Rattle.report_text.specs.declared.report.Report.{Report}
 use Rattle.report_text.specs.Reports.{report_lines, report_text, computer_line, end_line}
 use Rattle.agent_text.specs.declared.saved.Saved.{Saved}
 use Rattle.agent_text.specs.Histories.{PlainHistory, pending_ids}
-use Rattle.agent_text.specs.SavedTexts.{agent_line, next_line, history_lines, pending_line, saved_text}
-use Rattle.agent_text.specs.PartWritings.{head_text, history_text, pending_text}
+use Rattle.agent_text.specs.SavedTexts.{agent_line, next_line, pending_line, saved_text}
+use Rattle.agent_text.specs.HistoryLines.{history_lines, history_text}
+use Rattle.agent_text.specs.PartWritings.{head_text, pending_text}
 
 -- ---- a loop over items, for which all there is room
 -- the next item has room

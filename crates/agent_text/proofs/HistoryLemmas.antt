@@ -1,9 +1,11 @@
 -- Histories in ascending order of their actions stay what can be saved as they change.
-use Rattle.std.proofs.Common.{ℕ, zero, suc, ◌≡◌, ◌+◌, ◌<◌, ◌^◌, ℤ, List, [], ◌∷◌, ◌++◌, length, Bool, true, false, cond, refl, sym, ap, ◌∙◌, subst, arith, get_or, map, length-append, Option, Some, None, eqb, ltb}
+use Rattle.std.proofs.Common.{ℕ, zero, suc, ◌≡◌, ◌+◌, ◌<◌, ◌^◌, ℤ, List, [], ◌∷◌, ◌++◌, length, Bool, true, false, cond, refl, sym, ap, ◌∙◌, subst, arith, drop, get_or, map, take, length-append, Option, Some, None, eqb, ltb}
 use Rattle.std.specs.Prelude.{filter, All, IfSome, IsSome, IsSomeAnd}
+use Rattle.std.specs.List.{remove}
 use Rattle.std.specs.List.Sorted.{IsStrictlyIncreasing}
+use Rattle.std.proofs.lemmas.List.Quantifiers.{all_pairs_remove}
 use Rattle.std.proofs.lemmas.Bool.{cond_both, eq-eqb, eqb-true, false≢true, ltb-true, ne_eqb}
-use Rattle.std.proofs.lemmas.List.Elements.{All-nil, All-cons, All-head, All-tail, All-append, All-filter, All-weaker, All-push, All-map, filter_passes}
+use Rattle.std.proofs.lemmas.List.Elements.{All-nil, All-cons, All-head, All-tail, All-append, All-drop, All-filter, All-take, All-weaker, All-push, All-map, filter_passes}
 use Rattle.std.proofs.lemmas.List.Kept.{AllPairs-filter}
 use Rattle.desk_base.specs.Moments.{IsMoment}
 use Rattle.line_forms.specs.Numbers.{IsId}
@@ -37,6 +39,13 @@ with_history_kept h hs good are =
           (All-weaker (λ o. above o ≡ true) (λ o. h.action < o.action) (λ o e. ltb-true h.action o.action e) (filter above hs) (filter_passes above hs))
           (AllPairs-filter R above hs up));
     }
+
+-- without one of them
+pub removed_kept : (hs : List PlainHistory) (place : ℕ) → place < length hs → AreHistories hs → AreHistories (remove hs place)
+removed_kept hs place inside are = record {
+  good = All-append IsHistory (take place hs) (drop (suc place) hs) (All-take IsHistory place hs are.good) (All-drop IsHistory (suc place) hs are.good);
+  ascending = increasing_from_rises action_of (remove hs place) (all_pairs_remove (λ x y. x.action < y.action) hs place inside (rises_from_increasing action_of hs are.ascending));
+}
 
 -- ---- the rows of an action
 -- rows that a history has, or none

@@ -13,7 +13,7 @@ use Rattle.report_text.specs.declared.form.Form.{Form}
 use Rattle.agent_text.specs.declared.history.History.{History}
 use Rattle.agent_text.specs.AttemptLines.{attempt_line}
 use Rattle.agent_text.specs.SavedRows.{IsSavedRow}
-use Rattle.agent_text.specs.SavedTexts.{action_line, history_lines}
+use Rattle.agent_text.specs.HistoryLines.{action_line, history_lines}
 use Rattle.agent_text.specs.Histories.{AreHistories, IsHistory, PlainHistory, shown_history}
 use Rattle.agent_text.specs.PartReadings.{CanBeNext, CanFollow, HasHistories, IsAbove, IsRowIn, LacksAttempt, NoAttempt, untold, untold_one}
 use Rattle.agent_text.proofs.AttemptLists.{rows_in}

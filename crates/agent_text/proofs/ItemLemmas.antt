@@ -1,17 +1,26 @@
 -- The histories of the code, which contracts see as a list of plain ones: a change of one of them.
-use Rattle.std.proofs.Common.{ℕ, zero, suc, ◌≡◌, ◌+◌, ◌-◌, ◌<◌, ◌≤◌, ℤ, List, [], ◌∷◌, ◌++◌, length, true, false, refl, sym, ap, ◌∙◌, subst, arith, take, drop, get_or, set, map, append-nil, append_assoc, inl, inr, ◌⊎◌, Result, Ok, Err}
-use Rattle.std.specs.List.{insert}
+use Rattle.std.proofs.Common.{ℕ, zero, suc, ◌≡◌, ◌+◌, ◌-◌, ◌<◌, ◌≤◌, ℤ, List, [], ◌∷◌, ◌++◌, length, true, false, refl, sym, ap, ◌∙◌, subst, arith, take, drop, get_or, set, map, All, append-nil, append_assoc, inl, inr, ◌⊎◌, Result, Ok, Err}
+use Rattle.std.specs.List.{insert, remove}
 use Rattle.std.specs.Ordering.{nat_cmp}
 use Rattle.std.specs.List.Sorted.{IsBinarySearchResult, IsSearchInRange}
 use Rattle.std.proofs.lemmas.Bool.{cond-false, cond-true}
 use Rattle.std.proofs.lemmas.List.{drop-map, drop-set-lt, drop_all, drop_more, get_or-map, length-map, map-append, map-set, set-get_or, take-map, take_all, take_more, take_more_set}
+use Rattle.std.proofs.lemmas.List.Elements.{All-append, All-cons, All-drop, All-take}
 use Rattle.act_rules.specs.declared.row.Row.{Row}
 use Rattle.agent_text.specs.declared.history.History.{History}
 use Rattle.agent_text.specs.Histories.{AreHistories, PlainHistory, cleared, rows_at, shown_history, with_cleared, with_reported, with_rows}
 use Rattle.agent_text.specs.PartReadings.{HasPlace}
 use Rattle.line_forms.proofs.Rising.{rises_from_increasing}
 use Rattle.agent_text.proofs.HistoryLemmas.{action_of}
-use Rattle.agent_text.proofs.PlaceLemmas.{cleared_there, has_place, put_new, put_there, rows_there, searched_map}
+use Rattle.agent_text.proofs.PlaceLemmas.{cleared_there, has_place, is_place, put_new, put_there, rows_there, searched_map}
+
+-- what holds of the items holds with another one among them
+pub All-inserted : {X : Type 0} (P : X → Type 0) (xs : List X) (i : ℕ) (x : X) → P x → All P xs → All P (insert xs i x)
+All-inserted P xs i x one all = All-append P (take i xs) (x ∷ drop i xs) (All-take P i xs all) (All-cons P x (drop i xs) one (All-drop P i xs all))
+
+-- and without one of them
+pub All-removed : {X : Type 0} (P : X → Type 0) (xs : List X) (i : ℕ) → All P xs → All P (remove xs i)
+All-removed P xs i all = All-append P (take i xs) (drop (suc i) xs) (All-take P i xs all) (All-drop P (suc i) xs all)
 
 module _ (items : List History) (hs : List PlainHistory) (view : map shown_history items ≡ hs) where
   -- a search by ids ends at the place
@@ -21,6 +30,13 @@ module _ (items : List History) (hs : List PlainHistory) (view : map shown_histo
       let count : length hs ≡ length items = ap (length {A = PlainHistory}) (sym view) ∙ length-map items shown_history in
       has_place hs action r are (subst (IsSearchInRange r) (sym count) inside)
       (subst (λ l. IsBinarySearchResult (λ h. nat_cmp (action_of h) action) l r) view (searched_map shown_history (λ h. nat_cmp (action_of h) action) items r inside found))
+
+  -- one of the action stands at its place
+  pub found_item : (action place : ℕ) (h : History) → AreHistories hs → place < length items → h ≡ get_or items place h → h.action ≡ action → HasPlace hs action (Ok place)
+  found_item action place h are within at is =
+      let count : length hs ≡ length items = ap (length {A = PlainHistory}) (sym view) ∙ length-map items shown_history in
+      is_place hs action place are (omega (arith, count, within))
+      (λ d. ap (λ l. (get_or l place d).action) (sym view) ∙ ap action_of (get_or-map shown_history items place h d within ∙ ap shown_history (sym at)) ∙ is)
 
   module _ (place : ℕ) (inside : place < length hs) where
     fits : place < length items
@@ -39,6 +55,13 @@ module _ (items : List History) (hs : List PlainHistory) (view : map shown_histo
     pub same_item : (h other : History) → h ≡ get_or items place h → shown_history other ≡ shown_history h → map shown_history (set items place other) ≡ hs
     same_item h other at same =
         set_item other ∙ ap (set hs place) (same ∙ sym (item_there h at)) ∙ set-get_or hs place (shown_history h)
+
+  -- without the one at a place
+  pub removed_item : (place : ℕ) → map shown_history (remove items place) ≡ remove hs place
+  removed_item place =
+      map-append shown_history (take place items) (drop (suc place) items)
+      ∙ (λ t. sym (take-map shown_history place items) t ++ sym (drop-map shown_history (suc place) items) t)
+      ∙ (λ t. take place (view t) ++ drop (suc place) (view t))
 
   module _ (action : ℕ) where
     -- the rows of the action are those of the one at its place

@@ -14,6 +14,7 @@ pub mod SavedLines
 pub mod SavedStops
 pub mod SavedBytes
 pub mod SavedAnswers
+pub mod BeforeLemmas
 mod FillLemmas
 mod HistoryLemmas
 mod PlaceLemmas

@@ -190,10 +190,10 @@ shown_set (y ∷ items) (suc place) h x e same = ap (λ l. shown_history y ∷ l
 -- one line further, of such lists
 pub shown_marks : (before : List PlainHistory) (from place : ℕ) (start mid new : LineState) (items : List History) (h : PlainHistory) (x : History) → IsMarkedTo before from start mid (map shown_history items) → from ≤ place →
     slice_get (map shown_history items) place ≡ Some h → Passes mid new (pending_line h.action ∷ []) → place < length items →
-    let y : History = get_or items place x in let z : History = record { action = y.action; rows = y.rows; pending = true } in IsMarkedTo before (place + 1) start new (map shown_history (slice_set items place z))
+    let y : History = get_or items place x in let z : History = record y { pending = true } in IsMarkedTo before (place + 1) start new (map shown_history (slice_set items place z))
 shown_marks before from place start mid new items h x is least there passes within =
     let y : History = get_or items place x in
-    let z : History = record { action = y.action; rows = y.rows; pending = true } in
+    let z : History = record y { pending = true } in
     let here : slice_get items place ≡ Some y = slice_get-get_or items place x within in
     let same : h ≡ shown_history y = same_Some h (shown_history y) (sym there ∙ slice_get-map shown_history items place ∙ ap (option_map shown_history) here) in
     let S : PlainHistory → Type 0 = λ g. slice_get (map shown_history items) place ≡ Some g in

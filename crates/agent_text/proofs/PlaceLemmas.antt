@@ -1,9 +1,9 @@
 -- The place of a history among those in ascending order of their actions, and what a change there does.
-use Rattle.std.proofs.Common.{ℕ, zero, suc, ◌≡◌, ◌+◌, ◌<◌, ◌≤◌, ℤ, List, [], ◌∷◌, ◌++◌, length, true, cond, sym, ap, ◌∙◌, subst, arith, drop, get_or, set, map, take-append-drop, ltb, inl, inr, Result, Ok, Err}
-use Rattle.std.specs.Prelude.{filter, All}
+use Rattle.std.proofs.Common.{ℕ, zero, suc, ◌≡◌, ◌+◌, ◌<◌, ◌≤◌, ℤ, List, [], ◌∷◌, ◌++◌, length, true, cond, eqb, sym, ap, ◌∙◌, subst, arith, drop, get_or, set, map, take-append-drop, ltb, inl, inr, Result, Ok, Err}
+use Rattle.std.specs.Prelude.{filter, All, Some}
 use Rattle.std.specs.Ordering.{nat_cmp, ordering_index}
 use Rattle.std.specs.declared.cmp.Ordering.{Ordering}
-use Rattle.std.specs.List.{AllPairs, insert}
+use Rattle.std.specs.List.{AllPairs, find, insert}
 use Rattle.std.specs.List.Sorted.{IsBinarySearchResult, IsNonDecreasingBy, IsSearchInRange}
 use Rattle.std.proofs.lemmas.Bool.{ltb-true, lt-ltb, le-ltb, ne_eqb, eq-eqb, cases_eq}
 use Rattle.std.proofs.lemmas.List.{get_or-map, length-map, set_split}
@@ -41,15 +41,11 @@ ids_rise ids up i j le inside =
       | inr apart ↦ let lt = up i j 0 (omega arith) inside in omega (arith, lt)
     ]
 
--- it ends at the place of the action
-pub has_place : (hs : List PlainHistory) (action : ℕ) (r : Result ℕ ℕ) → AreHistories hs → IsSearchInRange r (length hs)
-    → IsBinarySearchResult (λ h. nat_cmp (action_of h) action) hs r → HasPlace hs action r
-has_place hs action (Ok i) are inside found =
-    let ids = map action_of hs in
-    let pairs = AllPairs-from_increasing ids are.ascending in
+-- a history of the action stands at its place
+pub is_place : (hs : List PlainHistory) (action i : ℕ) → AreHistories hs → i < length hs → ((d : PlainHistory) → (get_or hs i d).action ≡ action)
+    → HasPlace hs action (Ok i)
+is_place hs action i are inside here =
     let up = rises_from_increasing action_of hs are.ascending in
-    let at = searched ids action (Ok i) (searched_map action_of (λ id. nat_cmp id action) hs (Ok i) inside found) (ids_rise ids pairs) in
-    let here : (d : PlainHistory) → (get_or hs i d).action ≡ action = λ d. sym (get_or-map action_of hs i d 0 inside) ∙ at.1 in
     let less : (k : ℕ) (d : PlainHistory) → k < i → (get_or hs k d).action < action = λ k d lt. subst (λ n. (get_or hs k d).action < n) (here d) (up k i d lt inside) in
     let more : (k : ℕ) (d : PlainHistory) → i < k → k < length hs → action < (get_or hs k d).action = λ k d gt lt. subst (λ n. n < (get_or hs k d).action) (here d) (up i k d gt lt) in (
       inside,
@@ -63,6 +59,15 @@ has_place hs action (Ok i) are inside found =
         | inr apart ↦ let lt = less k d (omega arith) in omega (arith, lt)
       ])) (λ k d low high. lt-ltb _ _ (more k d (omega arith) high)) (omega arith)),
     )
+
+-- it ends at the place of the action
+pub has_place : (hs : List PlainHistory) (action : ℕ) (r : Result ℕ ℕ) → AreHistories hs → IsSearchInRange r (length hs)
+    → IsBinarySearchResult (λ h. nat_cmp (action_of h) action) hs r → HasPlace hs action r
+has_place hs action (Ok i) are inside found =
+    let ids = map action_of hs in
+    let pairs = AllPairs-from_increasing ids are.ascending in
+    let at = searched ids action (Ok i) (searched_map action_of (λ id. nat_cmp id action) hs (Ok i) inside found) (ids_rise ids pairs) in
+    is_place hs action i are inside (λ d. sym (get_or-map action_of hs i d 0 inside) ∙ at.1)
 has_place hs action (Err i) are inside found =
     let ids = map action_of hs in
     let count : length ids ≡ length hs = length-map hs action_of in
@@ -82,16 +87,32 @@ pub rows_there : (hs : List PlainHistory) (action place : ℕ) (d : PlainHistory
 rows_there hs action place d are here =
     ap (λ a. rows_at a hs) (sym (here.1 d)) ∙ rows_of hs place d (rises_from_increasing action_of hs are.ascending) here.0
 
--- where no history of the action stands it has no rows
-pub no_rows_there : (hs : List PlainHistory) (action place : ℕ) → HasPlace hs action (Err place) → rows_at action hs ≡ []
-no_rows_there hs action place here =
+-- where no history of the action stands, all are below or above
+pub parts_there : (hs : List PlainHistory) (action place : ℕ) → HasPlace hs action (Err place) → hs ≡ filter (λ h. ltb h.action action) hs ++ filter (λ h. ltb action h.action) hs
+parts_there hs action place here = sym (take-append-drop place hs) ∙ (λ t. here.1 t ++ here.2 t)
+
+pub others_there : (hs : List PlainHistory) (action place : ℕ) → HasPlace hs action (Err place) → All (λ h. ¬ (h.action ≡ action)) hs
+others_there hs action place here =
     let below = λ (h : PlainHistory). ltb h.action action in
     let above = λ (h : PlainHistory). ltb action h.action in
     let Other = λ (h : PlainHistory). ¬ (h.action ≡ action) in
-    let parts : hs ≡ filter below hs ++ filter above hs = sym (take-append-drop place hs) ∙ (λ t. here.1 t ++ here.2 t) in
-    no_rows_of action hs (subst (All Other) (sym parts) (All-append Other (filter below hs) (filter above hs)
+    subst (All Other) (sym (parts_there hs action place here)) (All-append Other (filter below hs) (filter above hs)
     (All-weaker (λ h. below h ≡ true) Other (λ h b e. let lt = ltb-true h.action action b in omega (arith, lt, e)) (filter below hs) (filter_passes below hs))
-    (All-weaker (λ h. above h ≡ true) Other (λ h b e. let gt = ltb-true action h.action b in omega (arith, gt, e)) (filter above hs) (filter_passes above hs))))
+    (All-weaker (λ h. above h ≡ true) Other (λ h b e. let gt = ltb-true action h.action b in omega (arith, gt, e)) (filter above hs) (filter_passes above hs)))
+
+-- it has no rows then
+pub no_rows_there : (hs : List PlainHistory) (action place : ℕ) → HasPlace hs action (Err place) → rows_at action hs ≡ []
+no_rows_there hs action place here = no_rows_of action hs (others_there hs action place here)
+
+-- the history there is the one of the action
+pub found_there : (hs : List PlainHistory) (action place : ℕ) (d : PlainHistory) → Rises action_of hs → place < length hs → (get_or hs place d).action ≡ action
+    → find (λ (h : PlainHistory). eqb h.action action) hs ≡ Some (get_or hs place d)
+found_there [] action place d up inside is = absurd (omega arith)
+found_there (h ∷ hs) action zero d up inside is = ap (λ b. cond b (Some h) (find (λ (o : PlainHistory). eqb o.action action) hs)) (eq-eqb h.action action is)
+found_there (h ∷ hs) action (suc place) d up inside is =
+    let lt : h.action < (get_or hs place d).action = rises_head action_of h hs up place d (omega arith) in
+    ap (λ b. cond b (Some h) (find (λ (o : PlainHistory). eqb o.action action) hs)) (ne_eqb h.action action (λ same. omega (arith, lt, same, is)))
+    ∙ found_there hs action place d (rises_tail action_of h hs up) (omega arith) is
 
 -- ---- a change at the place
 -- another history of the action there

@@ -1,6 +1,6 @@
 -- The bytes of a saved text: no LF stands in a line, and there are not too many. Other crates may cite these lemmas.
 use Rattle.std.proofs.Common.{ℕ, ◌≡◌, ◌+◌, ◌*◌, ◌≤◌, ℤ, List, [], ◌∷◌, ◌++◌, length, refl, ap, sym, arith, All, Option, Some, None, inl, inr, map, length-append, subst}
-use Rattle.std.specs.Prelude.{codes, decimal, not, flat_map, sum_by, IfSome}
+use Rattle.std.specs.Prelude.{codes, decimal, flat_map, sum_by, IfSome}
 use Rattle.std.specs.Fmt.{signed_decimal}
 use Rattle.std.proofs.lemmas.Fmt.{length-decimal-le}
 use Rattle.std.proofs.lemmas.List.Sums.{sum_by-cons}
@@ -24,7 +24,8 @@ use Rattle.report_text.proofs.SizeLemmas.{component_length, computer_length, end
 use Rattle.agent_text.specs.declared.saved.Saved.{Saved}
 use Rattle.agent_text.specs.AttemptLines.{attempt_fields, attempt_line, cleared_field}
 use Rattle.agent_text.specs.Histories.{IsHistory, PlainHistory, pending_ids}
-use Rattle.agent_text.specs.SavedTexts.{FitsForm, IsSaved, action_line, agent_line, history_bytes, history_lines, most_bytes, next_line, pending_line, report_bytes, saved_lines, saved_text}
+use Rattle.agent_text.specs.SavedTexts.{FitsForm, IsSaved, agent_line, history_bytes, most_bytes, next_line, pending_line, report_bytes, saved_lines, saved_text}
+use Rattle.agent_text.specs.HistoryLines.{action_line, history_lines, history_text}
 use Rattle.agent_text.specs.PartReadings.{CanBeNext, IsNoted, IsRowIn}
 use Rattle.agent_text.proofs.AttemptLists.{each_attempt, next_attempt}
 use Rattle.agent_text.proofs.AttemptRows.{noted, plain_attempt}
@@ -135,9 +136,22 @@ histories_size (x ∷ hs) h =
     more : size (map pending_line (pending_ids (x ∷ hs))) ≡ size (map pending_line (x.action ∷ pending_ids hs)) → length (decimal x.action) ≤ 16 → size (map pending_line (pending_ids (x ∷ hs))) ≤ 25 + size (map pending_line (pending_ids hs))
     more same digits = omega (arith, same, digits, size_cons (pending_line x.action) (map pending_line (pending_ids hs)), length-append (field_text (codes "pending")) (decimal x.action))
 
+-- the lines of a history
+pub history_short : (h : PlainHistory) → IsHistory h → length (history_text h) ≤ history_bytes h
+history_short h good =
+    let digits = id_length h.action good.action in
+    let rows = attempts_size h.rows (noted_rows Two h good good.rows.good) in
+    omega (arith, digits, rows, size_cons (action_line h.action) (map (attempt_line Two) h.rows), length-append (field_text (codes "action")) (decimal h.action))
+
 -- no report is too long
 abbrev pub ShortReports : Type 0
 ShortReports = (report : Report) → IsReport report → length (report_text report) ≤ 108 + 113 * length report.rows
+
+-- the texts of reports
+pub texts_short : ShortReports → (rs : List Report) → All IsReport rs → length (flat_map report_text rs) ≤ sum_by report_bytes rs
+texts_short short [] h = omega arith
+texts_short short (r ∷ rs) h =
+    omega (arith, short r (All-head IsReport r rs h), texts_short short rs (All-tail IsReport r rs h), length-append (report_text r) (flat_map report_text rs), sum_by-cons report_bytes r rs)
 
 -- the lines of reports
 reports_size : ShortReports → (rs : List Report) → All IsReport rs → size (flat_map report_lines rs) ≤ sum_by report_bytes rs

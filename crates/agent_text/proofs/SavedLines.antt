@@ -15,7 +15,8 @@ use Rattle.act_rules.specs.Notes.{no_note}
 use Rattle.report_text.specs.Reports.{IsReport, end_line, report_lines}
 use Rattle.agent_text.specs.declared.saved.Saved.{Saved}
 use Rattle.agent_text.specs.Histories.{AreHistories, IsHistory, PlainHistory, pending_ids}
-use Rattle.agent_text.specs.SavedTexts.{AreOutbox, AreSavedLines, FitsForm, IsSaved, IsSavedBy, history_lines, pending_line, saved_lines}
+use Rattle.agent_text.specs.SavedTexts.{AreOutbox, AreSavedLines, FitsForm, IsSaved, IsSavedBy, pending_line, saved_lines}
+use Rattle.agent_text.specs.HistoryLines.{history_lines}
 use Rattle.agent_text.specs.PartReadings.{Around, CanCome, CanFollow, IsFormIn, IsFrame, IsRowIn, frame_lines, untold, untold_one}
 use Rattle.agent_text.proofs.HistoryLists.{all_untold, are_histories}
 use Rattle.line_forms.proofs.Lasts.{all_at, ascends, each_all, each_ascends, each_few, increasing, last_below}

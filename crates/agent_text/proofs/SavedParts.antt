@@ -15,7 +15,8 @@ use Rattle.report_text.specs.RowLines.{row_line}
 use Rattle.report_text.specs.Reports.{computer_line, end_line, form_line, seq_line}
 use Rattle.agent_text.specs.AttemptLines.{attempt_line}
 use Rattle.agent_text.specs.Histories.{PlainHistory}
-use Rattle.agent_text.specs.SavedTexts.{action_line, agent_line, history_lines, next_line, pending_line}
+use Rattle.agent_text.specs.SavedTexts.{agent_line, next_line, pending_line}
+use Rattle.agent_text.specs.HistoryLines.{action_line, history_lines}
 use Rattle.agent_text.specs.PartReadings.{Around, CanBeNext, CanCome, CanFollow, IsFrame, frame_lines, history_line, report_line}
 use Rattle.agent_text.proofs.AttemptLists.{each_attempt, next_attempt}
 use Rattle.agent_text.proofs.AttemptRows.{attempt_one, noted}

@@ -19,7 +19,8 @@ use Rattle.agent_text.specs.declared.saved.Saved.{Saved}
 use Rattle.agent_text.specs.AttemptLines.{attempt_line}
 use Rattle.agent_text.specs.SavedRows.{IsSavedRow}
 use Rattle.agent_text.specs.Histories.{PlainHistory, pending_ids}
-use Rattle.agent_text.specs.SavedTexts.{AreSavedLines, IsSavedBy, action_line, history_lines, pending_line, saved_lines}
+use Rattle.agent_text.specs.SavedTexts.{AreSavedLines, IsSavedBy, pending_line, saved_lines}
+use Rattle.agent_text.specs.HistoryLines.{action_line, history_lines}
 use Rattle.agent_text.specs.PartReadings.{Around, CanBeNext, CanCome, CanFollow, CanPend, HasHistories, HasReports, IsAbove, IsBadAt, IsFrame, IsRowIn, LacksAttempt, NoAttempt, TakesPending, frame_lines, history_line, report_line, untold}
 use Rattle.agent_text.proofs.AttemptLists.{each_attempt}
 use Rattle.agent_text.proofs.HistoryLists.{are_histories}

@@ -3,6 +3,9 @@ pub mod PocketStates
 pub mod SavedRows
 pub mod Histories
 pub mod AttemptLines
+pub mod HistoryLines
 pub mod SavedTexts
+pub mod Befores
 pub mod PartReadings
 pub mod PartWritings
+pub mod KeptTexts

@@ -24,7 +24,8 @@ use Rattle.agent_text.specs.declared.report_reader.Frame.{Frame}
 use Rattle.agent_text.specs.SavedRows.{IsSavedRow}
 use Rattle.agent_text.specs.Histories.{PlainHistory, IsHistory, shown_history, pending_ids}
 use Rattle.agent_text.specs.AttemptLines.{attempt_line, cleared_field}
-use Rattle.agent_text.specs.SavedTexts.{action_line, agent_line, history_lines, most_reports, next_line, pending_line}
+use Rattle.agent_text.specs.SavedTexts.{agent_line, most_reports, next_line, pending_line}
+use Rattle.agent_text.specs.HistoryLines.{action_line, history_lines}
 
 -- the place of the history of this action, or the one where it would stand
 abbrev pub HasPlace : List PlainHistory → ℕ → Result ℕ ℕ → Type 0

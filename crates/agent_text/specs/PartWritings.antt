@@ -1,23 +1,19 @@
 -- What the writers of parts append. Only private functions cite these definitions.
 use Rattle.std.specs.Prelude.{ℕ, List, [], ◌∷◌, ◌++◌, decimal, if◌then◌else◌}
 use Rattle.std.specs.Fmt.{signed_decimal}
-use Rattle.line_forms.specs.Lines.{ended_line, lines_text}
+use Rattle.line_forms.specs.Lines.{ended_line}
 use Rattle.act_rules.specs.declared.row.Row.{Row}
 use Rattle.report_text.specs.declared.form.Form.TheVariants.{Two}
 use Rattle.report_text.specs.RowLines.{outcome_field, end_field}
 use Rattle.report_text.specs.Reports.{computer_line}
 use Rattle.agent_text.specs.Histories.{PlainHistory}
 use Rattle.agent_text.specs.AttemptLines.{cleared_field}
-use Rattle.agent_text.specs.SavedTexts.{agent_line, next_line, pending_line, history_lines}
+use Rattle.agent_text.specs.SavedTexts.{agent_line, next_line, pending_line}
 
 -- the first three lines
 abbrev pub head_text : List ℕ → ℕ → List ℕ
 head_text computer next =
     ended_line (agent_line Two) ++ (ended_line (computer_line computer) ++ ended_line (next_line next))
-
--- the lines of a history
-abbrev pub history_text : PlainHistory → List ℕ
-history_text h = lines_text (history_lines Two h)
 
 -- the line of a history that is pending, and nothing for another
 abbrev pub pending_text : PlainHistory → List ℕ

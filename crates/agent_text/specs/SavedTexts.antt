@@ -16,7 +16,7 @@ use Rattle.agent_text.specs.declared.saved.Saved.{Saved}
 use Rattle.agent_text.specs.declared.error.SavedError.{SavedError}
 use Rattle.agent_text.specs.declared.error.SavedError.TheVariants as error
 use Rattle.agent_text.specs.Histories.{PlainHistory, AreHistories, pending_ids}
-use Rattle.agent_text.specs.AttemptLines.{attempt_line}
+use Rattle.agent_text.specs.HistoryLines.{history_lines}
 
 -- the most reports that aren't known to have arrived
 abbrev pub most_reports : ℕ
@@ -50,13 +50,6 @@ agent_line form = field_text (codes "agent") ++ form_number form
 -- the number of the next report
 abbrev pub next_line : ℕ → List ℕ
 next_line next = field_text (codes "next") ++ decimal next
-
-abbrev pub action_line : ℕ → List ℕ
-action_line action = field_text (codes "action") ++ decimal action
-
--- the lines of an action and its attempts
-abbrev pub history_lines : Form → PlainHistory → List (List ℕ)
-history_lines form h = action_line h.action ∷ map (attempt_line form) h.rows
 
 abbrev pub pending_line : ℕ → List ℕ
 pending_line action = field_text (codes "pending") ++ decimal action

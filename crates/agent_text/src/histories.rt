@@ -1,15 +1,20 @@
-ghost use Rattle.std.specs.Prelude.{◌≡◌, ◌<◌, ◌+◌, ◌^◌, [], length, map, IfOk, OnOk, OnErr, IfSome, IsSomeAnd, MatchOption, None};
+ghost use Rattle.std.specs.Prelude.{◌≡◌, ◌<◌, ◌+◌, ◌^◌, [], length, map, IfOk, OnOk, OnErr, IfSome, IsSomeAnd, MatchOption, None, Some, All};
+ghost use Rattle.std.specs.Option.{option_map};
 ghost use Rattle.desk_base.specs.Moments.{IsMoment};
 ghost use Rattle.line_forms.specs.Numbers.{IsId};
 ghost use Rattle.act_rules.specs.Rows.{HasEnded, HasMoments, last_row};
 ghost use Rattle.agent_text.specs.SavedRows.{IsSavedNote, IsSavedRow};
-ghost use Rattle.agent_text.specs.Histories.{AreHistories, shown_history, rows_at, with_begun, with_cleared, with_ended, with_reported};
+ghost use Rattle.agent_text.specs.Histories.{AreHistories, IsHistory, shown_history, rows_at, with_begun, with_cleared, with_ended, with_reported};
+ghost use Rattle.agent_text.specs.Befores.{IsHistoryOf, before_of, with_before};
+ghost use Rattle.agent_text.specs.KeptTexts.{AreKept, KeepsText, KeepsTextIf};
 ghost use Rattle.agent_text.specs.PartReadings.{HasPlace};
 
+use crate::before::Before;
 use crate::history::History;
 use act_rules::{Note, Outcome, Row, Rows};
 use std::alloc::{AllocError, Global};
 use std::marker::Model;
+use std::mem::{self, drop};
 
 /// The attempts of actions, in strictly ascending order of their ids. Contracts see the list of the histories.
 #[derive(Drop)]
@@ -19,13 +24,14 @@ pub struct Histories {
 
 impl Model for Histories {
     ghost use Rattle.std.specs.Prelude.{List, map};
-    ghost use Rattle.agent_text.specs.Histories.{PlainHistory, AreHistories, shown_history};
+    ghost use Rattle.agent_text.specs.Histories.{PlainHistory, shown_history};
+    ghost use Rattle.agent_text.specs.KeptTexts.{AreKept};
 
     ghost Value = { List PlainHistory };
 
     ghost view = { λ h. map shown_history h.list.items };
 
-    ghost invariant = { λ h. AreHistories (map shown_history h.list.items) };
+    ghost invariant = { λ h. AreKept h.list.items };
 }
 
 impl Histories {
@@ -40,7 +46,7 @@ impl Histories {
 
     /// The list of these histories.
     pub(crate) fn from_vec(list: Vec<History>) -> Histories
-        requires { AreHistories (map shown_history list.items) }
+        requires { AreKept list.items }
         ensures { result ≡ map shown_history list.items }
     {
         Histories { list }
@@ -50,6 +56,14 @@ impl Histories {
     pub fn as_slice(&self) -> &[History]
         ensures value { map shown_history result.now ≡ self.now }
         ensures good { AreHistories self.now }
+    {
+        self.list.as_slice()
+    }
+
+    /// The histories, each of which keeps the bytes of its own lines, if any.
+    pub(crate) fn kept(&self) -> &[History]
+        ensures value { map shown_history result.now ≡ self.now }
+        ensures kept { All KeepsText result.now }
     {
         self.list.as_slice()
     }
@@ -70,10 +84,31 @@ impl Histories {
         ensures value { MatchOption result (rows_at action self.now ≡ []) (λ rows. rows.now.rows ≡ rows_at action self.now) }
         ensures some { IfSome result (λ rows. 0 < length rows.now.rows) }
     {
-        match self.place(action) {
+        self.rows_near(action, 0)
+    }
+
+    /// The rows of an action, if it has any. This place is looked at first, so that they are found at once where its history stands
+    /// there.
+    pub fn rows_near(&self, action: u64, place: usize) -> Option<&Rows>
+        ensures value { MatchOption result (rows_at action self.now ≡ []) (λ rows. rows.now.rows ≡ rows_at action self.now) }
+        ensures some { IfSome result (λ rows. 0 < length rows.now.rows) }
+    {
+        match self.place_near(action, place) {
             Ok(place) => Some(&self.list[place].rows),
             Err(_) => None,
         }
+    }
+
+    /// The place of the history of this action, or the one where it would stand. This place is looked at first.
+    fn place_near(&self, action: u64, place: usize) -> Result<usize, usize>
+        ensures { HasPlace self.now action result }
+    {
+        if let Some(history) = self.list.as_slice().get(place)
+            && history.action == action
+        {
+            return Ok(place);
+        }
+        self.place(action)
     }
 
     /// The place of the history of this action, or the one where it would stand.
@@ -98,12 +133,7 @@ impl Histories {
         ensures err { OnErr result (self.new ≡ self.old) }
     {
         match self.place(action) {
-            Ok(place) => {
-                let history = &mut self.list[place];
-                history.rows.push(row)?;
-                history.pending = true;
-                Ok(())
-            }
+            Ok(place) => self.list[place].begin(row),
             Err(place) => {
                 let mut rows = Rows::new(alloc);
                 rows.push(row)?;
@@ -111,6 +141,7 @@ impl Histories {
                     action,
                     rows,
                     pending: true,
+                    text: None,
                 };
                 Ok(self.list.insert(place, history)?)
             }
@@ -125,9 +156,7 @@ impl Histories {
         ensures { self.new ≡ with_ended action moment outcome note self.old }
     {
         if let Ok(place) = self.place(action) {
-            let history = &mut self.list[place];
-            history.rows.end(moment, outcome, note);
-            history.pending = true;
+            self.list[place].end(moment, outcome, note);
         }
     }
 
@@ -139,7 +168,7 @@ impl Histories {
         ensures { self.new ≡ with_cleared action moment self.old }
     {
         if let Ok(place) = self.place(action) {
-            self.list[place].rows.clear(moment);
+            self.list[place].clear(moment);
         }
     }
 
@@ -154,5 +183,72 @@ impl Histories {
                 left -= 1;
             }
         }
+    }
+
+    /// What stands of an action, so that it can be put back.
+    pub fn before(&self, action: u64) -> Result<Before, AllocError>
+        ensures { IfOk result (λ before. before ≡ before_of action self.now) }
+    {
+        Ok(Before {
+            action,
+            history: self.copied(action)?,
+        })
+    }
+
+    /// The history of an action once more, if it has one.
+    fn copied(&self, action: u64) -> Result<Option<History>, AllocError>
+        ensures found { IfOk result (λ found. option_map shown_history found ≡ (before_of action self.now).history) }
+        ensures good { IfOk result (λ found. IfSome (option_map shown_history found) (IsHistoryOf action)) }
+        ensures kept { IfOk result KeepsTextIf }
+    {
+        match self.place(action) {
+            Ok(place) => Ok(Some(self.list[place].copy()?)),
+            Err(_) => Ok(None),
+        }
+    }
+
+    /// Puts back what stood of an action, in place of the history that it has now. It takes no memory.
+    pub fn put_back(&mut self, before: Before)
+        ensures { self.new ≡ with_before before self.old }
+    {
+        let Before { action, history } = before;
+        match history {
+            Some(history) => self.replace(history),
+            None => self.remove(action),
+        }
+    }
+
+    /// Puts this history in place of that of its action.
+    fn replace(&mut self, history: History)
+        requires good { IsHistory (shown_history history) }
+        requires kept { KeepsText history }
+        ensures { self.new ≡ with_before (record {
+          action = history.action;
+          history = Some (shown_history history);
+        }) self.old }
+    {
+        if let Ok(place) = self.place(history.action) {
+            drop(mem::replace(&mut self.list[place], history));
+        }
+    }
+
+    /// Drops the history of an action.
+    fn remove(&mut self, action: u64)
+        ensures { self.new ≡ with_before (record { action = action; history = None }) self.old }
+    {
+        if let Ok(place) = self.place(action) {
+            drop(self.list.remove(place));
+        }
+    }
+
+    /// Makes the bytes of the lines of each history that has none, so that the text that is saved is put together by copying. At an error
+    /// some may have none.
+    pub fn keep_texts(&mut self, alloc: Global) -> Result<(), AllocError>
+        ensures { self.new ≡ self.old }
+    {
+        for history in self.list.iter_mut() {
+            history.keep_text(alloc)?;
+        }
+        Ok(())
     }
 }

@@ -1,8 +1,10 @@
-ghost use Rattle.std.specs.Prelude.{◌≡◌, map, IsTrue, ◌↔◌, MatchResult, Ok, Err};
+ghost use Rattle.std.specs.Prelude.{◌≡◌, map, IsTrue, ◌↔◌, MatchResult, Ok, Err, IfOk, All};
 ghost use Rattle.line_forms.specs.Numbers.{IsId};
 ghost use Rattle.line_forms.specs.Readers.{TakesOne};
 ghost use Rattle.agent_text.specs.Histories.{AreHistories, shown_history};
-ghost use Rattle.agent_text.specs.SavedTexts.{action_line, pending_line};
+ghost use Rattle.agent_text.specs.KeptTexts.{KeepsText, KeepsTextIf};
+ghost use Rattle.agent_text.specs.SavedTexts.{pending_line};
+ghost use Rattle.agent_text.specs.HistoryLines.{action_line};
 ghost use Rattle.agent_text.specs.PartReadings.{FindsPlace, IsAbove, TakesAllHistories, TakesHistory, TakesPending, TakesPlace, untold};
 
 use crate::attempt_reader::take_attempts;
@@ -19,8 +21,9 @@ pub(crate) fn take_histories(
     form: Form,
     lines: &mut Lines<'_>,
 ) -> Result<Vec<History>, SavedError>
-    ensures { MatchResult result (λ list. TakesAllHistories form lines.old lines.new (Ok list.items))
+    ensures taken { MatchResult result (λ list. TakesAllHistories form lines.old lines.new (Ok list.items))
         (λ error. TakesAllHistories form lines.old lines.new (Err error)) }
+    ensures kept { IfOk result (λ list. All KeepsText list.items) }
 {
     let mut histories = Vec::new(alloc);
     while let Some(history) = take_history(alloc, form, histories.as_slice(), lines)? {
@@ -37,7 +40,8 @@ fn take_history(
     before: &[History],
     lines: &mut Lines<'_>,
 ) -> Result<Option<History>, SavedError>
-    ensures { TakesHistory form (map shown_history before.now) lines.old lines.new result }
+    ensures taken { TakesHistory form (map shown_history before.now) lines.old lines.new result }
+    ensures kept { IfOk result KeepsTextIf }
 {
     let Some(action) = take_action(before, lines) else {
         return Ok(None);
@@ -50,6 +54,7 @@ fn take_history(
         action,
         rows,
         pending: false,
+        text: None,
     }))
 }
 
@@ -80,7 +85,9 @@ fn is_above(before: &[History], action: u64) -> bool
 pub(crate) fn take_pending(histories: &mut [History], lines: &mut Lines<'_>)
     requires good { AreHistories (map shown_history histories.old) }
     requires told { untold (map shown_history histories.old) ≡ map shown_history histories.old }
-    ensures { TakesPending (map shown_history histories.old) lines.old lines.new (map shown_history histories.new) }
+    requires kept { All KeepsText histories.old }
+    ensures taken { TakesPending (map shown_history histories.old) lines.old lines.new (map shown_history histories.new) }
+    ensures kept { All KeepsText histories.new }
 {
     let mut from = 0;
     while let Some(place) = take_pending_line(histories, from, lines) {

@@ -2,6 +2,7 @@
 #![tactic(auto)]
 
 mod attempt_reader;
+mod before;
 mod error;
 mod histories;
 mod history;
@@ -17,6 +18,7 @@ mod saved;
 mod size;
 mod sure_pocket;
 
+pub use before::Before;
 pub use error::SavedError;
 pub use histories::Histories;
 pub use history::History;
@@ -27,7 +29,7 @@ pub use memory_pocket::MemoryPocket;
 pub use pocket::{Loaded, Pocket, SaveResult};
 pub use reader::read_saved;
 pub use report_reader::MOST_REPORTS;
-pub use room_writer::fill_saved;
+pub use room_writer::{MadeReports, fill_made, fill_saved, fill_saved_made};
 pub use saved::{Reports, Saved};
-pub use size::saved_size;
+pub use size::{reports_size, saved_size};
 pub use sure_pocket::SurePocket;

@@ -1,12 +1,14 @@
-ghost use Rattle.std.specs.Prelude.{◌≡◌, length, map, flat_map};
+ghost use Rattle.std.specs.Prelude.{◌≡◌, length, map, flat_map, All};
 ghost use Rattle.desk_base.specs.Rooms.{HasRoom, Fills};
 ghost use Rattle.line_forms.specs.Lines.{ended_line, lines_text};
 ghost use Rattle.report_text.specs.declared.form.Form.TheVariants.{Two};
 ghost use Rattle.report_text.specs.Reports.{report_text};
 ghost use Rattle.agent_text.specs.Histories.{pending_ids, shown_history};
 ghost use Rattle.agent_text.specs.AttemptLines.{attempt_line, cleared_field};
+ghost use Rattle.agent_text.specs.KeptTexts.{AreMade, KeepsText};
 ghost use Rattle.agent_text.specs.SavedTexts.{pending_line, saved_text};
-ghost use Rattle.agent_text.specs.PartWritings.{begun_text, ended_text, head_text, history_text, pending_text};
+ghost use Rattle.agent_text.specs.PartWritings.{begun_text, ended_text, head_text, pending_text};
+ghost use Rattle.agent_text.specs.HistoryLines.{history_text};
 
 use crate::histories::Histories;
 use crate::history::History;
@@ -14,6 +16,16 @@ use act_rules::Row;
 use desk_base::Room;
 use rel_lexer::Text;
 use report_text::{Report, fill_end, fill_note, fill_report, outcome_field};
+
+/// Reports, and the texts of the first so many of them, which are made already.
+#[derive(Clone, Copy)]
+pub struct MadeReports<'a> {
+    pub reports: &'a [Report],
+    /// How many texts are made.
+    pub count: usize,
+    /// Those texts, one behind another.
+    pub made: &'a [u8],
+}
 
 /// Appends the text that an agent saves, for which there is room. It takes no memory.
 pub fn fill_saved(
@@ -36,10 +48,40 @@ pub fn fill_saved(
       reports = reports.now;
     })) }
 {
+    let made = MadeReports {
+        reports,
+        count: 0,
+        made: &[],
+    };
+    fill_saved_made(computer, next, histories, made, room)
+}
+
+/// Appends the same text where texts of reports are made already.
+pub fn fill_saved_made(
+    computer: &Text,
+    next: u64,
+    histories: &Histories,
+    reports: MadeReports<'_>,
+    room: &mut Room,
+)
+    requires made { AreMade reports }
+    requires room { HasRoom room.old (length (saved_text (record {
+      computer = computer.now;
+      next = next;
+      histories = histories.now;
+      reports = reports.reports.now;
+    }))) }
+    ensures { Fills room.old room.new (saved_text (record {
+      computer = computer.now;
+      next = next;
+      histories = histories.now;
+      reports = reports.entry.reports.now;
+    })) }
+{
     fill_head(computer, next, room);
-    fill_histories(histories.as_slice(), room);
+    fill_histories(histories.kept(), room);
     fill_pending(histories.as_slice(), room);
-    fill_reports(reports, room);
+    fill_made(reports, room);
     room.extend(b"end\n")
 }
 
@@ -57,7 +99,8 @@ fn fill_head(computer: &Text, next: u64, room: &mut Room)
 
 /// Appends the lines of histories.
 fn fill_histories(histories: &[History], room: &mut Room)
-    requires { HasRoom room.old (length (flat_map history_text (map shown_history histories.now))) }
+    requires kept { All KeepsText histories.now }
+    requires room { HasRoom room.old (length (flat_map history_text (map shown_history histories.now))) }
     ensures { Fills room.old room.new (flat_map history_text (map shown_history histories.now)) }
 {
     for history in histories {
@@ -65,8 +108,20 @@ fn fill_histories(histories: &[History], room: &mut Room)
     }
 }
 
-/// Appends the lines of a history.
+/// Appends the lines of a history: the bytes that it keeps, if it does.
 fn fill_history(history: &History, room: &mut Room)
+    requires kept { KeepsText history.now }
+    requires room { HasRoom room.old (length (history_text (shown_history history.now))) }
+    ensures { Fills room.old room.new (history_text (shown_history history.now)) }
+{
+    match &history.text {
+        Some(text) => room.extend(text.as_slice()),
+        None => fill_lines(history, room),
+    }
+}
+
+/// Writes the lines of a history, and appends them.
+pub(crate) fn fill_lines(history: &History, room: &mut Room)
     requires { HasRoom room.old (length (history_text (shown_history history.now))) }
     ensures { Fills room.old room.new (history_text (shown_history history.now)) }
 {
@@ -150,6 +205,16 @@ fn fill_pending_line(history: &History, room: &mut Room)
         room.decimal(history.action);
         room.push(b'\n')
     }
+}
+
+/// Appends the texts of reports, of which the first are made already.
+pub fn fill_made(reports: MadeReports<'_>, room: &mut Room)
+    requires made { AreMade reports }
+    requires room { HasRoom room.old (length (flat_map report_text reports.reports.now)) }
+    ensures { Fills room.old room.new (flat_map report_text reports.entry.reports.now) }
+{
+    room.extend(reports.made);
+    fill_reports(&reports.reports[reports.count..], room);
 }
 
 /// Appends the texts of reports.

@@ -35,8 +35,8 @@ fn histories_size(histories: &[History]) -> Option<usize>
     Some(most)
 }
 
-/// The most bytes of the texts of reports.
-fn reports_size(reports: &[Report]) -> Option<usize>
+/// The most bytes of the texts of reports. None where that is no number of the machine's.
+pub fn reports_size(reports: &[Report]) -> Option<usize>
     ensures { IfSome result (λ most. most ≡ sum_by report_bytes reports.now) }
 {
     let mut most: usize = 0;
@@ -47,7 +47,7 @@ fn reports_size(reports: &[Report]) -> Option<usize>
 }
 
 /// The most bytes of the lines of a history.
-fn history_size(history: &History) -> Option<usize>
+pub(crate) fn history_size(history: &History) -> Option<usize>
     ensures { IfSome result (λ most. most ≡ history_bytes (shown_history history.now)) }
 {
     let attempts = history.rows.as_slice().len();

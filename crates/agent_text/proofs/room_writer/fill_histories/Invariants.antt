@@ -2,7 +2,7 @@ use Rattle.std.proofs.Common.{take}
 use Rattle.std.specs.Prelude.{flat_map}
 use Rattle.desk_base.specs.Rooms.{Fills}
 use Rattle.agent_text.specs.Histories.{shown_history}
-use Rattle.agent_text.specs.PartWritings.{history_text}
+use Rattle.agent_text.specs.HistoryLines.{history_text}
 use Rattle.agent_text.proofs.room_writer.fill_histories.Given as goal
 
 -- the histories so far were appended

@@ -11,4 +11,4 @@ returns c =
     let facts = c.binary_search_by.ensures in
     let by_id = facts.position (λ (h : History). nat_cmp h.action c.args.action) (always_returns_same _ _ _ (λ a r g called. (search rules, search rules))) in
     searched_items c.self.inside.list.items c.args.self.now c.self.view_is c.args.action c.binary_search_by.result
-    (subst AreHistories c.self.view_is c.self.invariant) (rw (← c.as_slice.ensures.value) facts.bound) (rw (← c.as_slice.ensures.value) by_id)
+    (subst AreHistories c.self.view_is c.self.invariant.are) (rw (← c.as_slice.ensures.value) facts.bound) (rw (← c.as_slice.ensures.value) by_id)
