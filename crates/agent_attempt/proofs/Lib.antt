@@ -1,6 +1,7 @@
 pub mod Lookups
 pub mod Places
 pub mod Reading
+pub mod OneByOne
 pub mod Asked
 pub mod Quiet
 pub mod Lasting

@@ -16,10 +16,11 @@ use std::marker::Model;
 /// A fixlet, and what its texts read as. Contracts see the fixlet.
 #[derive(Drop)]
 pub struct FixletTexts {
-    fixlet: Fixlet,
+    // The first two are what an idle turn looks at.
     relevance: Vec<Clause>,
-    success: Option<Clause>,
     script: Option<Script>,
+    success: Option<Clause>,
+    fixlet: Fixlet,
 }
 
 impl Model for FixletTexts {
@@ -35,23 +36,16 @@ impl Model for FixletTexts {
 
 impl FixletTexts {
     /// Reads the texts of a fixlet. The error is want of memory, here and below.
-    pub(crate) fn read(alloc: Global, fixlet: &Fixlet) -> Result<FixletTexts, AllocError>
-        requires { IsFixlet fixlet.now }
-        ensures { IfOk result (λ read. read ≡ fixlet.now) }
+    pub(crate) fn read(alloc: Global, fixlet: Fixlet) -> Result<FixletTexts, AllocError>
+        requires { IsFixlet fixlet }
+        ensures { IfOk result (λ read. read ≡ fixlet) }
     {
         Ok(FixletTexts {
-            fixlet: fixlet.copy()?,
             relevance: read_all(alloc, fixlet.relevance.as_slice())?,
             success: read_success(alloc, &fixlet.success)?,
             script: script_of(alloc, fixlet.script.as_slice())?,
+            fixlet,
         })
-    }
-
-    /// Its id.
-    pub(crate) fn id(&self) -> u64
-        ensures { result ≡ self.now.id }
-    {
-        self.fixlet.id
     }
 
     /// Its script, which isn't refused.

@@ -36,12 +36,12 @@ impl Model for ReadBaseline {
 }
 
 impl ReadBaseline {
-    fn read(alloc: Global, baseline: &Baseline) -> Result<ReadBaseline, AllocError>
-        ensures { IfOk result (λ read. read ≡ baseline.now) }
+    fn read(alloc: Global, baseline: Baseline) -> Result<ReadBaseline, AllocError>
+        ensures { IfOk result (λ read. read ≡ baseline) }
     {
         Ok(ReadBaseline {
-            baseline: baseline.copy()?,
             relevance: read_all(alloc, baseline.relevance.as_slice())?,
+            baseline,
         })
     }
 
@@ -88,13 +88,13 @@ impl Model for ReadAction {
 }
 
 impl ReadAction {
-    fn read(alloc: Global, action: &Action) -> Result<ReadAction, AllocError>
-        requires { IsAction action.now }
-        ensures { IfOk result (λ read. read ≡ action.now) }
+    fn read(alloc: Global, action: Action) -> Result<ReadAction, AllocError>
+        requires { IsAction action }
+        ensures { IfOk result (λ read. read ≡ action) }
     {
         Ok(ReadAction {
-            action: action.copy()?,
             target: read_target(alloc, &action.target)?,
+            action,
         })
     }
 
@@ -162,9 +162,9 @@ pub enum ReadBlock {
 
 impl ReadBlock {
     /// Reads the texts of a block. The error is want of memory.
-    pub(crate) fn read(alloc: Global, block: &Block) -> Result<ReadBlock, AllocError>
-        requires { IsBlock block.now }
-        ensures { IfOk result (λ read. shown_block read ≡ block.now) }
+    pub(crate) fn read(alloc: Global, block: Block) -> Result<ReadBlock, AllocError>
+        requires { IsBlock block }
+        ensures { IfOk result (λ read. shown_block read ≡ block) }
     {
         match block {
             Block::Fixlet(fixlet) => Ok(ReadBlock::Fixlet(ReadFixlet::read(alloc, fixlet)?)),

@@ -1,9 +1,11 @@
-ghost use Rattle.std.specs.Prelude.{◌≡◌, ◌++◌, ◌∷◌, [], map, IfOk};
+ghost use Rattle.std.specs.Prelude.{◌≡◌, ◌++◌, ◌∷◌, [], map, All, IfOk};
+ghost use Rattle.fix_site.specs.Blocks.{IsBlock};
 ghost use Rattle.agent_attempt.specs.ReadBlocks.{shown_block};
 ghost use Rattle.agent_attempt.specs.FoundContents.{FindsBlock};
 ghost use Rattle.agent_attempt.specs.BlockPlaces.{AddsPlace};
 
 use crate::read_block::ReadBlock;
+use fix_site::Blocks;
 use std::alloc::{AllocError, Global};
 use std::collections::BTreeMap;
 use std::marker::Model;
@@ -32,7 +34,7 @@ impl Model for ReadBlocks {
 
 impl ReadBlocks {
     /// No block.
-    pub(crate) fn new(alloc: Global) -> ReadBlocks
+    fn new(alloc: Global) -> ReadBlocks
         ensures { result ≡ [] }
     {
         ReadBlocks {
@@ -41,8 +43,20 @@ impl ReadBlocks {
         }
     }
 
-    /// The same with this block behind them. The error is want of memory, here and below.
-    pub(crate) fn with(self, block: ReadBlock) -> Result<ReadBlocks, AllocError>
+    /// Reads the texts of blocks, in their order. The error is want of memory, here and below.
+    pub(crate) fn read(alloc: Global, blocks: Blocks) -> Result<ReadBlocks, AllocError>
+        requires { All IsBlock blocks }
+        ensures { IfOk result (λ read. read ≡ blocks) }
+    {
+        let mut done = ReadBlocks::new(alloc);
+        for block in blocks.into_vec() {
+            done = done.with(ReadBlock::read(alloc, block)?)?;
+        }
+        Ok(done)
+    }
+
+    /// The same with this block behind them.
+    fn with(self, block: ReadBlock) -> Result<ReadBlocks, AllocError>
         ensures { IfOk result (λ all. all ≡ self ++ shown_block block ∷ []) }
     {
         let ReadBlocks { mut blocks, places } = self;
@@ -56,6 +70,14 @@ impl ReadBlocks {
         ensures { map shown_block result.now ≡ self.now }
     {
         self.blocks.as_slice()
+    }
+
+    /// The place of the first block of this id, 0 where there is none.
+    pub(crate) fn place(&self, id: u64) -> usize {
+        match self.places.get(&id) {
+            Some(place) => *place,
+            None => 0,
+        }
     }
 
     /// The first block of this id, if there is one.

@@ -16,25 +16,32 @@ use std::rc::Rc;
 /// A fixlet whose texts were read once. Its copies share them. Contracts see the fixlet.
 #[derive(Drop)]
 pub struct ReadFixlet {
+    // Its id stands here once more, so that a lookup needn't go to its texts.
+    id: u64,
     texts: Rc<FixletTexts>,
 }
 
 impl Model for ReadFixlet {
+    ghost use Rattle.std.specs.Prelude.{◌≡◌};
     ghost use Rattle.fix_site.specs.declared.fixlet.Fixlet.{Fixlet};
 
     ghost Value = { Fixlet };
 
     ghost view = { λ f. f.texts.value };
+
+    ghost invariant = { λ f. f.id ≡ f.texts.value.id };
 }
 
 impl ReadFixlet {
     /// Reads the texts of a fixlet. The error is want of memory, here and below.
-    pub(crate) fn read(alloc: Global, fixlet: &Fixlet) -> Result<ReadFixlet, AllocError>
-        requires { IsFixlet fixlet.now }
-        ensures { IfOk result (λ read. read ≡ fixlet.now) }
+    pub(crate) fn read(alloc: Global, fixlet: Fixlet) -> Result<ReadFixlet, AllocError>
+        requires { IsFixlet fixlet }
+        ensures { IfOk result (λ read. read ≡ fixlet) }
     {
+        let id = fixlet.id;
         let texts = FixletTexts::read(alloc, fixlet)?;
         Ok(ReadFixlet {
+            id,
             texts: Rc::new(alloc, texts)?,
         })
     }
@@ -44,6 +51,7 @@ impl ReadFixlet {
         ensures { IfOk result (λ copy. copy ≡ self.now) }
     {
         Ok(ReadFixlet {
+            id: self.id,
             texts: self.texts.clone()?,
         })
     }
@@ -52,7 +60,7 @@ impl ReadFixlet {
     pub(crate) fn id(&self) -> u64
         ensures { result ≡ self.now.id }
     {
-        self.texts.id()
+        self.id
     }
 
     /// Its script, which isn't refused.

@@ -51,13 +51,16 @@ impl ReadSite {
         requires { IsSite site.now }
         ensures { IfOk result (λ read. read ≡ site.now) }
     {
-        let mut blocks = ReadBlocks::new(alloc);
-        for block in site.blocks.as_slice() {
-            blocks = blocks.with(ReadBlock::read(alloc, block)?)?;
-        }
+        let Site {
+            name,
+            version,
+            blocks,
+        } = site.copy()?;
+        // All texts are copied by now, so that what they read as lies together, which is what each turn goes through.
+        let blocks = ReadBlocks::read(alloc, blocks)?;
         Ok(ReadSite {
-            name: site.name.copy()?,
-            version: site.version,
+            name,
+            version,
             blocks,
         })
     }
@@ -84,10 +87,27 @@ impl ReadSite {
         self.blocks.as_slice()
     }
 
+    /// The place of the block of this id, 0 where there is none.
+    pub fn place(&self, id: u64) -> usize {
+        self.blocks.place(id)
+    }
+
     fn block(&self, id: u64) -> Option<&ReadBlock>
         ensures { FindsBlock id self.now.blocks result }
     {
         self.blocks.get(id)
+    }
+
+    /// The block of this id, if there is one. This place is looked at first.
+    fn block_near(&self, id: u64, place: usize) -> Option<&ReadBlock>
+        ensures { FindsBlock id self.now.blocks result }
+    {
+        if let Some(block) = self.blocks.as_slice().get(place)
+            && block.id() == id
+        {
+            return Some(block);
+        }
+        self.block(id)
     }
 
     /// The fixlet of this id, if there is one.
@@ -100,14 +120,22 @@ impl ReadSite {
         }
     }
 
+    /// What an action of this content runs, if there is such a fixlet or baseline. This place is looked at first, so that it is found
+    /// at once where it stands there.
+    pub fn content_near(&self, id: u64, place: usize) -> Option<Content<'_>>
+        ensures { FindsContent id self.now.blocks result }
+    {
+        match self.block_near(id, place) {
+            Some(block) => self.content_of(block),
+            None => None,
+        }
+    }
+
     /// What an action of this content runs, if there is such a fixlet or baseline.
     pub fn content(&self, id: u64) -> Option<Content<'_>>
         ensures { FindsContent id self.now.blocks result }
     {
-        match self.block(id) {
-            Some(block) => self.content_of(block),
-            None => None,
-        }
+        self.content_near(id, 0)
     }
 
     /// What an action of this block of the site runs.

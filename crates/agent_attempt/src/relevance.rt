@@ -116,10 +116,10 @@ pub fn may_begin(action: &ReadAction, rows: &[Row], tally: &Tally, time: &Time) 
     if action.action().stopped {
         return false;
     }
-    if !window(rules, time.moment(), time.offset()) {
+    if !tally.owed(rules, rows.last(), time.moment()) {
         return false;
     }
-    tally.owed(rules, rows.last(), time.moment())
+    window(rules, time.moment(), time.offset())
 }
 
 /// Whether an action that may begin is due: whether it targets this computer and its content is relevant.
