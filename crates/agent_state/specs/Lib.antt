@@ -3,3 +3,4 @@ pub mod Counting
 pub mod Changes
 pub mod Lookups
 pub mod Outboxes
+pub mod MadeTexts

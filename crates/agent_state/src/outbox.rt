@@ -1,9 +1,13 @@
-ghost use Rattle.std.specs.Prelude.{◌≡◌, ◌==◌, ◌≤◌, ◌<◌, ◌+◌, [], ◌∷◌, ◌++◌, length, map, take, OnOk, OnErr};
+ghost use Rattle.std.specs.Prelude.{◌≡◌, ◌==◌, ◌≤◌, ◌<◌, ◌+◌, [], ◌∷◌, ◌++◌, length, map, take, OnOk, OnErr, All};
 ghost use Rattle.std.specs.List.{position};
 ghost use Rattle.std.specs.List.Sorted.{IsStrictlyIncreasing};
+ghost use Rattle.report_text.specs.Reports.{IsReport};
+ghost use Rattle.agent_text.specs.KeptTexts.{AreMade};
 ghost use Rattle.agent_state.specs.Outboxes.{DropsReport};
 
-use report_text::Report;
+use agent_text::{MadeReports, fill_made, reports_size};
+use desk_base::{Bytes, Room};
+use report_text::{Report, reports_are_short};
 use std::alloc::{AllocError, Global};
 use std::marker::Model;
 
@@ -13,17 +17,22 @@ use std::marker::Model;
 pub struct Outbox {
     reports: Vec<Report>,
     shown: usize,
+    /// Of how many reports, from the first on, the texts are made.
+    count: usize,
+    /// Those texts, one behind another.
+    texts: Bytes,
 }
 
 impl Model for Outbox {
     ghost use Rattle.std.specs.Prelude.{◌≤◌, length, vec_capacity};
     ghost use Rattle.agent_state.specs.Outboxes.{OutboxState};
+    ghost use Rattle.agent_state.specs.MadeTexts.{AreTextsOf};
 
     ghost Value = { OutboxState };
 
     ghost view = { λ o. record { reports = o.reports.items; shown = o.shown; capacity = vec_capacity o.reports } };
 
-    ghost invariant = { λ o. o.shown ≤ length o.reports.items };
+    ghost invariant = { λ o. (o.shown ≤ length o.reports.items) × AreTextsOf o.reports.items o.count o.texts };
 }
 
 impl Outbox {
@@ -33,7 +42,13 @@ impl Outbox {
         ensures shown { result.shown ≡ length reports.items }
     {
         let shown = reports.len();
-        Outbox { reports, shown }
+        let texts = Bytes::new(*reports.allocator());
+        Outbox {
+            reports,
+            shown,
+            count: 0,
+            texts,
+        }
     }
 
     /// All reports.
@@ -76,6 +91,38 @@ impl Outbox {
         self.reports.push(report).unwrap();
     }
 
+    /// Makes the texts of the reports that have none yet, so that the text that is saved is put together by copying. The error is want of
+    /// memory.
+    pub fn make_texts(&mut self, alloc: Global) -> Result<(), AllocError>
+        requires { All IsReport self.old.reports }
+        ensures { self.new ≡ self.old }
+    {
+        reports_are_short();
+        if self.count == self.reports.len() {
+            return Ok(());
+        }
+        let Some(size) = reports_size(self.reports.as_slice()) else {
+            return Err(AllocError);
+        };
+        let mut room = Room::with_capacity(alloc, size)?;
+        fill_made(self.made(), &mut room);
+        self.texts = room.into_bytes();
+        self.count = self.reports.len();
+        Ok(())
+    }
+
+    /// All reports, and the texts that are made.
+    pub fn made(&self) -> MadeReports<'_>
+        ensures reports { result.reports.now ≡ self.now.reports }
+        ensures made { AreMade result }
+    {
+        MadeReports {
+            reports: self.reports.as_slice(),
+            count: self.count,
+            made: self.texts.as_slice(),
+        }
+    }
+
     /// Drops the report with this number, and answers whether it was there.
     pub fn drop_report(&mut self, seq: u64) -> bool
         requires { IsStrictlyIncreasing (map (λ report. report.seq) self.old.reports) }
@@ -84,6 +131,8 @@ impl Outbox {
         let Some(place) = place_of(self.reports.as_slice(), seq) else {
             return false;
         };
+        self.count = 0;
+        self.texts = Bytes::new(*self.reports.allocator());
         self.reports.remove(place);
         if place < self.shown {
             self.shown -= 1;

@@ -21,6 +21,8 @@ pub const ACTION_SITE: &str = "actionsite";
 #[derive(Drop)]
 pub struct SiteList {
     sites: Vec<ReadSite>,
+    /// Where what each block of the site of actions runs stands in its own site, as far as that is known.
+    places: Vec<usize>,
 }
 
 impl Model for SiteList {
@@ -42,6 +44,7 @@ impl SiteList {
     {
         SiteList {
             sites: Vec::new(alloc),
+            places: Vec::new(alloc),
         }
     }
 
@@ -68,12 +71,54 @@ impl SiteList {
         ensures ok { OnOk result (self.new ≡ with_site site self.old) }
         ensures err { OnErr result (self.new ≡ self.old) }
     {
+        self.keep(site)?;
+        self.find_places();
+        Ok(())
+    }
+
+    /// Keeps the site, in the place of one of its name. At an error nothing has changed.
+    fn keep(&mut self, site: ReadSite) -> Result<(), AllocError>
+        requires { IsSite site }
+        ensures ok { OnOk result (self.new ≡ with_site site self.old) }
+        ensures err { OnErr result (self.new ≡ self.old) }
+    {
         match place_of(self.sites.as_slice(), site.name()) {
             Some(place) => {
                 self.sites[place] = site;
                 Ok(())
             }
             None => Ok(self.sites.push(site)?),
+        }
+    }
+
+    /// Finds where the contents of the actions stand, so that a turn needn't. Where there is no memory for that, none is known.
+    fn find_places(&mut self)
+        ensures { self.new ≡ self.old }
+    {
+        self.places = match self.content_places() {
+            Ok(places) => places,
+            Err(_) => Vec::new(*self.sites.allocator()),
+        };
+    }
+
+    /// Where the contents of the actions stand.
+    fn content_places(&self) -> Result<Vec<usize>, AllocError> {
+        let mut places = Vec::new(*self.sites.allocator());
+        for block in self.actions() {
+            places.push(self.content_place(block))?;
+        }
+        Ok(places)
+    }
+
+    /// Where the content of the action of a block stands, 0 where there is none.
+    fn content_place(&self, block: &ReadBlock) -> usize {
+        let ReadBlock::Action(action) = block else {
+            return 0;
+        };
+        let action = action.action();
+        match self.get(action.site.as_str()) {
+            Some(site) => site.place(action.content),
+            None => 0,
         }
     }
 
@@ -92,6 +137,18 @@ impl SiteList {
         ensures { shown_if result ≡ content_of action.now self.now }
     {
         self.get(action.site.as_str())?.content(action.content)
+    }
+
+    /// What an action runs, if it is gathered. It is found soonest where the action is that of the block at this place.
+    pub fn content_near(&self, action: &Action, place: usize) -> Option<Content<'_>>
+        ensures { shown_if result ≡ content_of action.now self.now }
+    {
+        let near = match self.places.as_slice().get(place) {
+            Some(near) => *near,
+            None => 0,
+        };
+        self.get(action.site.as_str())?
+            .content_near(action.content, near)
     }
 }
 

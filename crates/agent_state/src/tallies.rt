@@ -73,26 +73,35 @@ impl Tallies {
             };
             let id = action.action().id;
             let retries = action.action().rules.retries;
+            let place = list.len();
             list.push(ActionTally {
                 action: id,
                 retries,
-                tally: old.standing(alloc, id, retries, histories),
+                tally: old.standing(alloc, id, retries, histories, place),
             })?;
         }
         Ok(Tallies { list })
     }
 
-    /// A tally for the rows of this action under this number of retries.
-    pub fn standing(&self, alloc: Global, action: u64, retries: u32, histories: &Histories) -> Tally
+    /// A tally for the rows of this action under this number of retries. This place of the tallies and of the histories is looked at
+    /// first, so that it is found at once where the action's stand there.
+    pub fn standing(
+        &self,
+        alloc: Global,
+        action: u64,
+        retries: u32,
+        histories: &Histories,
+        place: usize,
+    ) -> Tally
         requires { AllStand self.now histories.now }
         ensures { StandsFor result retries (rows_at action histories.now) }
     {
-        if let Some(kept) = self.get(action)
+        if let Some(kept) = self.get_near(action, place)
             && kept.retries == retries
         {
             return kept.tally;
         }
-        match histories.rows(action) {
+        match histories.rows_near(action, place) {
             Some(rows) => Tally::of(retries, rows),
             None => Tally::of(retries, &Rows::new(alloc)),
         }
@@ -102,10 +111,29 @@ impl Tallies {
     pub fn get(&self, action: u64) -> Option<&ActionTally>
         ensures { FindsTally action self.now result }
     {
-        match self.place(action) {
+        self.get_near(action, 0)
+    }
+
+    /// The tally of this action, if it has one. This place is looked at first.
+    fn get_near(&self, action: u64, place: usize) -> Option<&ActionTally>
+        ensures { FindsTally action self.now result }
+    {
+        match self.place_near(action, place) {
             Ok(place) => Some(&self.list[place]),
             Err(_) => None,
         }
+    }
+
+    /// The place of the tally of this action, or the one where it would stand. This place is looked at first.
+    fn place_near(&self, action: u64, place: usize) -> Result<usize, usize>
+        ensures { PlacesTally action self.now result }
+    {
+        if let Some(kept) = self.list.as_slice().get(place)
+            && kept.action == action
+        {
+            return Ok(place);
+        }
+        self.place(action)
     }
 
     /// The place of the tally of this action, or the one where it would stand.

@@ -6,7 +6,7 @@ use Rattle.agent_state.specs.Changes.{with_site}
 use Rattle.agent_state.specs.States.{AreGathered}
 use Rattle.agent_state.proofs.SiteActions.{gathered_with}
 use Rattle.agent_state.proofs.SiteLists.{no_place, placed_site, pushed_site}
-use Rattle.agent_state.proofs.site_list.SiteList.put.Goals as goal
+use Rattle.agent_state.proofs.site_list.SiteList.keep.Goals as goal
 
 pub invariant_of-self : goal.invariant_of-self
 invariant_of-self c =

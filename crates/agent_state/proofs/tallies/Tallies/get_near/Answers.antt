@@ -3,7 +3,7 @@ use Rattle.std.specs.List.Sorted.{IsStrictlyIncreasing}
 use Rattle.agent_state.specs.declared.tallies.ActionTally.{ActionTally}
 use Rattle.line_forms.proofs.Rising.{rises_from_increasing}
 use Rattle.agent_state.proofs.TallyLists.{finds_none, finds_there, id_of}
-use Rattle.agent_state.proofs.tallies.Tallies.get.Goals as goal
+use Rattle.agent_state.proofs.tallies.Tallies.get_near.Goals as goal
 
 pub returns-in-Ok : goal.returns-in-Ok
 returns-in-Ok c =
