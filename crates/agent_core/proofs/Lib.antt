@@ -44,3 +44,6 @@ pub mod OwnTexts
 pub mod Counting
 pub mod Bounded
 pub mod Wanting
+mod TakingBack
+mod PuttingBack
+mod MarkedTurns

@@ -1,23 +1,16 @@
--- Marks: what may be marked, and that marks change no size.
-use Rattle.std.proofs.Common.{ℕ, suc, ◌≡◌, ◌+◌, ◌*◌, ℤ, List, [], ◌∷◌, Bool, true, false, cond, length, map, refl, sym, ap, ◌∙◌, eqb, fold, Some, None, Ok, ◌&&◌, arith}
+-- Marks: what may be marked, and that marks are all that they change.
+use Rattle.std.proofs.Common.{ℕ, ◌≡◌, ℤ, List, [], ◌∷◌, Bool, true, false, cond, map, refl, ap, eqb, Some, None, Ok, ◌&&◌}
 use Rattle.std.specs.declared.option.Option.{Option}
-use Rattle.std.specs.Prelude.{filter, is_none, is_some, sum_by, IsSome, IsSomeAnd}
-use Rattle.std.proofs.lemmas.List.{length-map}
+use Rattle.std.specs.Prelude.{is_none, is_some, IsSome, IsSomeAnd}
 use Rattle.act_rules.specs.declared.row.Row.{Row}
 use Rattle.act_rules.specs.Rows.{HasEnded, with_last}
 use Rattle.fix_site.specs.declared.action.Action.{Action}
 use Rattle.script_run.specs.Asking.{When}
 use Rattle.bf_machine.specs.Views.{MachineView}
-use Rattle.report_text.specs.declared.report.Report.{Report}
 use Rattle.agent_text.specs.Histories.{PlainHistory, cleared, with_cleared}
-use Rattle.agent_text.specs.SavedTexts.{history_bytes, most_bytes, report_bytes}
-use Rattle.agent_state.specs.Counting.{pending_count}
-use Rattle.agent_core.specs.declared.kept_state.KeptState.{KeptState}
-use Rattle.agent_state.specs.declared.spare.Spare.{Spare}
 use Rattle.agent_state.specs.States.{State}
-use Rattle.agent_core.specs.Steps.{AreMarked, Suffices, TestsMark, unmarked, unmarked_row}
+use Rattle.agent_core.specs.Steps.{AreMarked, TestsMark, unmarked, unmarked_row}
 use Rattle.agent_core.specs.Turns.{may_clear}
-use Rattle.agent_core.proofs.Sufficing.{fits}
 
 -- ---- a mark
 last_unmarked : (moment : ℤ) (rows : List Row) → map unmarked_row (with_last rows (λ row. record row { cleared = Some moment })) ≡ map unmarked_row rows
@@ -32,34 +25,6 @@ cleared_marked action moment (h ∷ hs) = by_id (eqb h.action action) (cleared_m
     by_id : (b : Bool) → map unmarked (with_cleared action moment hs) ≡ map unmarked hs → unmarked (cond b (cleared moment h) h) ∷ map unmarked (with_cleared action moment hs) ≡ unmarked h ∷ map unmarked hs
     by_id true e = λ j. record h { rows = last_unmarked moment h.rows j } ∷ e j
     by_id false e = ap (λ l. unmarked h ∷ l) e
-
--- ---- what the end of a turn takes
-pending_unmarked : (hs : List PlainHistory) → pending_count (map unmarked hs) ≡ pending_count hs
-pending_unmarked [] = refl
-pending_unmarked (h ∷ hs) = by_pending h.pending (pending_unmarked hs)
-  where
-    by_pending : (b : Bool) → pending_count (map unmarked hs) ≡ pending_count hs
-        → length (map (λ (x : PlainHistory). x.action) (cond b (unmarked h ∷ filter (λ (x : PlainHistory). x.pending) (map unmarked hs)) (filter (λ (x : PlainHistory). x.pending) (map unmarked hs))))
-        ≡ length (map (λ (x : PlainHistory). x.action) (cond b (h ∷ filter (λ (x : PlainHistory). x.pending) hs) (filter (λ (x : PlainHistory). x.pending) hs)))
-    by_pending true e = ap suc e
-    by_pending false e = e
-
-pub pending_marked : (hs marked : List PlainHistory) → AreMarked hs marked → pending_count marked ≡ pending_count hs
-pending_marked hs marked same = sym (pending_unmarked marked) ∙ ap pending_count same ∙ pending_unmarked hs
-
-bytes_unmarked : (n : ℕ) (hs : List PlainHistory) → fold (λ a h. a + history_bytes h) n (map unmarked hs) ≡ fold (λ a h. a + history_bytes h) n hs
-bytes_unmarked n [] = refl
-bytes_unmarked n (h ∷ hs) =
-    bytes_unmarked (n + history_bytes (unmarked h)) hs ∙ ap (λ m. fold (λ a h. a + history_bytes h) (n + (49 + 113 * m)) hs) (length-map h.rows unmarked_row)
-
-pub bytes_marked : (hs marked : List PlainHistory) (reports : List Report) → AreMarked hs marked → most_bytes marked reports ≡ most_bytes hs reports
-bytes_marked hs marked reports same =
-    ap (λ n. 108 + (n + sum_by report_bytes reports)) (sym (bytes_unmarked 0 marked) ∙ ap (sum_by history_bytes) same ∙ bytes_unmarked 0 hs)
-
--- what was taken for the histories without the marks suffices with them
-pub suffices_marked : (spare : Spare) (a : KeptState) (marked : List PlainHistory) → AreMarked a.histories marked → Suffices 1 spare a → Suffices 0 spare (record a { histories = marked })
-suffices_marked spare a marked same is =
-    fits 0 1 spare a (record a { histories = marked }) refl refl refl (bytes_marked a.histories marked a.outbox.reports same) (omega (arith, pending_marked a.histories marked same)) is
 
 -- ---- a last row that is to be marked
 may_mark : {X Y : Type 0} (end : Option X) (mark : Option Y) → (is_some end && is_none mark) ≡ true → IsSome end × (mark ≡ None)

@@ -100,17 +100,6 @@ module _ (at : When) (s : State) where
       goes (Err stop) now mid (subst (λ l. MarksEach at s (shown_actions l) (marks_of hs any) old (Err stop) now mid) (sym (blocks_split blocks i block inside is))
       (first_stops (as_action (shown_block block)) (shown_actions (drop (i + 1) blocks)) any stop hs now old mid h))
 
-  -- ---- no mark was made
-  none_after : (m : Result Bool Turned) (actions : List Action) (id : ℕ) (marks : Marks) (hs : List PlainHistory) (between later : MachineView) → MarksAfter (λ (is : Bool). MarksEach at s actions (marked_by at id is marks)) m between (Ok false) hs later
-      → ((others : Marks) (v : MachineView) → MarksEach at s actions others v (Ok false) hs later → (others.any ≡ false) × (hs ≡ others.histories)) → (marks.any ≡ false) × (hs ≡ marks.histories)
-  none_after (Ok true) actions id marks hs between later t further = let e = (further _ between t).0 in absurd (cc)
-  none_after (Ok false) actions id marks hs between later t further = further marks between t
-  none_after (Err stop) actions id marks hs between later t further = let e = t.0 in absurd (cc)
-
-  pub none_marked : (actions : List Action) (marks : Marks) (hs : List PlainHistory) (old later : MachineView) → MarksEach at s actions marks old (Ok false) hs later → (marks.any ≡ false) × (hs ≡ marks.histories)
-  none_marked [] marks hs old later h = ((let e = h.0 in cc), h.1)
-  none_marked (action ∷ actions) marks hs old later h = none_after h.0 actions action.id marks hs h.1 later h.3 (λ others v k. none_marked actions others hs v later k)
-
   -- ---- the first action that is due
   passed_first : (one : Result (Option AttemptState) Turned) (hs : List PlainHistory) (rest : List Action) (between mid : MachineView) (answer : Result (Option AttemptState) Turned) (later : MachineView)
       → FindsAfter (FindsDue at s hs []) one between (Ok None) mid → FindsDue at s hs rest mid answer later → FindsAfter (FindsDue at s hs rest) one between answer later

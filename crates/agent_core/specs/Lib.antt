@@ -12,3 +12,5 @@ pub mod Calls
 pub mod ShownReports
 pub mod PocketTexts
 pub mod ToldFaults
+pub mod Marked
+pub mod Marking

@@ -1,7 +1,6 @@
 -- What the private functions of a turn do. Only the code's contracts cite these definitions.
-use Rattle.std.specs.Prelude.{◌≡◌, ◌⊎◌, ℕ, ◌+◌, ◌^◌, ◌<◌, ◌≤◌, min, List, [], ◌∷◌, length, map, vec_capacity, is_some, IfSome, Bool, true, false, Option, Some, None, Result, Ok, Err}
+use Rattle.std.specs.Prelude.{◌≡◌, ◌⊎◌, ℕ, ◌+◌, ◌^◌, ◌<◌, ◌≤◌, min, List, [], ◌∷◌, length, map, vec_capacity, IfSome, Bool, true, false, Option, Some, None, Result, Ok, Err}
 use Rattle.std.specs.List.{list_any}
-use Rattle.std.specs.Option.{unwrap_or}
 use Rattle.act_rules.specs.declared.row.Row.{Row}
 use Rattle.line_forms.specs.Numbers.{IsId}
 use Rattle.act_rules.specs.Rows.{HasEnded, last_row}
@@ -115,21 +114,6 @@ pub record MakesMarks (at : When) (s : State) (actions : List Action) (hs : List
   pub marks : MarksEach at s actions (record { histories = hs; any = false }) old answer now new
   pub marked : AreMarked hs now
   pub good : AreHistories now
-
--- The marks of these actions are made in a copy of the histories, if there are any; or the turn stops, also where memory runs out before.
-abbrev pub CopiesMarks : When → State → List Action → MachineView → Result (Option (List PlainHistory)) Turned → MachineView → Type 0
-CopiesMarks at s actions old (Ok marked) new =
-    MakesMarks at s actions s.histories old (Ok (is_some marked)) (unwrap_or marked s.histories) new
-CopiesMarks at s actions old (Err stop) new =
-    ((stop ≡ Memory) × (new ≡ old))
-    ⊎ ((hs : List PlainHistory) × MakesMarks at s actions s.histories old (Err stop) hs new)
-
--- no attempt is held, and these are the histories but for marks
-pub record AreMarksOf (a : KeptState) (hs : List PlainHistory) : Type 0 where
-  pub sound : IsSoundKept a
-  pub free : a.held ≡ None
-  pub marked : AreMarked a.histories hs
-  pub good : AreHistories hs
 
 -- ---- the first action that is due
 -- the attempt that begins, or want of memory for it

@@ -1,14 +1,15 @@
 // Clearing marks.
-ghost use Rattle.std.specs.Prelude.{◌≡◌, ◌∷◌, []};
+ghost use Rattle.std.specs.Prelude.{◌≡◌, ◌∷◌, [], IfOk, MatchResult, None};
 ghost use Rattle.std.specs.List.{filter_map};
-ghost use Rattle.std.specs.Option.{unwrap_or};
 ghost use Rattle.act_rules.specs.Rows.{last_row};
 ghost use Rattle.agent_text.specs.Histories.{AreHistories, rows_at};
 ghost use Rattle.agent_attempt.specs.ReadBlocks.{shown_block};
 ghost use Rattle.agent_attempt.specs.ActionContents.{actions_of, as_action};
 ghost use Rattle.agent_core.specs.Inside.{IsSoundKept, state_of};
 ghost use Rattle.agent_state.specs.Lookups.{rows_if};
-ghost use Rattle.agent_core.specs.Steps.{CopiesMarks, MakesMarks, TestsMark, may_mark};
+ghost use Rattle.agent_core.specs.Marked.{AreBefore, UndoneSame, undone};
+ghost use Rattle.agent_core.specs.Marking.{HasMarks, StopsMarks};
+ghost use Rattle.agent_core.specs.Steps.{MakesMarks, TestsMark, may_mark};
 ghost use Rattle.agent_core.specs.Turns.{may_clear};
 
 use crate::kept_state::KeptState;
@@ -16,31 +17,74 @@ use crate::turned::Turned;
 use act_rules::Rows;
 use agent_attempt::{Found, ReadAction, ReadBlock, Time, relevant};
 use agent_state::rows_of;
-use agent_text::{Histories, changed_histories_can_be_saved};
+use agent_text::{Before, Histories, changed_histories_can_be_saved};
 use bf_machine::Machine;
-use std::alloc::Global;
+use std::alloc::{AllocError, Global};
+use std::mem;
+
+/// What marking comes to: whether anything is marked, and what stood before of what may be.
+#[derive(Drop)]
+pub(crate) struct Marked {
+    pub any: bool,
+    pub before: Vec<Before>,
+}
 
 impl KeptState {
-    /// The histories in which what isn't relevant any more is marked as cleared. None where nothing is marked.
-    pub(crate) fn marks<M: Machine>(
-        &self,
+    /// Marks what isn't relevant any more as cleared. At a stop nothing has changed.
+    pub(crate) fn mark<M: Machine>(
+        &mut self,
         alloc: Global,
         machine: &mut M,
         time: &Time,
-    ) -> Result<Option<Histories>, Turned>
-        requires { IsSoundKept self.now }
-        ensures { CopiesMarks time.now (state_of self.now) (actions_of self.now.sites) (M.told machine.old) result (M.told machine.new) }
+    ) -> Result<Marked, Turned>
+        requires sound { IsSoundKept self.old }
+        requires free { self.old.held ≡ None }
+        ensures { MatchResult result
+            (λ marked. HasMarks time.now self.old (M.told machine.old) marked self.new (M.told machine.new))
+            (λ stop. StopsMarks time.now (state_of self.old) (actions_of self.old.sites) (M.told machine.old) stop (M.told machine.new)
+            × (self.new ≡ self.old)) }
     {
         if !self.may_mark() {
-            return Ok(None);
+            return Ok(Marked {
+                any: false,
+                before: Vec::new(alloc),
+            });
         }
-        let Ok(mut marked) = self.histories.copy() else {
+        let Ok(before) = self.before_marks(alloc) else {
             return Err(Turned::Memory);
         };
-        if self.clear(alloc, machine, time, &mut marked)? {
-            return Ok(Some(marked));
+        let mut histories = mem::replace(&mut self.histories, Histories::new(alloc));
+        let cleared = self.clear(alloc, machine, time, &mut histories);
+        self.histories = histories;
+        match cleared {
+            Ok(any) => Ok(Marked { any, before }),
+            Err(stop) => {
+                self.unmark(before);
+                Err(stop)
+            }
         }
-        Ok(None)
+    }
+
+    /// What stands of each action whose last row has ended and isn't cleared, so that it can be put back once it is marked.
+    fn before_marks(&self, alloc: Global) -> Result<Vec<Before>, AllocError>
+        ensures { IfOk result (λ before. AreBefore before.items self.now.histories) }
+    {
+        let mut before = Vec::new(alloc);
+        for history in self.histories.as_slice() {
+            if may_clear(Some(&history.rows)) {
+                before.push(self.histories.before(history.action)?)?;
+            }
+        }
+        Ok(before)
+    }
+
+    /// Puts back what stood before marks.
+    pub(crate) fn unmark(&mut self, mut before: Vec<Before>)
+        ensures { self.new ≡ record self.old { histories = undone before.items self.old.histories } }
+    {
+        while let Some(last) = before.pop() {
+            self.histories.put_back(last);
+        }
     }
 
     /// Whether the last row of an action has ended and isn't cleared, so that it may have to be marked.
@@ -61,38 +105,40 @@ impl KeptState {
         time: &Time,
         marked: &mut Histories,
     ) -> Result<bool, Turned>
-        requires sound { IsSoundKept self.now }
-        requires same { marked.old ≡ self.now.histories }
-        ensures { MakesMarks time.now (state_of self.now) (actions_of self.now.sites) marked.old
+        requires { AreHistories marked.old }
+        ensures marks { MakesMarks time.now (state_of self.now) (actions_of self.now.sites) marked.old
             (M.told machine.old) result marked.new (M.told machine.new) }
+        ensures undo { UndoneSame marked.old marked.new }
     {
         let mut any = false;
-        for block in self.sites.actions() {
-            if self.clear_block(alloc, machine, time, block, marked)? {
+        for (place, block) in self.sites.actions().iter().enumerate() {
+            if self.clear_block(alloc, machine, time, block, place, marked)? {
                 any = true;
             }
         }
         Ok(any)
     }
 
-    /// Marks the last row of the action of this block, if it is an action's and is to be marked. Answers whether it is.
+    /// Marks the last row of the action of this block, if it is an action's and is to be marked. Answers whether it is. The block stands
+    /// at this place.
     fn clear_block<M: Machine>(
         &self,
         alloc: Global,
         machine: &mut M,
         time: &Time,
         block: &ReadBlock,
+        place: usize,
         marked: &mut Histories,
     ) -> Result<bool, Turned>
-        requires sound { IsSoundKept self.now }
         requires good { AreHistories marked.old }
-        ensures { MakesMarks time.now (state_of self.now) (filter_map as_action (shown_block block.now ∷ [])) marked.old
+        ensures marks { MakesMarks time.now (state_of self.now) (filter_map as_action (shown_block block.now ∷ [])) marked.old
             (M.told machine.old) result marked.new (M.told machine.new) }
+        ensures undo { UndoneSame marked.old marked.new }
     {
         let ReadBlock::Action(action) = block else {
             return Ok(false);
         };
-        if !self.is_cleared_now(alloc, machine, time, action, marked)? {
+        if !self.is_cleared_now(alloc, machine, time, action, place, marked)? {
             return Ok(false);
         }
         changed_histories_can_be_saved();
@@ -100,38 +146,30 @@ impl KeptState {
         Ok(true)
     }
 
-    /// Whether the last row of an action is to be marked.
+    /// Whether the last row of an action is to be marked. Its history stands at this place where the actions before it have some, so it
+    /// is looked at there first.
     fn is_cleared_now<M: Machine>(
         &self,
         alloc: Global,
         machine: &mut M,
         time: &Time,
         action: &ReadAction,
+        place: usize,
         marked: &Histories,
     ) -> Result<bool, Turned>
-        requires { IsSoundKept self.now }
         ensures { TestsMark (may_clear (last_row (rows_at action.now.id marked.now))) time.now (state_of self.now) action.now
             (M.told machine.old) result (M.told machine.new) }
     {
-        if !may_clear(marked.rows(action.action().id)) {
+        if !may_clear(marked.rows_near(action.action().id, place)) {
             return Ok(false);
         }
-        match relevant(alloc, self.sites.content(action.action()), machine, time) {
+        let content = self.sites.content_near(action.action(), place);
+        match relevant(alloc, content, machine, time) {
             Found::Yes => Ok(false),
             Found::No => Ok(true),
             Found::Failed => Err(Turned::MachineFault),
             Found::Memory => Err(Turned::Memory),
         }
-    }
-}
-
-/// The histories with their marks, or these where nothing is marked.
-pub(crate) fn with_marks<'a>(marked: &'a Option<Histories>, own: &'a Histories) -> &'a Histories
-    ensures { result.now ≡ unwrap_or marked.now own.now }
-{
-    match marked {
-        Some(marked) => marked,
-        None => own,
     }
 }
 

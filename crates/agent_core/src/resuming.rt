@@ -34,6 +34,8 @@ impl KeptState {
         ensures state { state_of self.new ≡ state_of self.old }
         ensures sound { IsSoundKept self.new }
     {
+        self.histories.keep_texts(alloc)?;
+        self.outbox.make_texts(alloc)?;
         self.outbox.reserve()?;
         Spare::take(alloc, &self.name, &self.histories, self.outbox.all())
     }

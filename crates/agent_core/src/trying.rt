@@ -1,7 +1,6 @@
 // Trying the actions: the first that is due.
-ghost use Rattle.std.specs.Prelude.{◌≡◌, ◌∷◌, [], None, is_some};
+ghost use Rattle.std.specs.Prelude.{◌≡◌, ◌∷◌, [], None};
 ghost use Rattle.std.specs.List.{filter_map};
-ghost use Rattle.std.specs.Option.{unwrap_or};
 ghost use Rattle.act_rules.specs.Tallies.{StandsFor};
 ghost use Rattle.bf_machine.specs.Views.{MachineView};
 ghost use Rattle.agent_text.specs.Histories.{rows_at};
@@ -9,12 +8,13 @@ ghost use Rattle.agent_attempt.specs.ReadBlocks.{shown_block};
 ghost use Rattle.agent_attempt.specs.ActionContents.{actions_of, as_action};
 ghost use Rattle.agent_core.specs.Inside.{AreSoundOn, IsSoundKept, state_of};
 ghost use Rattle.agent_core.specs.Saving.{OrMemory};
-ghost use Rattle.agent_state.specs.States.{broken_action, with_histories};
+ghost use Rattle.agent_state.specs.States.{broken_action};
 ghost use Rattle.agent_core.specs.Devices.{devices};
-ghost use Rattle.agent_core.specs.Steps.{AreMarked, AreMarksOf, FindsDue, TriesOne};
+ghost use Rattle.agent_core.specs.Marking.{AreMarksOf, unmarked_state};
+ghost use Rattle.agent_core.specs.Steps.{AreMarked, FindsDue, TriesOne};
 ghost use Rattle.agent_core.specs.Turns.{Finishes, Tries};
 
-use crate::clearing::with_marks;
+use crate::clearing::Marked;
 use crate::kept_state::KeptState;
 use crate::turned::Turned;
 use act_rules::Tally;
@@ -41,15 +41,17 @@ impl KeptState {
             (devices (M.told machine.new) (P.told pocket.new)) }
         ensures sound { AreSoundOn (M.told machine.new).started self.new }
     {
-        let marked = match self.marks(alloc, machine, time) {
+        let marked = match self.mark(alloc, machine, time) {
             Ok(marked) => marked,
             Err(stop) => return stop,
         };
-        let histories = with_marks(&marked, &self.histories);
-        match self.find_due(alloc, machine, time, histories) {
-            Ok(Some(attempt)) => self.begin(alloc, machine, pocket, marked, attempt, time),
+        match self.find_due(alloc, machine, time, &self.histories) {
+            Ok(Some(attempt)) => self.begin(alloc, machine, pocket, marked.before, attempt, time),
             Ok(None) => self.idle(alloc, pocket, marked),
-            Err(stop) => stop,
+            Err(stop) => {
+                self.unmark(marked.before);
+                stop
+            }
         }
     }
 
@@ -66,21 +68,22 @@ impl KeptState {
         ensures { FindsDue time.now (state_of self.now) marked.now (actions_of self.now.sites)
             (M.told machine.old) result (M.told machine.new) }
     {
-        for block in self.sites.actions() {
-            if let Some(attempt) = self.try_block(alloc, machine, time, block, marked)? {
+        for (place, block) in self.sites.actions().iter().enumerate() {
+            if let Some(attempt) = self.try_block(alloc, machine, time, block, place, marked)? {
                 return Ok(Some(attempt));
             }
         }
         Ok(None)
     }
 
-    /// The attempt of the action of this block, as it begins, if it is an action's and is due.
+    /// The attempt of the action of this block, as it begins, if it is an action's and is due. The block stands at this place.
     fn try_block<M: Machine>(
         &self,
         alloc: Global,
         machine: &mut M,
         time: &Time,
         block: &ReadBlock,
+        place: usize,
         marked: &Histories,
     ) -> Result<Option<Attempt>, Turned>
         requires sound { IsSoundKept self.now }
@@ -89,18 +92,20 @@ impl KeptState {
             (M.told machine.old) result (M.told machine.new) }
     {
         match block {
-            ReadBlock::Action(action) => self.try_one(alloc, machine, time, action, marked),
+            ReadBlock::Action(action) => self.try_one(alloc, machine, time, action, place, marked),
             ReadBlock::Fixlet(_) | ReadBlock::Baseline(_) => Ok(None),
         }
     }
 
-    /// The attempt of an action, as it begins, where it is due.
+    /// The attempt of an action, as it begins, where it is due. Its tally stands at this place, as does its history where the actions
+    /// before it have some, so they are looked at there first.
     fn try_one<M: Machine>(
         &self,
         alloc: Global,
         machine: &mut M,
         time: &Time,
         action: &ReadAction,
+        place: usize,
         marked: &Histories,
     ) -> Result<Option<Attempt>, Turned>
         requires sound { IsSoundKept self.now }
@@ -108,12 +113,12 @@ impl KeptState {
         ensures { TriesOne time.now (state_of self.now) marked.now action.now
             (M.told machine.old) result (M.told machine.new) }
     {
-        let rows = rows_of(marked.rows(action.action().id));
-        let tally = self.tally_for(alloc, action, marked);
+        let rows = rows_of(marked.rows_near(action.action().id, place));
+        let tally = self.tally_for(alloc, action, place, marked);
         if !may_begin(action, rows, &tally, time) {
             return Ok(None);
         }
-        let content = self.sites.content(action.action());
+        let content = self.sites.content_near(action.action(), place);
         match wanted(alloc, &self.name, action, content, machine, time) {
             Found::Yes => {}
             Found::No => return Ok(None),
@@ -131,49 +136,39 @@ impl KeptState {
     }
 
     /// The tally that stands for the rows of an action, marked or not.
-    fn tally_for(&self, alloc: Global, action: &ReadAction, marked: &Histories) -> Tally
+    fn tally_for(
+        &self,
+        alloc: Global,
+        action: &ReadAction,
+        place: usize,
+        marked: &Histories,
+    ) -> Tally
         requires sound { IsSoundKept self.now }
         requires marked { AreMarked self.now.histories marked.now }
         ensures { StandsFor result action.now.rules.retries (rows_at action.now.id marked.now) }
     {
         let action = action.action();
         self.tallies
-            .standing(alloc, action.id, action.rules.retries, marked)
+            .standing(alloc, action.id, action.rules.retries, marked, place)
     }
 
     /// No action is due: the marks stand.
-    fn idle<P: Pocket>(
-        &mut self,
-        alloc: Global,
-        pocket: &mut P,
-        marked: Option<Histories>,
-    ) -> Turned
-        requires { AreMarksOf self.old (unwrap_or marked self.old.histories) }
-        ensures finishes { (machine : MachineView) → OrMemory (state_of self.old) (devices machine (P.told pocket.old))
-            (Finishes (is_some marked) Turned.Idle (with_histories (unwrap_or marked self.old.histories) (state_of self.old))
-            (devices machine (P.told pocket.old)))
+    fn idle<P: Pocket>(&mut self, alloc: Global, pocket: &mut P, marked: Marked) -> Turned
+        requires { AreMarksOf marked.before.items self.old }
+        ensures finishes { (machine : MachineView) → OrMemory (unmarked_state marked.before.items self.old)
+            (devices machine (P.told pocket.old))
+            (Finishes marked.any Turned.Idle (state_of self.old) (devices machine (P.told pocket.old)))
             result (state_of self.new) (devices machine (P.told pocket.new)) }
         ensures held { (state_of self.new).held ≡ (state_of self.old).held }
         ensures sound { IsSoundKept self.new }
     {
-        let any = marked.is_some();
-        if !any && !self.can_report() {
+        if !marked.any && !self.can_report() {
             return Turned::Idle;
         }
         let Ok(spare) = self.take_spare(alloc) else {
+            self.unmark(marked.before);
             return Turned::Memory;
         };
-        self.keep_marks(marked);
-        self.finish(pocket, spare, any, Turned::Idle)
-    }
-
-    /// The histories are these with their marks, if anything is marked.
-    fn keep_marks(&mut self, marked: Option<Histories>)
-        ensures { self.new ≡ record self.old { histories = unwrap_or marked self.old.histories } }
-    {
-        let Some(marked) = marked else {
-            return;
-        };
-        self.histories = marked;
+        self.finish(pocket, spare, marked.any, Turned::Idle)
     }
 }
