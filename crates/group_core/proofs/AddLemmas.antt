@@ -1,4 +1,4 @@
--- Which properties of an analysis are kept, new, or have the name of another one.
+-- Which properties of an analysis are kept, new, or have the name of another one. Other crates may cite these lemmas.
 use Rattle.std.proofs.Common.{ℕ, zero, suc, ◌≡◌, ◌≢◌, ◌<◌, ◌≤◌, ◌+◌, Bool, true, false, cond, not, ◌||◌, ◌⊎◌, inl, inr, List, [], ◌∷◌, ◌++◌, length, get_or, take, drop, filter, find, All, Contains, Some, None, bytes_eq, refl, sym, ap, subst, ◌∙◌, arith, append-nil, length-append, Result, Ok, Err}
 use Rattle.std.specs.Prelude.{is_ok}
 use Rattle.std.specs.List.{AllByRecursion, IsDistinct}

@@ -1,5 +1,5 @@
 mod Sorting
-pub mod Tabling
+mod Tabling
 mod Membering
 mod Booking
 mod OneList

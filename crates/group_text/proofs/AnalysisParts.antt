@@ -1,4 +1,4 @@
--- The lines of an analysis, part by part.
+-- The lines of an analysis, part by part. Other crates may cite these lemmas.
 use Rattle.std.proofs.Common.{ℕ, zero, bytes_eq, Bool, ◌≡◌, ◌≢◌, ◌<◌, List, [], ◌∷◌, ◌++◌, length, map, append_assoc, pos, refl, sym, ap, subst, ◌∙◌, arith, append-nil, get_or, false, true}
 use Rattle.std.specs.Prelude.{codes, flat_map, Contains}
 use Rattle.std.specs.List.{AllByRecursion, IsDistinct}

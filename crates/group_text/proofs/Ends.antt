@@ -1,4 +1,4 @@
--- The last line of an analysis and of a group is `end`, and no other is.
+-- The last line of an analysis and of a group is `end`, and no other is. Other crates may cite these lemmas.
 use Rattle.std.proofs.Common.{ℕ, ◌≡◌, ◌≢◌, List, [], ◌∷◌, ◌++◌, map, Bool, true, false, get_or, sym, ap, arith, All}
 use Rattle.std.proofs.lemmas.List.Elements.{All-nil, All-cons}
 use Rattle.line_forms.proofs.Parts.{Lines}

@@ -2,7 +2,7 @@ mod SomeQuestion
 mod FieldLemmas
 pub mod AnalysisParts
 mod AnalysisReading
-pub mod TestLines
+mod TestLines
 pub mod GroupParts
 mod GroupReading
 pub mod Ends

@@ -9,7 +9,7 @@ use Rattle.rel_lexer.specs.Tokens.{AreTokens}
 use Rattle.rel_grammar.specs.Answers.{IsTreeOf}
 use Rattle.rel_grammar.specs.Grammar.{Question, collection_one, tuple_one, no_if, bar_one, either_one, both_one, no_relop, sum_one, product_one, no_sign, cast_one, no_object, no_filter, a_number}
 use Rattle.rel_grammar.specs.Trees.{numeral}
-use Rattle.rel_types.specs.Plans.{PlainNode, node}
+use Rattle.rel_types.specs.Plans.{node}
 use Rattle.rel_types.specs.Plans as plans
 use Rattle.rel_value.specs.Plain.{integers}
 use Rattle.group_text.specs.Properties.{IsQuestion}

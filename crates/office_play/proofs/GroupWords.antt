@@ -21,7 +21,7 @@ use Rattle.group_core.specs.Books.{AddsAnalysis, BookState, DefinesGroup, HasGro
 use Rattle.office_rules.specs.Deeds.{Deed}
 use Rattle.office_rules.specs.GroupWords.{HasNoMember, KeepsAnalysis, KeepsGroup, Measures, MeasuresComputer, PutsTaken, SaysMembers, TargetsGroup, added_words, aimed, defined_words, rows_taken}
 use Rattle.office_rules.specs.OfficeLines.{about_line, nothing_line}
-use Rattle.office_rules.specs.Offices.{Office, PlayedComputer}
+use Rattle.office_rules.specs.Offices.{PlayedComputer}
 use Rattle.office_rules.specs.ServerWords.{AsksServer}
 use Rattle.office_play.specs.Aiming.{IsAimedAt}
 use Rattle.office_play.specs.Kept.{AreRowsOf, KeptOffice, office_of}

@@ -1,5 +1,5 @@
 -- Actions that are aimed at the members of a group.
-use Rattle.std.specs.Prelude.{◌≡◌, ℕ, Bool, true, false, List, [], ◌∷◌, Some, None}
+use Rattle.std.specs.Prelude.{◌≡◌, ℕ, Bool, true, false, List, ◌∷◌, Some, None}
 use Rattle.std.specs.declared.option.Option.{Option}
 use Rattle.group_core.specs.Books.{BookState, HasMembers}
 use Rattle.office_rules.specs.GroupWords.{HasNoMember, aimed, aimed_lines}

@@ -2,13 +2,12 @@
 use Rattle.std.proofs.Common.{ℕ, ◌≡◌, ◌+◌, ◌-◌, ◌^◌, min, List, [], ◌∷◌, ◌++◌, map, Bool, Some, Ok, Err, refl, sym, ap, subst, ◌∙◌, arith}
 use Rattle.std.specs.Prelude.{codes}
 use Rattle.std.proofs.lemmas.List.{append_cancel_left}
-use Rattle.line_forms.specs.BadLines as bad_lines
-use Rattle.line_forms.specs.BadLines.{AnswersBadLine}
+use Rattle.line_forms.specs.BadLines.{AnswersBadLine, Begins}
 use Rattle.line_forms.specs.Fields.{field_text}
 use Rattle.line_forms.specs.LineStates.{LineState, lines_of}
 use Rattle.line_forms.specs.Lines.{lines_text}
 use Rattle.line_forms.specs.Names.{IsName}
-use Rattle.line_forms.specs.Readers.{IsNotAhead, Passes, StopsAt}
+use Rattle.line_forms.specs.Readers.{Passes, StopsAt}
 use Rattle.line_forms.proofs.Passing.{cons_head, cons_tail}
 use Rattle.line_forms.proofs.PlainLemmas.{plain_name}
 use Rattle.group_text.specs.declared.group.Group.{Group}
@@ -26,7 +25,7 @@ use Rattle.office_text.specs.declared.order.Order.TheVariants as order
 use Rattle.office_text.specs.declared.text_reader.Last.TheVariants as last
 use Rattle.office_text.specs.Orders.{CanFollow}
 use Rattle.office_text.specs.OrderLines.{first_fields, first_line, IsBody}
-use Rattle.office_text.specs.OrderReadings.{AreEntryLines, AreNextLines, Begins, HaveEnded, IsBadAt, IsEntry, IsEntryOf, IsInText, IsNext, ReadsEntry, TakesEntry}
+use Rattle.office_text.specs.OrderReadings.{AreEntryLines, AreNextLines, HaveEnded, IsBadAt, IsEntryOf, IsFirstLine, IsInText, ReadsEntry, TakesEntry}
 use Rattle.office_text.proofs.Fronts.{Lines}
 use Rattle.office_text.proofs.BodyLemmas.{analysis_ends_at, group_ends_at}
 use Rattle.office_text.proofs.FieldLemmas.{fields_known, one_plain, two_plain}
@@ -34,18 +33,12 @@ use Rattle.office_text.proofs.PartLemmas.{EndOnce, IsAgain, StopsOn, part_bad}
 use Rattle.office_text.proofs.Stops.{behind_first}
 use Rattle.office_text.proofs.WordLemmas.{of_analysis, of_group}
 
--- no entry is ahead
-pub no_entry : (before : List Order) (state : LineState) → ((more : Lines) → ¬ (state.lines ≡ codes "analysis" ∷ more)) × IsNotAhead IsName group_line state → IsNotAhead (IsNext IsEntry before) first_line state
-no_entry before state none (order.Analysis a) more next e = none.0 more e
-no_entry before state none (order.Group g) more next e = none.1 g.name more next.body_is.name e
-no_entry before state none other more next e = absurd next.is
-
 -- ---- where the lines of an entry stop
 -- lines of such a set begin with the line that is ahead, and stop behind it
 abbrev StopsBehind : (Lines → Type 0) → List ℕ → LineState → ℕ → Type 0
 StopsBehind Are first old number = (bad : LineState) × (part : Lines) × Passes old bad (first ∷ part) × StopsAt (λ body. Are (first ∷ body)) part bad × (number ≡ bad.number)
 
-behind_one : (Are : Lines → Type 0) (first : List ℕ) (more : Lines) (old : LineState) (number : ℕ) → old.lines ≡ first ∷ more → (bad_lines.Begins Are [] → bad_lines.Begins Are (first ∷ [])) → StopsOn Are old number → StopsBehind Are first old number
+behind_one : (Are : Lines → Type 0) (first : List ℕ) (more : Lines) (old : LineState) (number : ℕ) → old.lines ≡ first ∷ more → (Begins Are [] → Begins Are (first ∷ [])) → StopsOn Are old number → StopsBehind Are first old number
 behind_one Are first more old number ahead some (bad, [], passes, stops, is) = absurd (stops.ahead first more (sym passes.0 ∙ ahead) (some stops.begins))
 behind_one Are first more old number ahead some (bad, line ∷ part, passes, stops, is) =
     let same : line ≡ first = cons_head line first (part ++ bad.lines) more (sym passes.0 ∙ ahead) in
@@ -55,7 +48,7 @@ behind_one Are first more old number ahead some (bad, line ∷ part, passes, sto
     (bad, part, subst P same passes, record { begins = stop.begins; unfinished = stop.unfinished; ahead = stop.ahead }, is)
 
 -- where there is some entry, one begins with this line
-begins_one : (sort : Entry) (line : List ℕ) → Begins sort line → bad_lines.Begins (AreEntryLines sort) [] → bad_lines.Begins (AreEntryLines sort) (line ∷ [])
+begins_one : (sort : Entry) (line : List ℕ) → IsFirstLine sort line → Begins (AreEntryLines sort) [] → Begins (AreEntryLines sort) (line ∷ [])
 begins_one entry.Analysis line first (lines, (a, is)) =
     let rest : Lines = map property_line a.properties ++ codes "end" ∷ [] in
     let A : Lines → Type 0 = AreAnalysisLines in
@@ -100,7 +93,7 @@ group_stops before name part bad good stops = behind_first before (group_line na
         let G : List ℕ → Type 0 = λ n. IsGroup g (group_line n ∷ body) in
         (order.Group g, record { form = tt; names = tt }, subst G same is, ap group_line (sym same))
 
-entry_stops : (before : List Order) (sort : Entry) (line : List ℕ) (part : Lines) (bad : LineState) → Begins sort line → StopsAt (λ body. AreEntryLines sort (line ∷ body)) part bad → StopsAt (AreNextLines before) (line ∷ part) bad
+entry_stops : (before : List Order) (sort : Entry) (line : List ℕ) (part : Lines) (bad : LineState) → IsFirstLine sort line → StopsAt (λ body. AreEntryLines sort (line ∷ body)) part bad → StopsAt (AreNextLines before) (line ∷ part) bad
 entry_stops before entry.Analysis line part bad first stops =
     let S : List ℕ → Type 0 = λ l. StopsAt (λ body. AreAnalysisLines (l ∷ body)) part bad in
     let N : List ℕ → Type 0 = λ l. StopsAt (AreNextLines before) (l ∷ part) bad in
@@ -111,7 +104,7 @@ entry_stops before entry.Group line part bad (name, good, first) stops =
     subst N (sym first) (group_stops before name part bad good (subst S first stops))
 
 -- the first bad line of an entry's text is that of the entry
-pub entry_bad : (before : List Order) (sort : Entry) (line : List ℕ) (L more : Lines) (old new : LineState) (ended : Bool) (n first answer : ℕ) → Begins sort line → old.lines ≡ line ∷ more → IsInText old → IsAgain L → Passes old new L →
+pub entry_bad : (before : List Order) (sort : Entry) (line : List ℕ) (L more : Lines) (old new : LineState) (ended : Bool) (n first answer : ℕ) → IsFirstLine sort line → old.lines ≡ line ∷ more → IsInText old → IsAgain L → Passes old new L →
     HaveEnded last.End new L ended → AnswersBadLine (AreEntryLines sort) (lines_text L) n → first ≡ old.number → answer ≡ min (first + (n - 1)) (2 ^ 32 - 1) → IsBadAt (AreNextLines before) old answer
 entry_bad before sort line L more old new ended n first answer begins ahead there again passes have bad first_is answer_is =
     let on = part_bad (AreEntryLines sort) L old new ended n first answer (entry_ends sort) there again passes have bad first_is answer_is in

@@ -43,10 +43,6 @@ has_all old mid new orders has none =
     let P : LineState → Type 0 = λ s. TakesOrders old s (Ok orders) in
     subst P (sym none.0) (has, none.1)
 
-pub has_bad : (old mid new : LineState) (orders : List Order) (e : OfficeError) → HasOrders old mid orders → TakesOrder orders mid new (Err e) → TakesOrders old new (Err e)
-has_bad old mid new orders (error.BadLine line) has bad = (orders, mid, has, bad)
-has_bad old mid new orders error.Memory has bad = tt
-
 -- ---- the whole
 pub no_office : (text : List ℕ) (new : LineState) → (new ≡ before_lines text) × ((more : Lines) → ¬ (lines_of text ≡ codes "office" ∷ more)) → AnswersBadLine AreOfficeLines text new.number
 no_office text new none =

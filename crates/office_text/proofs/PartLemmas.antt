@@ -1,11 +1,10 @@
 -- Parts of an office text that are taken up to their `end` and read by themselves: they are read again, and where they stop.
 use Rattle.std.proofs.Common.{ℕ, zero, suc, ◌≡◌, ◌≢◌, ◌+◌, ◌-◌, ◌^◌, ◌<◌, ◌≤◌, min, List, [], ◌∷◌, ◌++◌, length, take, drop, Bool, true, false, refl, sym, ap, subst, ◌∙◌, arith, inl, inr, All, append_assoc, append-nil, length-append}
-use Rattle.std.specs.Prelude.{codes}
 use Rattle.std.proofs.lemmas.List.{take-append-drop, take_all, length-take-le}
 use Rattle.std.proofs.lemmas.List.Elements.{All-nil, All-cons, All-head, All-tail}
 use Rattle.line_forms.specs.BadLines.{Begins, AnswersBadLine, IsFirstBadLine}
 use Rattle.line_forms.specs.LineStates.{LineState, lines_of, unended_of}
-use Rattle.line_forms.specs.Lines.{IsLine, StandsBehind, lines_text}
+use Rattle.line_forms.specs.Lines.{IsLine, lines_text}
 use Rattle.line_forms.specs.Readers.{Passes, StopsAt}
 use Rattle.line_forms.proofs.BadLines.{Begins-good}
 use Rattle.line_forms.proofs.Passing.{cons_head}

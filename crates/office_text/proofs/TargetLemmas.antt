@@ -27,11 +27,6 @@ use Rattle.office_text.proofs.WordLemmas.{of_target}
 abbrev all_line : List ℕ
 all_line = codes "target all"
 
--- no such action is ahead
-pub no_target : (before : List Order) (state : LineState) → IsNotAhead IsName (named_line (codes "target")) state → IsNotAhead (IsNext IsTarget before) first_line state
-no_target before state none (order.Target group text) more next e = none group more next.can.form e
-no_target before state none other more next e = absurd next.is
-
 -- the order of such a line
 which_target : (before : List Order) (name : List ℕ) → IsName name → (o : Order) (body : Lines) → CanFollow before o → IsBody o body → first_line o ≡ named_line (codes "target") name → (text : List ℕ) × AreTargetLines text body
 which_target before name good o body can is e =

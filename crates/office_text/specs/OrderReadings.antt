@@ -166,15 +166,15 @@ abbrev pub TakesEntry : List Order → LineState → LineState → Result (Optio
 TakesEntry before old new answer = TakesOneOf IsEntry before old new answer
 
 -- the first line of an entry
-abbrev pub Begins : Entry → List ℕ → Type 0
-Begins entry.Analysis line = line ≡ codes "analysis"
-Begins entry.Group line = (name : List ℕ) × IsName name × (line ≡ group_line name)
+abbrev pub IsFirstLine : Entry → List ℕ → Type 0
+IsFirstLine entry.Analysis line = line ≡ codes "analysis"
+IsFirstLine entry.Group line = (name : List ℕ) × IsName name × (line ≡ group_line name)
 
 -- what is given by the lines ahead, if the first of them is that of an analysis or of a group
 abbrev pub FindsEntry : LineState → Option Entry → Type 0
 FindsEntry state answer =
     MatchOption answer (((more : List (List ℕ)) → ¬ (state.lines ≡ codes "analysis" ∷ more)) × IsNotAhead IsName group_line state)
-    (λ entry. (line : List ℕ) × (more : List (List ℕ)) × Begins entry line × (state.lines ≡ line ∷ more))
+    (λ entry. (line : List ℕ) × (more : List (List ℕ)) × IsFirstLine entry line × (state.lines ≡ line ∷ more))
 
 -- the lines are those of some entry of this sort
 abbrev pub AreEntryLines : Entry → List (List ℕ) → Type 0

@@ -3,7 +3,7 @@ use Rattle.office_text.specs.declared.error.OfficeError.TheVariants.{BadLine}
 use Rattle.office_text.specs.declared.order.Order.TheVariants.{Target}
 use Rattle.office_text.specs.OrderLines.{AreTargetLines}
 use Rattle.office_text.specs.OrderReadings.{TakesBody}
-use Rattle.office_text.proofs.TargetLemmas.{no_target, target_read}
+use Rattle.office_text.proofs.TargetLemmas.{target_read}
 use Rattle.office_text.proofs.target_reader.take_target.Goals as goal
 
 pub returns-in-Some-2 : goal.returns-in-Some-2

@@ -1,4 +1,4 @@
-use Rattle.std.proofs.Common.{rules, ◌≡◌, ap, ◌∙◌, filter, subst, List, IfOk}
+use Rattle.std.proofs.Common.{rules, ◌≡◌, ◌∙◌, filter, subst, List, IfOk}
 use Rattle.desk_keep.specs.declared.change.Change.{Change}
 use Rattle.desk_keep.specs.Tables.{is_result_of, AreRows}
 use Rattle.desk_keep.proofs.Answering.{lists_rows}

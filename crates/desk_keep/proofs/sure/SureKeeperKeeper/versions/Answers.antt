@@ -1,4 +1,4 @@
-use Rattle.std.proofs.Common.{rules, ◌≡◌, ap, ◌∙◌, filter, map, subst, List, IfOk}
+use Rattle.std.proofs.Common.{rules, ◌≡◌, ◌∙◌, filter, map, subst, List, IfOk}
 use Rattle.desk_keep.specs.declared.table.Table.TheVariants.{Sites}
 use Rattle.desk_keep.specs.declared.change.Change.{Change}
 use Rattle.desk_keep.specs.Tables.{is_of, without_text, AreRows}

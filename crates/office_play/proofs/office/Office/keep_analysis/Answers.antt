@@ -1,4 +1,4 @@
-use Rattle.std.proofs.Common.{◌≡◌, ap, subst}
+use Rattle.std.proofs.Common.{ap, subst}
 use Rattle.group_core.specs.Books.{AddsAnalysis, BookState}
 use Rattle.office_play.specs.States.{OfficeState, kept_of}
 use Rattle.office_play.proofs.GroupWords.{keeps_analysis, keeps_book, on_ok_both}

@@ -1,4 +1,4 @@
-use Rattle.std.proofs.Common.{◌≡◌, ◌<◌, ◌≤◌, ◌^◌, ◌++◌, List, ℕ, ℤ, [], ◌∷◌, arith, length, to_z, of_z, w64, refl, sym, ap, subst, ◌∙◌}
+use Rattle.std.proofs.Common.{◌≡◌, ◌++◌, List, ℕ, ℤ, [], ◌∷◌, arith, to_z, of_z, w64, sym, ap, subst, ◌∙◌}
 use Rattle.std.specs.Prelude.{codes, decimal, get_or, slice_set}
 use Rattle.std.specs.Fmt.{signed_decimal}
 use Rattle.std.proofs.lemmas.Int.{to_z-of_z}
@@ -6,7 +6,7 @@ use Rattle.std.proofs.lemmas.Result.{on_ok_weaker}
 use Rattle.desk_base.specs.Moments.{IsMoment}
 use Rattle.group_text.specs.declared.property.Property.{Property}
 use Rattle.group_core.specs.Books.{BookState}
-use Rattle.office_rules.specs.GroupWords.{MeasuresComputer, PutsTaken, rows_taken}
+use Rattle.office_rules.specs.GroupWords.{MeasuresComputer, PutsTaken}
 use Rattle.office_rules.specs.OfficeLines.{about_line}
 use Rattle.office_rules.specs.Offices.{most_kept}
 use Rattle.office_play.specs.Measuring.{taken_of}
