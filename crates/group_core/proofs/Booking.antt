@@ -52,12 +52,12 @@ putting book s keeps rows = record { distinct = rows.distinct; table = λ p. kee
 
 -- the members of the groups that were made ready and settled
 pub members_after : (ss : List Sample) (s : Sample) (kept : List KeptRow) (old ready new : List KeptGroup) → Putting ss s kept → ((p : List ℕ) × IsSome (one_of row_name p (with_all row_name (newer_rows kept s) kept)))
-    → All (λ (g : KeptGroup). AreMembers ss g.group g.members.items) old → map shown ready ≡ map shown old → All (IsReady s.computer (newer_rows kept s)) ready
+    → All (λ (g : KeptGroup). AreMembers ss g.group g.members.items) old → map shown ready ≡ map shown old → All (IsReady s.computer kept (newer_rows kept s)) ready
     → map shown new ≡ map (settled (with_all row_name (newer_rows kept s) kept)) ready → All (λ (g : KeptGroup). AreMembers (ss ++ s ∷ []) g.group g.members.items) new
 members_after ss s kept old ready new known some members same made after =
     let before : All (λ (g : KeptGroup). AreMembersOf ss (shown g)) ready = all_shown (AreMembersOf ss) old ready same members in
     all_settled (AreMembersOf (ss ++ s ∷ [])) (with_all row_name (newer_rows kept s) kept) ready new after
-    (all_both (IsReady s.computer (newer_rows kept s)) (λ (g : KeptGroup). AreMembersOf ss (shown g)) (λ (g : KeptGroup). AreMembersOf (ss ++ s ∷ []) (settled (with_all row_name (newer_rows kept s) kept) g))
+    (all_both (IsReady s.computer kept (newer_rows kept s)) (λ (g : KeptGroup). AreMembersOf ss (shown g)) (λ (g : KeptGroup). AreMembersOf (ss ++ s ∷ []) (settled (with_all row_name (newer_rows kept s) kept) g))
     (λ g is are. settles ss s kept known g is some are) ready made before)
 
 -- there is a row where a new one was put

@@ -27,8 +27,8 @@ groups_settled rows (k ∷ kept) = ap (λ l. k.group ∷ l) (groups_settled rows
 pub groups_same : (old new : List KeptGroup) → map shown new ≡ map shown old → groups_of new ≡ groups_of old
 groups_same old new same = groups_shown new ∙ ap shown_groups same ∙ sym (groups_shown old)
 
-pub groups_after : (name : List ℕ) (fresh rows : List KeptRow) (old new : List KeptGroup) → AreSettled name fresh rows old new → groups_of new ≡ groups_of old
-groups_after name fresh rows old new is = groups_shown new ∙ ap shown_groups is.after ∙ groups_settled rows is.ready ∙ groups_same old is.ready is.same
+pub groups_after : (name : List ℕ) (rows newer after : List KeptRow) (old new : List KeptGroup) → AreSettled name rows newer after old new → groups_of new ≡ groups_of old
+groups_after name rows newer after old new is = groups_shown new ∙ ap shown_groups is.shows ∙ groups_settled after is.ready ∙ groups_same old is.ready is.same
 
 pub long_same : (old new : List KeptGroup) → groups_of new ≡ groups_of old → length new ≡ length old
 long_same old new same = sym (groups_long new) ∙ ap (length {A = Group}) same ∙ groups_long old

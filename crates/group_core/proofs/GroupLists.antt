@@ -27,9 +27,9 @@ settled_next rows xs ys i x y inside also is made done rest =
     ∙ sym (map-append (settled rows) (take i xs) (get_or xs i x ∷ [])) ∙ ap (map (settled rows)) (sym (take_more xs i x inside))
 
 -- one group more is ready
-pub ready_next : (name : List ℕ) (fresh : List KeptRow) (ys : List KeptGroup) (i : ℕ) (y : KeptGroup) → i < length ys → IsReady name fresh y → All (IsReady name fresh) (take i ys) → All (IsReady name fresh) (take (i + 1) (set ys i y))
-ready_next name fresh ys i y inside is are =
-    let P : KeptGroup → Type 0 = IsReady name fresh in
+pub ready_next : (name : List ℕ) (rows newer : List KeptRow) (ys : List KeptGroup) (i : ℕ) (y : KeptGroup) → i < length ys → IsReady name rows newer y → All (IsReady name rows newer) (take i ys) → All (IsReady name rows newer) (take (i + 1) (set ys i y))
+ready_next name rows newer ys i y inside is are =
+    let P : KeptGroup → Type 0 = IsReady name rows newer in
     let A : List KeptGroup → Type 0 = All P in
     subst A (sym (take_more_set ys i y inside)) (All-push P (take i ys) y are is)
 

@@ -1,5 +1,5 @@
 -- What a sample does to the members of groups.
-use Rattle.std.proofs.Common.{ℕ, zero, suc, ◌≡◌, ◌==◌, Bool, true, false, cond, ◌&&◌, ◌||◌, ◌↔◌, ◌⊎◌, inl, inr, List, [], ◌∷◌, ◌++◌, map, length, filter, Option, Some, None, IsSome, refl, sym, ap, subst, ◌∙◌, arith, bytes_eq, Contains}
+use Rattle.std.proofs.Common.{ℕ, zero, suc, ◌≡◌, ◌==◌, Bool, true, false, cond, not, ◌&&◌, ◌||◌, ◌↔◌, ◌⊎◌, inl, inr, List, [], ◌∷◌, ◌++◌, map, length, filter, Option, Some, None, IsSome, refl, sym, ap, subst, ◌∙◌, arith, bytes_eq, Contains}
 use Rattle.std.specs.Option.{option_or}
 use Rattle.std.specs.Ordering.{is_lt, ordering_reverse}
 use Rattle.std.specs.declared.cmp.Ordering.{Ordering}
@@ -21,9 +21,9 @@ use Rattle.group_sample.specs.declared.sample.Sampled.{Sampled}
 use Rattle.group_core.specs.declared.kept_group.KeptGroup.{KeptGroup}
 use Rattle.group_core.specs.declared.kept_row.KeptRow.{KeptRow}
 use Rattle.group_core.specs.Books.{is_newer}
-use Rattle.group_core.specs.Keeping.{IsReady, has_property, is_about, newer_rows, settled, settled_members, with_or_without}
+use Rattle.group_core.specs.Keeping.{IsReady, can_change, differs, is_turned, newer_rows, settled, settled_members, with_or_without}
 use Rattle.group_core.specs.Lists.{after, before, itself, one_of, row_name, with_all, with_one, without}
-use Rattle.group_core.specs.Members.{AreMembers, IsMember, fits, passes}
+use Rattle.group_core.specs.Members.{AreMembers, IsMember, fits, passes, row_passes}
 use Rattle.group_core.specs.Tables.{row_in, table_row}
 use Rattle.group_core.proofs.Sorting.{found_all, same_name, name_same}
 use Rattle.group_core.proofs.Tabling.{other_computer, own_computer, kept_after, distinct_newer, put_row}
@@ -31,28 +31,31 @@ use Rattle.group_core.proofs.Tabling.{other_computer, own_computer, kept_after, 
 abbrev Rows : Type 0
 Rows = List ℕ → Option KeptRow
 
--- ---- rows that agree fit alike
+-- ---- a group whose tests come to the same fits alike
 abbrev passing : Rows → Test → Bool
 passing row_of test = passes test (row_of (property_of test))
 
-any_alike : (f g : Rows) (tests : List Test) → AllByRecursion (λ test. f (property_of test) ≡ g (property_of test)) tests → list_any (passing f) tests ≡ list_any (passing g) tests
+abbrev PassAlike : Rows → Rows → List Test → Type 0
+PassAlike f g tests = AllByRecursion (λ test. passing f test ≡ passing g test) tests
+
+any_alike : (f g : Rows) (tests : List Test) → PassAlike f g tests → list_any (passing f) tests ≡ list_any (passing g) tests
 any_alike f g [] same = refl
-any_alike f g (t ∷ tests) same = λ i. passes t (same.0 i) || any_alike f g tests same.1 i
+any_alike f g (t ∷ tests) same = λ i. same.0 i || any_alike f g tests same.1 i
 
-all_alike : (f g : Rows) (tests : List Test) → AllByRecursion (λ test. f (property_of test) ≡ g (property_of test)) tests → list_all (passing f) tests ≡ list_all (passing g) tests
+all_alike : (f g : Rows) (tests : List Test) → PassAlike f g tests → list_all (passing f) tests ≡ list_all (passing g) tests
 all_alike f g [] same = refl
-all_alike f g (t ∷ tests) same = λ i. passes t (same.0 i) && all_alike f g tests same.1 i
+all_alike f g (t ∷ tests) same = λ i. same.0 i && all_alike f g tests same.1 i
 
-pub fits_alike : (f g : Rows) (group : Group) → AllByRecursion (λ test. f (property_of test) ≡ g (property_of test)) group.tests → fits f group ≡ fits g group
+fits_alike : (f g : Rows) (group : Group) → PassAlike f g group.tests → fits f group ≡ fits g group
 fits_alike f g group same = by group.any
   where
     by : (b : Bool) → cond b (list_any (passing f) group.tests) (list_all (passing f) group.tests) ≡ cond b (list_any (passing g) group.tests) (list_all (passing g) group.tests)
     by true = any_alike f g group.tests same
     by false = all_alike f g group.tests same
 
-everywhere : (f g : Rows) (tests : List Test) → ((p : List ℕ) → f p ≡ g p) → AllByRecursion (λ test. f (property_of test) ≡ g (property_of test)) tests
+everywhere : (f g : Rows) (tests : List Test) → ((p : List ℕ) → f p ≡ g p) → PassAlike f g tests
 everywhere f g [] same = tt
-everywhere f g (t ∷ tests) same = (same (property_of t), everywhere f g tests same)
+everywhere f g (t ∷ tests) same = (ap (passes t) (same (property_of t)), everywhere f g tests same)
 
 pub fits_same : (f g : Rows) (group : Group) → ((p : List ℕ) → f p ≡ g p) → fits f group ≡ fits g group
 fits_same f g group same = fits_alike f g group (everywhere f g group.tests same)
@@ -91,13 +94,23 @@ member_same ss ts group c same is =
       rows_fit = sym (fits_same (table_row ss c) (table_row ts c) group same) ∙ is.rows_fit;
     }
 
--- a computer whose rows of the tests of a group stay is a member as before, where there are tests
-pub member_stays : (ss ts : List Sample) (group : Group) (c : List ℕ) → (length group.tests == 0) ≡ false
-    → AllByRecursion (λ test. table_row ss c (property_of test) ≡ table_row ts c (property_of test)) group.tests → IsMember ss group c → IsMember ts group c
+-- a computer is a member as before where the tests of the group come to the same, and there are some
+member_stays : (ss ts : List Sample) (group : Group) (c : List ℕ) → (length group.tests == 0) ≡ false → PassAlike (table_row ss c) (table_row ts c) group.tests → IsMember ss group c → IsMember ts group c
 member_stays ss ts group c some same is =
     let fit : fits (table_row ts c) group ≡ true = sym (fits_alike (table_row ss c) (table_row ts c) group same) ∙ is.rows_fit in
     let row = fits_row (table_row ts c) group some fit in
     record { property = row.0; has_row = row.1; rows_fit = fit }
+
+-- a test that a newer row doesn't turn comes to the same by it
+same_passes : (t : Test) (there newer : Option KeptRow) → differs t there newer ≡ false → passes t there ≡ passes t (option_or newer there)
+same_passes t there None e = refl
+same_passes t there (Some row) e = by (passes t there) (row_passes t row) e
+  where
+    by : (a b : Bool) → cond a (not b) b ≡ false → a ≡ b
+    by true true e = refl
+    by true false e = absurd (true≢false e)
+    by false true e = absurd (true≢false e)
+    by false false e = refl
 
 -- ---- lists of names
 itself_map : (xs : List (List ℕ)) → map itself xs ≡ xs
@@ -217,29 +230,21 @@ module _ (ss : List Sample) (s : Sample) (kept : List KeptRow) (known : Putting 
       unlike false e = e
       unlike true e = absurd (other (sym (same_name s.computer c e)))
 
-  -- a group that isn't about a new row keeps its members
-  untouched_row : (p : List ℕ) → has_property (newer_rows kept s) p ≡ false → table_row ss s.computer p ≡ table_row (ss ++ s ∷ []) s.computer p
-  untouched_row p none =
+  -- a group of which no test is turned keeps its members
+  unturned_test : (t : Test) → is_turned kept (newer_rows kept s) t ≡ false → passing (table_row ss s.computer) t ≡ passing (table_row (ss ++ s ∷ []) s.computer) t
+  unturned_test t e =
+      let p = property_of t in
       let test : Sampled → Bool = λ row. is_newer s.seq (one_of row_name row.property kept) in
-      sym (known.table p)
-      ∙ sym (found_all row_name (newer_rows kept s) kept p (distinct_newer s.seq test s.rows known.distinct) ∙ ap (λ o. option_or o (one_of row_name p kept)) (absent (newer_rows kept s) none))
-      ∙ own_rows p
-    where
-      absent : (rows : List KeptRow) → has_property rows p ≡ false → one_of row_name p rows ≡ None
-      absent [] e = refl
-      absent (row ∷ rows) e =
-          let parts = or_parts (bytes_eq row.row.property p) (has_property rows p) e in
-          ap (λ b. cond b (Some row) (one_of row_name p rows)) parts.0 ∙ absent rows parts.1
+      ap (passes t) (sym (known.table p)) ∙ same_passes t (one_of row_name p kept) (one_of row_name p (newer_rows kept s)) e
+      ∙ ap (passes t) (sym (found_all row_name (newer_rows kept s) kept p (distinct_newer s.seq test s.rows known.distinct)) ∙ own_rows p)
 
-  untouched_tests : (tests : List Test) → list_any (λ test. has_property (newer_rows kept s) (property_of test)) tests ≡ false
-      → AllByRecursion (λ test. table_row ss s.computer (property_of test) ≡ table_row (ss ++ s ∷ []) s.computer (property_of test)) tests
-  untouched_tests [] e = tt
-  untouched_tests (t ∷ tests) e =
-      let parts = or_parts (has_property (newer_rows kept s) (property_of t)) (list_any (λ test. has_property (newer_rows kept s) (property_of test)) tests) e in
-      (untouched_row (property_of t) parts.0, untouched_tests tests parts.1)
+  unturned_tests : (tests : List Test) → list_any (is_turned kept (newer_rows kept s)) tests ≡ false → PassAlike (table_row ss s.computer) (table_row (ss ++ s ∷ []) s.computer) tests
+  unturned_tests [] e = tt
+  unturned_tests (t ∷ tests) e =
+      let parts = or_parts (is_turned kept (newer_rows kept s) t) (list_any (is_turned kept (newer_rows kept s)) tests) e in
+      (unturned_test t parts.0, unturned_tests tests parts.1)
 
-  back_tests : (tests : List Test) → AllByRecursion (λ test. table_row ss s.computer (property_of test) ≡ table_row (ss ++ s ∷ []) s.computer (property_of test)) tests
-      → AllByRecursion (λ test. table_row (ss ++ s ∷ []) s.computer (property_of test) ≡ table_row ss s.computer (property_of test)) tests
+  back_tests : (tests : List Test) → PassAlike (table_row ss s.computer) (table_row (ss ++ s ∷ []) s.computer) tests → PassAlike (table_row (ss ++ s ∷ []) s.computer) (table_row ss s.computer) tests
   back_tests [] h = tt
   back_tests (t ∷ tests) h = (sym h.0, back_tests tests h.1)
 
@@ -250,23 +255,23 @@ module _ (ss : List Sample) (s : Sample) (kept : List KeptRow) (known : Putting 
       by true e = same (same_name c s.computer e)
       by false e = other (λ is. true≢false (sym (name_same c s.computer is) ∙ e))
 
-  pub untouched : (group : Group) (members : List (List ℕ)) → is_about (newer_rows kept s) group ≡ false → AreMembers ss group members → AreMembers (ss ++ s ∷ []) group members
+  pub untouched : (group : Group) (members : List (List ℕ)) → can_change kept (newer_rows kept s) group ≡ false → AreMembers ss group members → AreMembers (ss ++ s ∷ []) group members
   untouched group members none are =
-      let parts = or_parts (length group.tests == 0) (list_any (λ test. has_property (newer_rows kept s) (property_of test)) group.tests) none in
-      let rows = untouched_tests group.tests parts.1 in
+      let parts = or_parts (length group.tests == 0) (list_any (is_turned kept (newer_rows kept s)) group.tests) none in
+      let alike = unturned_tests group.tests parts.1 in
       record {
         each = λ c.
             same_or_other (Contains members c ↔ IsMember (ss ++ s ∷ []) group c) c
             (λ same. let P : List ℕ → Type 0 = λ n. Contains members n ↔ IsMember (ss ++ s ∷ []) group n in
             subst P (sym same) (
-              (λ has. member_stays ss (ss ++ s ∷ []) group s.computer parts.0 rows ((are.each s.computer).0 has)),
-              (λ is. (are.each s.computer).1 (member_stays (ss ++ s ∷ []) ss group s.computer parts.0 (back_tests group.tests rows) is)),
+              (λ has. member_stays ss (ss ++ s ∷ []) group s.computer parts.0 alike ((are.each s.computer).0 has)),
+              (λ is. (are.each s.computer).1 (member_stays (ss ++ s ∷ []) ss group s.computer parts.0 (back_tests group.tests alike) is)),
             ))
             (λ other. ((λ has. (others_stay group c other).0 ((are.each c).0 has)), (λ is. (are.each c).1 ((others_stay group c other).1 is))));
         ascending = are.ascending;
       }
 
-  -- one that may be about a new row has the computer where its rows fit
+  -- one that may gain or lose the computer has it where its rows fit
   pub touched : (group : Group) (members : List (List ℕ)) (fit : Bool) → fits (λ p. one_of row_name p (after_rows kept s)) group ≡ fit → ((p : List ℕ) × IsSome (one_of row_name p (after_rows kept s)))
       → AreMembers ss group members → AreMembers (ss ++ s ∷ []) group (with_or_without fit s.computer members)
   touched group members true fit some are =
@@ -301,9 +306,9 @@ module _ (ss : List Sample) (s : Sample) (kept : List KeptRow) (known : Putting 
       }
 
   -- a group that was made ready and settled has its members
-  pub settles : (group : KeptGroup) → IsReady s.computer (newer_rows kept s) group → ((p : List ℕ) × IsSome (one_of row_name p (after_rows kept s))) → AreMembers ss group.group group.members.items
+  pub settles : (group : KeptGroup) → IsReady s.computer kept (newer_rows kept s) group → ((p : List ℕ) × IsSome (one_of row_name p (after_rows kept s))) → AreMembers ss group.group group.members.items
       → AreMembers (ss ++ s ∷ []) (settled (after_rows kept s) group).group (settled (after_rows kept s) group).members
-  settles group ready some are = by (is_about (newer_rows kept s) group.group) refl
+  settles group ready some are = by (can_change kept (newer_rows kept s) group.group) refl
     where
       fit : Bool
       fit = fits (λ p. one_of row_name p (after_rows kept s)) group.group
@@ -311,9 +316,9 @@ module _ (ss : List Sample) (s : Sample) (kept : List KeptRow) (known : Putting 
       M : Option (List ℕ) → Type 0
       M o = AreMembers (ss ++ s ∷ []) group.group (settled_members o fit group.members.items)
 
-      by : (b : Bool) → is_about (newer_rows kept s) group.group ≡ b → M group.spare
-      by true is = subst M (sym (ready.about is)) (touched group.group group.members.items fit refl some are)
-      by false is = subst M (sym (ready.other is)) (untouched group.group group.members.items is are)
+      by : (b : Bool) → can_change kept (newer_rows kept s) group.group ≡ b → M group.spare
+      by true is = subst M (sym (ready.changes is)) (touched group.group group.members.items fit refl some are)
+      by false is = subst M (sym (ready.stays is)) (untouched group.group group.members.items is are)
 
 -- without a newer row nothing changes
 pub nothing_new : (ss : List Sample) (s : Sample) (kept : List KeptRow) → Putting ss s kept → newer_rows kept s ≡ [] → (c p : List ℕ) → table_row (ss ++ s ∷ []) c p ≡ table_row ss c p

@@ -1,5 +1,5 @@
 -- What a book keeps, and how a sample changes it. Only private functions cite these definitions.
-use Rattle.std.specs.Prelude.{◌≡◌, ℕ, ◌<◌, ◌≤◌, Bool, true, false, ◌||◌, ◌&&◌, not, ◌==◌, get_or, IfSome, List, length, map, filter, All, Option, Some, None, vec_capacity}
+use Rattle.std.specs.Prelude.{◌≡◌, ℕ, ◌<◌, ◌≤◌, Bool, true, false, ◌||◌, ◌&&◌, not, ◌==◌, if◌then◌else◌, get_or, IfSome, List, length, map, filter, All, Option, Some, None, vec_capacity}
 use Rattle.std.specs.List.{list_any, IsDistinct}
 use Rattle.std.specs.Str.{bytes_eq}
 use Rattle.group_text.specs.declared.group.Group.{Group}
@@ -14,7 +14,7 @@ use Rattle.group_core.specs.declared.kept_group.KeptGroup.{KeptGroup}
 use Rattle.group_core.specs.declared.kept_row.KeptRow.{KeptRow}
 use Rattle.group_core.specs.Books.{HasGroup, is_newer}
 use Rattle.group_core.specs.Lists.{AreComputers, computer_name, itself, one_of, row_at, row_name, with_one, without}
-use Rattle.group_core.specs.Members.{AreMembers, fits}
+use Rattle.group_core.specs.Members.{AreMembers, fits, passes, row_passes}
 use Rattle.group_core.specs.Tables.{table_row}
 
 -- ---- rows
@@ -36,23 +36,28 @@ pub record Membership : Type 0 where
 abbrev pub shown : KeptGroup → Membership
 shown kept = record { group = kept.group; members = kept.members.items }
 
--- whether one of the rows is of this property
-abbrev pub has_property : List KeptRow → List ℕ → Bool
-has_property rows property = list_any (λ (kept : KeptRow). bytes_eq kept.row.property property) rows
+-- whether a test comes to something else by a newer row, if there is one, than by what is there
+abbrev pub differs : Test → Option KeptRow → Option KeptRow → Bool
+differs test there None = false
+differs test there (Some newer) = if passes test there then not (row_passes test newer) else row_passes test newer
 
--- whether a group can gain or lose a computer by these rows: one of its tests is about one of them, or it has no test
-abbrev pub is_about : List KeptRow → Group → Bool
-is_about rows group =
-    length group.tests == 0 || list_any (λ (test : Test). has_property rows (property_of test)) group.tests
+-- whether it does by the newer row of its property
+abbrev pub is_turned : List KeptRow → List KeptRow → Test → Bool
+is_turned rows newer test = differs test (one_of row_name (property_of test) rows) (one_of row_name (property_of test) newer)
+
+-- whether a group can gain or lose the computer of these rows where newer ones replace some of them: one of its tests is turned, or it has
+-- no test
+abbrev pub can_change : List KeptRow → List KeptRow → Group → Bool
+can_change rows newer group = length group.tests == 0 || list_any (is_turned rows newer) group.tests
 
 -- where a group has a spare name, it has room for it
 abbrev pub HasRoom : KeptGroup → Type 0
 HasRoom kept = IfSome kept.spare (λ spare. length kept.members.items < vec_capacity kept.members)
 
--- a group is ready for a computer where its rows can change the group, and else stays as it is
-pub record IsReady (name : List ℕ) (fresh : List KeptRow) (kept : KeptGroup) : Type 0 where
-  pub about : is_about fresh kept.group ≡ true → kept.spare ≡ Some name
-  pub other : is_about fresh kept.group ≡ false → kept.spare ≡ None
+-- a group is ready for the computer of this name and these rows where newer ones can change the group, and else stays as it is
+pub record IsReady (name : List ℕ) (rows newer : List KeptRow) (kept : KeptGroup) : Type 0 where
+  pub changes : can_change rows newer kept.group ≡ true → kept.spare ≡ Some name
+  pub stays : can_change rows newer kept.group ≡ false → kept.spare ≡ None
   pub room : HasRoom kept
 
 -- whether a computer is to be a member: it has rows, and they fit
@@ -81,12 +86,13 @@ settled rows kept = record {
   members = settled_members kept.spare (fits (λ property. one_of row_name property rows) kept.group) kept.members.items;
 }
 
--- Each group was made ready for the computer, and then it was made a member or not, by its rows as they were then.
-pub record AreSettled (name : List ℕ) (fresh rows : List KeptRow) (old new : List KeptGroup) : Type 0 where
+-- Each group was made ready for the computer of these rows and the newer ones, and then it was made a member or not, by its rows as they
+-- were after that.
+pub record AreSettled (name : List ℕ) (rows newer after : List KeptRow) (old new : List KeptGroup) : Type 0 where
   pub ready : List KeptGroup
   pub same : map shown ready ≡ map shown old
-  pub made : All (IsReady name fresh) ready
-  pub after : map shown new ≡ map (settled rows) ready
+  pub made : All (IsReady name rows newer) ready
+  pub shows : map shown new ≡ map (settled after) ready
 
 -- the groups that are kept
 abbrev pub groups_of : List KeptGroup → List Group

@@ -1,5 +1,5 @@
-ghost use Rattle.std.specs.Prelude.{◌≡◌};
-ghost use Rattle.group_core.specs.Keeping.{has_property, is_about};
+ghost use Rattle.std.specs.Prelude.{◌≡◌, option_copied};
+ghost use Rattle.group_core.specs.Keeping.{can_change, is_turned};
 ghost use Rattle.group_core.specs.Lists.{Ascends, one_of, row_name};
 ghost use Rattle.group_core.specs.Members.{fits, has_value, passes, row_passes};
 ghost use Rattle.group_text.specs.Tests.{property_of};
@@ -54,18 +54,32 @@ fn has_value(kept: &KeptRow, text: &Text) -> bool
         .any(|value| value.as_str() == text.as_str())
 }
 
-/// Whether a group can gain or lose a computer by these rows: one of its tests is about one of them, or it has no test.
-pub(crate) fn is_about(group: &Group, rows: &[KeptRow]) -> bool
-    ensures { result ≡ is_about rows.now group.now }
+/// Whether a group can gain or lose the computer of these rows where newer ones replace some of them: one of its tests is turned, or it has
+/// no test.
+pub(crate) fn can_change(group: &Group, rows: &[KeptRow], newer: &[KeptRow]) -> bool
+    requires { Ascends row_name rows.now }
+    ensures { result ≡ can_change rows.now newer.now group.now }
 {
     let tests = group.tests.as_slice();
-    tests.is_empty() || tests.iter().any(|test| has_property(rows, test.property()))
+    tests.is_empty() || tests.iter().any(|test| is_turned(test, rows, newer))
 }
 
-/// Whether one of the rows is of this property.
-fn has_property(rows: &[KeptRow], property: &Text) -> bool
-    ensures { result ≡ has_property rows.now property.now }
+/// Whether a test comes to something else by the newer row of its property, if there is one, than by these rows.
+fn is_turned(test: &Test, rows: &[KeptRow], newer: &[KeptRow]) -> bool
+    requires { Ascends row_name rows.now }
+    ensures { result ≡ is_turned rows.now newer.now test.now }
 {
-    rows.iter()
-        .any(|kept| kept.row.property.as_str() == property.as_str())
+    match newer_of(newer, test.property()) {
+        None => false,
+        Some(row) => passes(test, rows) != row_passes(test, row),
+    }
+}
+
+/// The row of this property among rows that need not be in order.
+fn newer_of<'a>(newer: &'a [KeptRow], property: &Text) -> Option<&'a KeptRow>
+    ensures { option_copied result ≡ one_of row_name property.now newer.now }
+{
+    newer
+        .iter()
+        .find(|kept| kept.row.property.as_str() == property.as_str())
 }

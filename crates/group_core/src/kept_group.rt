@@ -4,7 +4,7 @@ ghost use Rattle.group_core.specs.Keeping.{HasRoom, IsPlaceOf, IsReady, fitting_
 ghost use Rattle.group_core.specs.Lists.{AreComputers, Ascends, itself, row_name};
 
 use crate::computers::Computer;
-use crate::fitting::{fits, is_about};
+use crate::fitting::{can_change, fits};
 use crate::kept_row::KeptRow;
 use crate::member_list::put_or_take;
 use group_text::Group;
@@ -39,13 +39,19 @@ impl KeptGroup {
         })
     }
 
-    /// Takes the room that the computer of this name needs to become a member, where these rows of it can make it one.
-    fn make_ready(&mut self, name: &Text, fresh: &[KeptRow]) -> Result<(), AllocError>
+    /// Takes the room that the computer of this name needs to become a member, where the newer ones of its rows can change whether it is.
+    fn make_ready(
+        &mut self,
+        name: &Text,
+        rows: &[KeptRow],
+        newer: &[KeptRow],
+    ) -> Result<(), AllocError>
+        requires { Ascends row_name rows.now }
         ensures same { shown self.new ≡ shown self.old }
-        ensures ready { OnOk result (IsReady name.now fresh.now self.new) }
+        ensures ready { OnOk result (IsReady name.now rows.now newer.now self.new) }
     {
         self.spare = None;
-        if !is_about(&self.group, fresh) {
+        if !can_change(&self.group, rows, newer) {
             return Ok(());
         }
         self.members.reserve(1)?;
@@ -106,17 +112,19 @@ pub(crate) fn place_of(groups: &[KeptGroup], name: &Text) -> Option<usize>
     None
 }
 
-/// Takes the room that the computer of this name needs to become a member of the groups that these rows of it can change.
+/// Takes the room that the computer of this name and these rows needs to become a member of the groups that newer rows of it can change.
 pub(crate) fn make_ready(
     groups: &mut [KeptGroup],
     name: &Text,
-    fresh: &[KeptRow],
+    rows: &[KeptRow],
+    newer: &[KeptRow],
 ) -> Result<(), AllocError>
+    requires { Ascends row_name rows.now }
     ensures same { map shown groups.new ≡ map shown groups.old }
-    ensures ready { OnOk result (All (IsReady name.now fresh.now) groups.new) }
+    ensures ready { OnOk result (All (IsReady name.now rows.now newer.now) groups.new) }
 {
     for group in groups.iter_mut() {
-        group.make_ready(name, fresh)?;
+        group.make_ready(name, rows, newer)?;
     }
     Ok(())
 }

@@ -67,12 +67,18 @@ fn take_rows(
     ensures own { OnOk result (rows_at computers.new.items name.now
         ≡ with_all row_name fresh.items (rows_at computers.old.items name.now)) }
     ensures others { (other : List ℕ) → other ≢ name.now → rows_at computers.new.items other ≡ rows_at computers.old.items other }
-    ensures groups { OnOk result (AreSettled name.now fresh.items (rows_at computers.new.items name.now) groups.old groups.new) }
+    ensures groups { OnOk result (AreSettled name.now (rows_at computers.old.items name.now) fresh.items
+        (rows_at computers.new.items name.now) groups.old groups.new) }
     ensures err_rows { OnErr result ((other : List ℕ) → rows_at computers.new.items other ≡ rows_at computers.old.items other) }
     ensures err_groups { OnErr result (map shown groups.new ≡ map shown groups.old) }
 {
-    make_ready(groups, name, fresh.as_slice())?;
     let place = make_room(alloc, computers, name, fresh.len())?;
+    make_ready(
+        groups,
+        name,
+        computers[place].rows.as_slice(),
+        fresh.as_slice(),
+    )?;
     // Nothing takes memory from here on.
     put_all(&mut computers[place].rows, fresh);
     settle(groups, computers[place].rows.as_slice());

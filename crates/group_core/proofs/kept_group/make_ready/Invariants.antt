@@ -7,5 +7,5 @@ use Rattle.group_core.proofs.kept_group.make_ready.Given as goal
 abbrev pub invariant-loop-group : goal.invariant-loop-group
 invariant-loop-group l = record {
   same : map shown l.groups ≡ map shown l.fn.groups;
-  ready : All (IsReady l.name l.fresh) (take l.group-index l.groups);
+  ready : All (IsReady l.name l.rows l.newer) (take l.group-index l.groups);
 }

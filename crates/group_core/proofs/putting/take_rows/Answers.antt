@@ -4,7 +4,7 @@ use Rattle.std.proofs.lemmas.List.{get_or-set_same}
 use Rattle.group_core.specs.declared.computers.Computer.{Computer}
 use Rattle.group_core.specs.declared.kept_row.KeptRow.{KeptRow}
 use Rattle.group_core.specs.Keeping.{IsReady, settled}
-use Rattle.group_core.specs.Lists.{AreComputers, Ascends, HasPlace, computer_name, itself, row_name, with_all}
+use Rattle.group_core.specs.Lists.{AreComputers, Ascends, HasPlace, computer_name, itself, row_name, rows_at, with_all}
 use Rattle.group_core.proofs.Booking.{all_shown}
 use Rattle.group_core.proofs.ComputerLemmas.{ascends_there, other_set, own_set, place_there, rows_there, set_computers}
 use Rattle.group_core.proofs.Sorting.{ascends_all}
@@ -17,6 +17,13 @@ rows_ascend xs name more place x fresh rows are here is put =
     let A : List KeptRow → Type 0 = Ascends row_name in
     subst A (sym put) (ascends_all row_name fresh x.rows.items (ascends_there xs name place x are here is))
 
+pub make_ready-requires : goal.make_ready-requires
+make_ready-requires c =
+    let xs : List Computer = c.make_room.new.computers.items in
+    let here = place_there xs c.args.name.now _ c.in_ok-place.place c.in_ok-place.ensures.ordered c.in_ok-place.ensures.room in
+    let A : List KeptRow → Type 0 = Ascends row_name in
+    subst A (sym c.as_slice.ensures.value) (ascends_there xs c.args.name.now c.in_ok-place.place c.index.result.now c.in_ok-place.ensures.ordered here c.index.ensures)
+
 pub settle-requires-clause-rows : goal.settle-requires-clause-rows
 settle-requires-clause-rows c =
     let xs : List Computer = c.make_room.new.computers.items in
@@ -24,8 +31,8 @@ settle-requires-clause-rows c =
     let y : Computer = record { name = x.name; rows = c.put_all.new.rows } in
     let here = place_there xs c.args.name.now _ c.in_ok-place.place c.in_ok-place.ensures.ordered c.in_ok-place.ensures.room in
     let A : List KeptRow → Type 0 = Ascends row_name in
-    let rows : c.as_slice-2.result.now ≡ c.put_all.new.rows.items =
-    c.as_slice-2.ensures.value ∙ ap (λ (z : Computer). z.rows.items) (c.index.ensures ∙ get_or-set_same xs c.in_ok-place.place y c.index.result.now c.in_ok-place.ensures.room.inside) in
+    let rows : c.as_slice-3.result.now ≡ c.put_all.new.rows.items =
+    c.as_slice-3.ensures.value ∙ ap (λ (z : Computer). z.rows.items) (c.index-2.ensures ∙ get_or-set_same xs c.in_ok-place.place y c.index-2.result.now c.in_ok-place.ensures.room.inside) in
     subst A (sym rows) (rows_ascend xs c.args.name.now 0 c.in_ok-place.place x c.args.fresh.items c.put_all.new.rows.items c.in_ok-place.ensures.ordered here c.index_mut.ensures.value c.put_all.ensures)
 
 pub settle-requires-clause-members : goal.settle-requires-clause-members
@@ -64,13 +71,15 @@ returns-clause-groups c =
     let x : Computer = c.index_mut.result.now in
     let y : Computer = record { name = x.name; rows = c.put_all.new.rows } in
     let here = place_there xs c.args.name.now _ c.in_ok-place.place c.in_ok-place.ensures.ordered c.in_ok-place.ensures.room in
-    let rows : c.as_slice-2.result.now ≡ c.put_all.new.rows.items =
-    c.as_slice-2.ensures.value ∙ ap (λ (z : Computer). z.rows.items) (c.index.ensures ∙ get_or-set_same xs c.in_ok-place.place y c.index.result.now c.in_ok-place.ensures.room.inside) in
+    let rows : c.as_slice-3.result.now ≡ c.put_all.new.rows.items =
+    c.as_slice-3.ensures.value ∙ ap (λ (z : Computer). z.rows.items) (c.index-2.ensures ∙ get_or-set_same xs c.in_ok-place.place y c.index-2.result.now c.in_ok-place.ensures.room.inside) in
     let own = own_set xs c.args.name.now c.in_ok-place.place x y here c.index_mut.ensures.value refl in
-    let R : List KeptRow → Type 0 = λ fresh. All (IsReady c.args.name.now fresh) c.make_ready.new.groups in
+    let before : c.as_slice.result.now ≡ rows_at c.args.computers.now.items c.args.name.now =
+    c.as_slice.ensures.value ∙ sym (rows_there xs c.args.name.now c.in_ok-place.place c.index.result.now here c.index.ensures) ∙ c.in_ok-place.ensures.same c.args.name.now in
+    let R : List KeptRow → List KeptRow → Type 0 = λ rows newer. All (IsReady c.args.name.now rows newer) c.make_ready.new.groups in
     record {
       ready = c.make_ready.new.groups;
       same = c.in_ok-make_ready.ensures.same;
-      made = subst R c.as_slice.ensures.value c.in_ok-make_ready.ensures.ready;
-      after = c.settle.ensures ∙ ap (λ (l : List KeptRow). map (settled l) c.make_ready.new.groups) (rows ∙ sym own);
+      made = subst (R (rows_at c.args.computers.now.items c.args.name.now)) c.as_slice-2.ensures.value (subst (λ rows. R rows c.as_slice-2.result.now) before c.in_ok-make_ready.ensures.ready);
+      shows = c.settle.ensures ∙ ap (λ (l : List KeptRow). map (settled l) c.make_ready.new.groups) (rows ∙ sym own);
     }

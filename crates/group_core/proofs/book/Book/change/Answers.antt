@@ -95,13 +95,13 @@ invariant_of-self-2 c =
     let ws : List KeptGroup = c.take_rows.new.groups in
     let made = c.in_ok-take_rows.ensures.groups in
     let given : groups_of c.deref_mut.result.now ≡ groups_of v.items = ap groups_of c.deref_mut.ensures.value in
-    let after = groups_after _ _ _ c.deref_mut.result.now ws made ∙ given in
+    let after = groups_after _ _ _ _ c.deref_mut.result.now ws made ∙ given in
     let long : length ws ≡ v.len = omega (arith, long_same v.items ws after, v.ok.0) in
     let items = with_items_is v ws long in
     let own : rows_at c.take_rows.new.computers.items name ≡ with_all row_name newer kept = c.in_ok-take_rows.ensures.own ∙ ap (λ (l : List KeptRow). with_all row_name l kept) fresh in
     let test : Sampled → Bool = λ row. is_newer s.seq (one_of row_name row.property kept) in
     let some = some_row kept newer (distinct_newer s.seq test s.rows c.requires.distinct) (λ e. omega (arith, c.if-count-eq0.false, count, e)) in
-    let R : List KeptRow → Type 0 = λ l. All (IsReady name l) made.ready in
+    let R : List KeptRow → Type 0 = λ l. All (IsReady name kept l) made.ready in
     let D : List KeptGroup → Type 0 = λ l. IsDistinct bytes_eq (kept_names l) in
     let T : List Sample → Type 0 = λ l. (computer property : List ℕ) → row_at c.take_rows.new.computers.items computer property ≡ table_row l computer property in
     let M : List Sample → Type 0 = λ l. All (λ (g : KeptGroup). AreMembers l g.group g.members.items) ws in
@@ -116,7 +116,7 @@ invariant_of-self-2 c =
           (table_after ss s kept (rows_at c.take_rows.new.computers.items) known (λ computer property differs. ap (one_of row_name property) (c.in_ok-take_rows.ensures.others computer differs) ∙ c.self.invariant.table computer property) own);
       members = subst A (sym items) (subst M (sym c.push-2.ensures)
           (members_after ss s kept v.items made.ready ws known some c.self.invariant.members (made.same ∙ ap (map shown) c.deref_mut.ensures.value) (subst R fresh made.made)
-          (made.after ∙ ap (λ (l : List KeptRow). map (settled l) made.ready) own)));
+          (made.shows ∙ ap (λ (l : List KeptRow). map (settled l) made.ready) own)));
     }
 
 pub returns-clause-ok : goal.returns-clause-ok
@@ -129,7 +129,7 @@ returns-clause-ok c =
     let v = c.self.inside.groups in
     let ws : List KeptGroup = c.take_rows.new.groups in
     let given : groups_of c.deref_mut.result.now ≡ groups_of v.items = ap groups_of c.deref_mut.ensures.value in
-    let after = groups_after _ _ _ c.deref_mut.result.now ws c.in_ok-take_rows.ensures.groups ∙ given in
+    let after = groups_after _ _ _ _ c.deref_mut.result.now ws c.in_ok-take_rows.ensures.groups ∙ given in
     let long : length ws ≡ v.len = omega (arith, long_same v.items ws after, v.ok.0) in
     let groups : groups_of (with_items v ws).items ≡ c.args.self.now.groups = ap groups_of (with_items_is v ws long) ∙ after ∙ ap (λ (b : BookState). b.groups) c.self.view_is in
     let samples : c.push-2.new.self ≡ c.args.self.now.samples ++ s ∷ [] = c.push-2.ensures ∙ ap (λ (b : BookState). b.samples ++ s ∷ []) c.self.view_is in (
