@@ -69,10 +69,10 @@ fn is_turned(test: &Test, rows: &[KeptRow], newer: &[KeptRow]) -> bool
     requires { Ascends row_name rows.now }
     ensures { result ≡ is_turned rows.now newer.now test.now }
 {
-    match newer_of(newer, test.property()) {
-        None => false,
-        Some(row) => passes(test, rows) != row_passes(test, row),
-    }
+    let Some(row) = newer_of(newer, test.property()) else {
+        return false;
+    };
+    passes(test, rows) != row_passes(test, row)
 }
 
 /// The row of this property among rows that need not be in order.
