@@ -10,3 +10,4 @@ mod DefineLemmas
 mod FittingLemmas
 mod KeepLemmas
 mod ChangeLemmas
+mod FrontLemmas

@@ -3,3 +3,4 @@ pub mod Members
 pub mod Books
 pub mod Lists
 pub mod Keeping
+pub mod Fronts

@@ -1,18 +1,16 @@
 // Computers with their rows, in strictly ascending byte order of their names.
 ghost use Rattle.std.specs.Prelude.{◌≡◌, ℕ, List, IfOk};
-ghost use Rattle.std.specs.Ordering.{nat_cmp};
-ghost use Rattle.std.specs.Cmp.Lexicographic.{slice_cmp};
 ghost use Rattle.group_core.specs.Lists.{AreComputers, Ascends, HasPlace, HasRoomAt, computer_name, row_name, rows_at};
 
+use crate::computer_name::{ComputerName, front_of};
 use crate::kept_row::KeptRow;
 use rel_lexer::Text;
 use std::alloc::{AllocError, Global};
-use std::cmp::Ordering;
 
 /// A computer and its rows.
 #[derive(Drop)]
 pub(crate) struct Computer {
-    pub(crate) name: Text,
+    pub(crate) name: ComputerName,
     pub(crate) rows: Vec<KeptRow>,
 }
 
@@ -48,7 +46,7 @@ pub(crate) fn make_room(
         }
         Err(place) => {
             let computer = Computer {
-                name: name.copy()?,
+                name: ComputerName::of(name)?,
                 rows: Vec::with_capacity(alloc, more)?,
             };
             computers.insert(place, computer)?;
@@ -62,12 +60,6 @@ fn place_of(computers: &[Computer], name: &str) -> Result<usize, usize>
     requires { AreComputers computers.now }
     ensures { HasPlace computer_name computers.now name.now result }
 {
-    computers.binary_search_by(|computer| name_order(computer, name))
-}
-
-/// The order of the computer's name to this one, byte by byte.
-fn name_order(computer: &Computer, name: &str) -> Ordering
-    ensures { result ≡ slice_cmp nat_cmp computer.now.name name.now }
-{
-    computer.name.as_str().cmp(name)
+    let front = front_of(name);
+    computers.binary_search_by(|computer| computer.name.order(&front, name))
 }

@@ -85,7 +85,7 @@ fn members_among(
     let mut members = Vec::new(alloc);
     for computer in computers {
         if is_fitting(group, computer) {
-            members.push(computer.name.copy()?)?;
+            members.push(computer.name.to_text()?)?;
         }
     }
     Ok(members)

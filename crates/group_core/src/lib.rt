@@ -3,6 +3,7 @@
 
 mod adding;
 mod book;
+mod computer_name;
 mod computers;
 mod defining;
 mod fitting;

@@ -44,20 +44,20 @@ returns-in_ok-reserve-in-Ok-clause-ordered c =
 pub returns-in_ok-insert-in-Err-clause-same : goal.returns-in_ok-insert-in-Err-clause-same
 returns-in_ok-insert-in-Err-clause-same c = λ other.
     let xs : List Computer = c.args.computers.now.items in
-    let x : Computer = record { name = c.in_ok-copy-in-Err.field-0; rows = c.in_ok-with_capacity-in-Err.field-0 } in
+    let x : Computer = record { name = c.in_ok-of-in-Err.field-0; rows = c.in_ok-with_capacity-in-Err.field-0 } in
     let H : List Computer → Type 0 = λ l. HasPlace computer_name l c.as_str.result.now (Err c.in-Err.place) in
     let here = subst H c.as_slice.ensures.value c.in-Err.ensures in
-    let named : c.as_str.result.now ≡ x.name = c.as_str.ensures ∙ sym c.in_ok-copy-in-Err.ensures in
+    let named : c.as_str.result.now ≡ x.name = c.as_str.ensures ∙ sym c.in_ok-of-in-Err.ensures in
     ap (λ l. rows_at l other) (c.in_ok-insert-in-Err.ensures.items ∙ put_in computer_name xs c.as_str.result.now c.in-Err.place x here named)
     ∙ put_rows xs c.as_str.result.now c.in-Err.place x here named c.in_ok-with_capacity-in-Err.ensures.items other
 
 pub returns-in_ok-insert-in-Err-clause-ordered : goal.returns-in_ok-insert-in-Err-clause-ordered
 returns-in_ok-insert-in-Err-clause-ordered c =
     let xs : List Computer = c.args.computers.now.items in
-    let x : Computer = record { name = c.in_ok-copy-in-Err.field-0; rows = c.in_ok-with_capacity-in-Err.field-0 } in
+    let x : Computer = record { name = c.in_ok-of-in-Err.field-0; rows = c.in_ok-with_capacity-in-Err.field-0 } in
     let H : List Computer → Type 0 = λ l. HasPlace computer_name l c.as_str.result.now (Err c.in-Err.place) in
     let here = subst H c.as_slice.ensures.value c.in-Err.ensures in
-    let named : c.as_str.result.now ≡ x.name = c.as_str.ensures ∙ sym c.in_ok-copy-in-Err.ensures in
+    let named : c.as_str.result.now ≡ x.name = c.as_str.ensures ∙ sym c.in_ok-of-in-Err.ensures in
     let A : List KeptRow → Type 0 = Ascends row_name in
     subst AreComputers (sym (c.in_ok-insert-in-Err.ensures.items ∙ put_in computer_name xs c.as_str.result.now c.in-Err.place x here named))
     (computers_with x xs c.requires (subst A (sym c.in_ok-with_capacity-in-Err.ensures.items) (ascends_none row_name)))
