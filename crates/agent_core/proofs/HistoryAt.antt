@@ -11,7 +11,8 @@ use Rattle.act_rules.specs.declared.row.Row.{Row}
 use Rattle.act_rules.specs.Rows.{last_row, with_last}
 use Rattle.report_text.specs.declared.report.Report.{Report}
 use Rattle.agent_text.specs.Histories.{AreHistories, PlainHistory, rows_at, with_ended, with_history}
-use Rattle.agent_text.specs.SavedTexts.{history_bytes, most_bytes, report_bytes}
+use Rattle.agent_text.specs.MostBytes.{history_bytes, report_bytes}
+use Rattle.agent_text.specs.SavedTexts.{most_bytes}
 use Rattle.agent_state.specs.Counting.{pending_count}
 use Rattle.line_forms.proofs.Rising.{Rises, rises_from_increasing, rises_head, rises_tail}
 

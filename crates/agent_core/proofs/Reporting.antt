@@ -21,7 +21,8 @@ use Rattle.report_text.specs.Reports.{AreReportRows, IsReport}
 use Rattle.agent_text.specs.SavedRows.{IsSavedAt, IsSavedRow}
 use Rattle.agent_text.specs.declared.history.History.{History}
 use Rattle.agent_text.specs.Histories.{AreHistories, IsHistory, PlainHistory, report_of_last, report_row, report_rows, reported_note, shown_history, with_reported}
-use Rattle.agent_text.specs.SavedTexts.{AreOutbox, history_bytes, most_bytes, report_bytes}
+use Rattle.agent_text.specs.MostBytes.{history_bytes, report_bytes}
+use Rattle.agent_text.specs.SavedTexts.{AreOutbox, most_bytes}
 use Rattle.agent_state.specs.Counting.{pending_count}
 use Rattle.agent_state.specs.States.{State, can_report, next_report, with_report}
 use Rattle.agent_state.proofs.Dropping.{seq_of}

@@ -37,7 +37,7 @@ impl KeptState {
         self.histories.keep_texts(alloc)?;
         self.outbox.make_texts(alloc)?;
         self.outbox.reserve()?;
-        Spare::take(alloc, &self.name, &self.histories, self.outbox.all())
+        Spare::take(alloc, &self.name, &self.histories, self.outbox.made())
     }
 
     /// The least action whose last attempt was broken off: it runs, and isn't held.

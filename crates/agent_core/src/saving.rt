@@ -15,7 +15,7 @@ impl KeptState {
         requires { IsSoundKept self.old }
         ensures { SavesKept self.old (P.told pocket.old) result self.new (P.told pocket.new) }
     {
-        let Some(size) = saved_size(&self.histories, self.outbox.all()) else {
+        let Some(size) = saved_size(&self.histories, self.outbox.made()) else {
             return SaveResult::Memory;
         };
         saved_texts_are_short();

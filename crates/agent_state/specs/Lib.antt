@@ -3,4 +3,3 @@ pub mod Counting
 pub mod Changes
 pub mod Lookups
 pub mod Outboxes
-pub mod MadeTexts

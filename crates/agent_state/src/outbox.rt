@@ -5,9 +5,8 @@ ghost use Rattle.report_text.specs.Reports.{IsReport};
 ghost use Rattle.agent_text.specs.KeptTexts.{AreMade};
 ghost use Rattle.agent_state.specs.Outboxes.{DropsReport};
 
-use agent_text::{MadeReports, fill_made, reports_size};
-use desk_base::{Bytes, Room};
-use report_text::{Report, reports_are_short};
+use agent_text::{Made, MadeReports};
+use report_text::{Report, report_size, write_report};
 use std::alloc::{AllocError, Global};
 use std::marker::Model;
 
@@ -17,22 +16,22 @@ use std::marker::Model;
 pub struct Outbox {
     reports: Vec<Report>,
     shown: usize,
-    /// Of how many reports, from the first on, the texts are made.
-    count: usize,
-    /// Those texts, one behind another.
-    texts: Bytes,
+    /// The texts of the first of them.
+    made: Made,
 }
 
 impl Model for Outbox {
     ghost use Rattle.std.specs.Prelude.{◌≤◌, length, vec_capacity};
     ghost use Rattle.agent_state.specs.Outboxes.{OutboxState};
-    ghost use Rattle.agent_state.specs.MadeTexts.{AreTextsOf};
+    ghost use Rattle.report_text.specs.Reports.{report_text};
+    ghost use Rattle.agent_text.specs.MadeTexts.{IsMadeOf};
+    ghost use Rattle.agent_text.specs.MostBytes.{report_bytes};
 
     ghost Value = { OutboxState };
 
     ghost view = { λ o. record { reports = o.reports.items; shown = o.shown; capacity = vec_capacity o.reports } };
 
-    ghost invariant = { λ o. (o.shown ≤ length o.reports.items) × AreTextsOf o.reports.items o.count o.texts };
+    ghost invariant = { λ o. (o.shown ≤ length o.reports.items) × IsMadeOf report_text report_bytes o.reports.items o.made };
 }
 
 impl Outbox {
@@ -42,12 +41,11 @@ impl Outbox {
         ensures shown { result.shown ≡ length reports.items }
     {
         let shown = reports.len();
-        let texts = Bytes::new(*reports.allocator());
+        let made = Made::new(*reports.allocator());
         Outbox {
             reports,
             shown,
-            count: 0,
-            texts,
+            made,
         }
     }
 
@@ -97,18 +95,27 @@ impl Outbox {
         requires { All IsReport self.old.reports }
         ensures { self.new ≡ self.old }
     {
-        reports_are_short();
-        if self.count == self.reports.len() {
+        for place in self.made.count()..self.reports.len() {
+            self.make_text(alloc, place)?;
+        }
+        Ok(())
+    }
+
+    /// Makes the text of the report at this place, if those of all before it are made. The error is want of memory.
+    fn make_text(&mut self, alloc: Global, place: usize) -> Result<(), AllocError>
+        requires reports { All IsReport self.old.reports }
+        requires place { place < length self.old.reports }
+        ensures { self.new ≡ self.old }
+    {
+        if self.made.count() != place {
             return Ok(());
         }
-        let Some(size) = reports_size(self.reports.as_slice()) else {
+        let report = &self.reports[place];
+        let Some(size) = report_size(report.rows.as_slice().len()) else {
             return Err(AllocError);
         };
-        let mut room = Room::with_capacity(alloc, size)?;
-        fill_made(self.made(), &mut room);
-        self.texts = room.into_bytes();
-        self.count = self.reports.len();
-        Ok(())
+        let text = write_report(alloc, report)?;
+        self.made.add(text.as_slice(), size)
     }
 
     /// All reports, and the texts that are made.
@@ -118,8 +125,7 @@ impl Outbox {
     {
         MadeReports {
             reports: self.reports.as_slice(),
-            count: self.count,
-            made: self.texts.as_slice(),
+            made: &self.made,
         }
     }
 
@@ -131,8 +137,7 @@ impl Outbox {
         let Some(place) = place_of(self.reports.as_slice(), seq) else {
             return false;
         };
-        self.count = 0;
-        self.texts = Bytes::new(*self.reports.allocator());
+        self.made.leave(place);
         self.reports.remove(place);
         if place < self.shown {
             self.shown -= 1;

@@ -1,13 +1,14 @@
 ghost use Rattle.std.specs.Prelude.{◌≡◌, ◌+◌, ◌≤◌, min, [], map, vec_capacity, IfOk, IfSome};
 ghost use Rattle.report_text.specs.Reports.{most_report_bytes, most_rows};
 ghost use Rattle.agent_text.specs.Histories.{shown_history};
+ghost use Rattle.agent_text.specs.KeptTexts.{AreMade};
 ghost use Rattle.agent_text.specs.SavedTexts.{most_bytes};
 ghost use Rattle.agent_state.specs.Counting.{pending_count};
 
-use agent_text::{Histories, History, saved_size};
+use agent_text::{Histories, History, MadeReports, saved_size};
 use desk_base::Room;
 use rel_lexer::Text;
-use report_text::{MOST_ROWS, Report, ReportRow, report_size};
+use report_text::{MOST_ROWS, ReportRow, report_size};
 use std::alloc::{AllocError, Global};
 
 /// What the end of a turn takes, taken before anything that can't be undone: a report without rows, with room for them, and room for
@@ -29,12 +30,13 @@ impl Spare {
         alloc: Global,
         computer: &Text,
         histories: &Histories,
-        reports: &[Report],
+        reports: MadeReports<'_>,
     ) -> Result<Spare, AllocError>
+        requires { AreMade reports }
         ensures computer { IfOk result (λ spare. spare.computer ≡ computer.now) }
         ensures empty { IfOk result (λ spare. spare.rows.items ≡ []) }
         ensures rows { IfOk result (λ spare. min most_rows (pending_count histories.now + 1) ≤ vec_capacity spare.rows) }
-        ensures text { IfOk result (λ spare. most_bytes histories.now reports.now
+        ensures text { IfOk result (λ spare. most_bytes histories.now reports.entry.reports.now
             + most_report_bytes (min most_rows (pending_count histories.now + 1)) ≤ spare.text.capacity) }
     {
         let rows = pending_count(histories.as_slice())
@@ -59,8 +61,9 @@ fn pending_count(histories: &[History]) -> usize
 }
 
 /// The most bytes of the text with one report more of so many rows.
-fn text_size(histories: &Histories, reports: &[Report], rows: usize) -> Option<usize>
-    ensures { IfSome result (λ size. size ≡ most_bytes histories.now reports.now + most_report_bytes rows) }
+fn text_size(histories: &Histories, reports: MadeReports<'_>, rows: usize) -> Option<usize>
+    requires { AreMade reports }
+    ensures { IfSome result (λ size. size ≡ most_bytes histories.now reports.entry.reports.now + most_report_bytes rows) }
 {
     let report = report_size(rows)?;
     saved_size(histories, reports)?.checked_add(report)

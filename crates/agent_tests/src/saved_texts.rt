@@ -2,8 +2,8 @@
 ghost use Rattle.agent_text.specs.SavedTexts.{IsSaved};
 
 use agent_text::{
-    Saved, SavedError, a_saved_text_is_read_again, fill_saved, one_saved, read_saved, saved_size,
-    saved_texts_are_short,
+    Made, MadeReports, Saved, SavedError, a_saved_text_is_read_again, fill_saved_made, one_saved,
+    read_saved, saved_size, saved_texts_are_short,
 };
 use desk_base::{Bytes, Room};
 use line_forms::read_name;
@@ -17,10 +17,13 @@ fn written(alloc: Global, saved: &Saved) -> Option<Bytes>
     requires { IsSaved saved.now }
 {
     saved_texts_are_short();
-    let reports = saved.reports.as_slice();
+    let reports = MadeReports {
+        reports: saved.reports.as_slice(),
+        made: &Made::new(alloc),
+    };
     let size = saved_size(&saved.histories, reports)?;
     let mut room = Room::with_capacity(alloc, size).ok()?;
-    fill_saved(
+    fill_saved_made(
         &saved.computer,
         saved.next,
         &saved.histories,

@@ -24,7 +24,8 @@ use Rattle.report_text.proofs.SizeLemmas.{component_length, computer_length, end
 use Rattle.agent_text.specs.declared.saved.Saved.{Saved}
 use Rattle.agent_text.specs.AttemptLines.{attempt_fields, attempt_line, cleared_field}
 use Rattle.agent_text.specs.Histories.{IsHistory, PlainHistory, pending_ids}
-use Rattle.agent_text.specs.SavedTexts.{FitsForm, IsSaved, agent_line, history_bytes, most_bytes, next_line, pending_line, report_bytes, saved_lines, saved_text}
+use Rattle.agent_text.specs.MostBytes.{history_bytes, report_bytes}
+use Rattle.agent_text.specs.SavedTexts.{FitsForm, IsSaved, agent_line, most_bytes, next_line, pending_line, saved_lines, saved_text}
 use Rattle.agent_text.specs.HistoryLines.{action_line, history_lines, history_text}
 use Rattle.agent_text.specs.PartReadings.{CanBeNext, IsNoted, IsRowIn}
 use Rattle.agent_text.proofs.AttemptLists.{each_attempt, next_attempt}

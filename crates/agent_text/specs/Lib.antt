@@ -4,8 +4,10 @@ pub mod SavedRows
 pub mod Histories
 pub mod AttemptLines
 pub mod HistoryLines
+pub mod MostBytes
 pub mod SavedTexts
 pub mod Befores
 pub mod PartReadings
 pub mod PartWritings
 pub mod KeptTexts
+pub mod MadeTexts

@@ -1,5 +1,5 @@
 -- What an agent saves, and its texts.
-use Rattle.std.specs.Prelude.{◌≡◌, ℕ, ◌+◌, ◌*◌, ◌<◌, ◌≤◌, List, [], ◌∷◌, ◌++◌, length, map, flat_map, sum_by, All, codes, decimal, ⊤, Ok, Err}
+use Rattle.std.specs.Prelude.{◌≡◌, ℕ, ◌+◌, ◌<◌, ◌≤◌, List, [], ◌∷◌, ◌++◌, length, map, flat_map, sum_by, All, codes, decimal, ⊤, Ok, Err}
 use Rattle.std.specs.declared.result.Result.{Result}
 use Rattle.std.specs.List.Sorted.{IsStrictlyIncreasing}
 use Rattle.line_forms.specs.Names.{IsName}
@@ -11,12 +11,13 @@ use Rattle.report_text.specs.declared.form.Form.{Form}
 use Rattle.report_text.specs.declared.form.Form.TheVariants.{One, Two}
 use Rattle.report_text.specs.declared.report.Report.{Report}
 use Rattle.act_rules.specs.Notes.{no_note}
-use Rattle.report_text.specs.Reports.{IsReport, form_number, computer_line, end_line, most_report_bytes, report_lines}
+use Rattle.report_text.specs.Reports.{IsReport, form_number, computer_line, end_line, report_lines}
 use Rattle.agent_text.specs.declared.saved.Saved.{Saved}
 use Rattle.agent_text.specs.declared.error.SavedError.{SavedError}
 use Rattle.agent_text.specs.declared.error.SavedError.TheVariants as error
 use Rattle.agent_text.specs.Histories.{PlainHistory, AreHistories, pending_ids}
 use Rattle.agent_text.specs.HistoryLines.{history_lines}
+use Rattle.agent_text.specs.MostBytes.{history_bytes, report_bytes}
 
 -- the most reports that aren't known to have arrived
 abbrev pub most_reports : ℕ
@@ -83,14 +84,6 @@ ReadsSaved computer text (Err (error.BadLine line)) = AnswersBadLine (AreSavedLi
 ReadsSaved computer text (Err error.Memory) = ⊤
 
 -- ---- sizes
--- the most bytes of the lines of an action, `pending` with them
-abbrev pub history_bytes : PlainHistory → ℕ
-history_bytes h = 49 + 113 * length h.rows
-
--- the most bytes of a report
-abbrev pub report_bytes : Report → ℕ
-report_bytes report = most_report_bytes (length report.rows)
-
 -- the most bytes of a saved text: room for it is reckoned by this
 abbrev pub most_bytes : List PlainHistory → List Report → ℕ
 most_bytes hs reports = 108 + (sum_by history_bytes hs + sum_by report_bytes reports)

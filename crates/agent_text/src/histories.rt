@@ -1,4 +1,4 @@
-ghost use Rattle.std.specs.Prelude.{◌≡◌, ◌<◌, ◌+◌, ◌^◌, [], length, map, IfOk, OnOk, OnErr, IfSome, IsSomeAnd, MatchOption, None, Some, All};
+ghost use Rattle.std.specs.Prelude.{◌≡◌, ◌<◌, ◌+◌, ◌^◌, [], length, map, IfOk, OnOk, OnErr, IfSome, IsSomeAnd, MatchOption, None, Some};
 ghost use Rattle.std.specs.Option.{option_map};
 ghost use Rattle.desk_base.specs.Moments.{IsMoment};
 ghost use Rattle.line_forms.specs.Numbers.{IsId};
@@ -7,10 +7,13 @@ ghost use Rattle.agent_text.specs.SavedRows.{IsSavedNote, IsSavedRow};
 ghost use Rattle.agent_text.specs.Histories.{AreHistories, IsHistory, shown_history, rows_at, with_begun, with_cleared, with_ended, with_reported};
 ghost use Rattle.agent_text.specs.Befores.{IsHistoryOf, before_of, with_before};
 ghost use Rattle.agent_text.specs.KeptTexts.{AreKept, KeepsText, KeepsTextIf};
+ghost use Rattle.agent_text.specs.MadeTexts.{nothing_made};
 ghost use Rattle.agent_text.specs.PartReadings.{HasPlace};
 
 use crate::before::Before;
 use crate::history::History;
+use crate::kept_histories::{KeptHistories, join};
+use crate::made::Made;
 use act_rules::{Note, Outcome, Row, Rows};
 use std::alloc::{AllocError, Global};
 use std::marker::Model;
@@ -20,6 +23,8 @@ use std::mem::{self, drop};
 #[derive(Drop)]
 pub struct Histories {
     list: Vec<History>,
+    /// The lines of the first of them, as they are saved.
+    made: Made,
 }
 
 impl Model for Histories {
@@ -31,7 +36,7 @@ impl Model for Histories {
 
     ghost view = { λ h. map shown_history h.list.items };
 
-    ghost invariant = { λ h. AreKept h.list.items };
+    ghost invariant = { λ h. AreKept h.list.items h.made };
 }
 
 impl Histories {
@@ -41,15 +46,17 @@ impl Histories {
     {
         Histories {
             list: Vec::new(alloc),
+            made: Made::new(alloc),
         }
     }
 
     /// The list of these histories.
     pub(crate) fn from_vec(list: Vec<History>) -> Histories
-        requires { AreKept list.items }
+        requires { AreKept list.items nothing_made }
         ensures { result ≡ map shown_history list.items }
     {
-        Histories { list }
+        let made = Made::new(*list.allocator());
+        Histories { list, made }
     }
 
     /// The histories.
@@ -60,12 +67,15 @@ impl Histories {
         self.list.as_slice()
     }
 
-    /// The histories, each of which keeps the bytes of its own lines, if any.
-    pub(crate) fn kept(&self) -> &[History]
-        ensures value { map shown_history result.now ≡ self.now }
-        ensures kept { All KeepsText result.now }
+    /// The histories and the bytes that are kept of them.
+    pub(crate) fn kept(&self) -> KeptHistories<'_>
+        ensures value { map shown_history result.list.now ≡ self.now }
+        ensures kept { AreKept result.list.now result.made.now }
     {
-        self.list.as_slice()
+        KeptHistories {
+            list: self.list.as_slice(),
+            made: &self.made,
+        }
     }
 
     /// The same histories once more. The error is want of memory, here and below.
@@ -76,7 +86,8 @@ impl Histories {
         for history in self.list.as_slice() {
             list.push(history.copy()?)?;
         }
-        Ok(Histories { list })
+        let made = Made::new(*list.allocator());
+        Ok(Histories { list, made })
     }
 
     /// The rows of an action, if it has any.
@@ -133,7 +144,10 @@ impl Histories {
         ensures err { OnErr result (self.new ≡ self.old) }
     {
         match self.place(action) {
-            Ok(place) => self.list[place].begin(row),
+            Ok(place) => {
+                self.made.leave(place);
+                self.list[place].begin(row)
+            }
             Err(place) => {
                 let mut rows = Rows::new(alloc);
                 rows.push(row)?;
@@ -143,6 +157,7 @@ impl Histories {
                     pending: true,
                     text: None,
                 };
+                self.made.leave(place);
                 Ok(self.list.insert(place, history)?)
             }
         }
@@ -156,6 +171,7 @@ impl Histories {
         ensures { self.new ≡ with_ended action moment outcome note self.old }
     {
         if let Ok(place) = self.place(action) {
+            self.made.leave(place);
             self.list[place].end(moment, outcome, note);
         }
     }
@@ -168,6 +184,7 @@ impl Histories {
         ensures { self.new ≡ with_cleared action moment self.old }
     {
         if let Ok(place) = self.place(action) {
+            self.made.leave(place);
             self.list[place].clear(moment);
         }
     }
@@ -228,6 +245,7 @@ impl Histories {
         }) self.old }
     {
         if let Ok(place) = self.place(history.action) {
+            self.made.leave(place);
             drop(mem::replace(&mut self.list[place], history));
         }
     }
@@ -237,6 +255,7 @@ impl Histories {
         ensures { self.new ≡ with_before (record { action = action; history = None }) self.old }
     {
         if let Ok(place) = self.place(action) {
+            self.made.leave(place);
             drop(self.list.remove(place));
         }
     }
@@ -246,9 +265,19 @@ impl Histories {
     pub fn keep_texts(&mut self, alloc: Global) -> Result<(), AllocError>
         ensures { self.new ≡ self.old }
     {
-        for history in self.list.iter_mut() {
-            history.keep_text(alloc)?;
+        for place in self.made.count()..self.list.len() {
+            self.keep_text(alloc, place)?;
         }
         Ok(())
+    }
+
+    /// Makes the bytes of the lines of the history at this place, if it has none. They are joined to those of the histories before it,
+    /// if these are joined, but for a pending history, which changes soon.
+    fn keep_text(&mut self, alloc: Global, place: usize) -> Result<(), AllocError>
+        requires { place < length self.old }
+        ensures { self.new ≡ self.old }
+    {
+        self.list[place].keep_text(alloc)?;
+        join(&self.list[place], place, &mut self.made)
     }
 }

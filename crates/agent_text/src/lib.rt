@@ -7,8 +7,11 @@ mod error;
 mod histories;
 mod history;
 mod history_reader;
+mod kept_histories;
 mod law;
 mod list;
+mod made;
+mod made_reports;
 mod memory_pocket;
 mod pocket;
 mod reader;
@@ -25,11 +28,13 @@ pub use history::History;
 pub use law::{
     a_saved_text_is_read_again, changed_histories_can_be_saved, one_saved, saved_texts_are_short,
 };
+pub use made::Made;
+pub use made_reports::MadeReports;
 pub use memory_pocket::MemoryPocket;
 pub use pocket::{Loaded, Pocket, SaveResult};
 pub use reader::read_saved;
 pub use report_reader::MOST_REPORTS;
-pub use room_writer::{MadeReports, fill_made, fill_saved, fill_saved_made};
+pub use room_writer::fill_saved_made;
 pub use saved::{Reports, Saved};
-pub use size::{reports_size, saved_size};
+pub use size::saved_size;
 pub use sure_pocket::SurePocket;

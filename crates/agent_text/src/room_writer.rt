@@ -5,58 +5,21 @@ ghost use Rattle.report_text.specs.declared.form.Form.TheVariants.{Two};
 ghost use Rattle.report_text.specs.Reports.{report_text};
 ghost use Rattle.agent_text.specs.Histories.{pending_ids, shown_history};
 ghost use Rattle.agent_text.specs.AttemptLines.{attempt_line, cleared_field};
-ghost use Rattle.agent_text.specs.KeptTexts.{AreMade, KeepsText};
+ghost use Rattle.agent_text.specs.KeptTexts.{AreKept, AreMade, KeepsText};
 ghost use Rattle.agent_text.specs.SavedTexts.{pending_line, saved_text};
 ghost use Rattle.agent_text.specs.PartWritings.{begun_text, ended_text, head_text, pending_text};
 ghost use Rattle.agent_text.specs.HistoryLines.{history_text};
 
 use crate::histories::Histories;
 use crate::history::History;
+use crate::kept_histories::KeptHistories;
+use crate::made_reports::MadeReports;
 use act_rules::Row;
 use desk_base::Room;
 use rel_lexer::Text;
 use report_text::{Report, fill_end, fill_note, fill_report, outcome_field};
 
-/// Reports, and the texts of the first so many of them, which are made already.
-#[derive(Clone, Copy)]
-pub struct MadeReports<'a> {
-    pub reports: &'a [Report],
-    /// How many texts are made.
-    pub count: usize,
-    /// Those texts, one behind another.
-    pub made: &'a [u8],
-}
-
 /// Appends the text that an agent saves, for which there is room. It takes no memory.
-pub fn fill_saved(
-    computer: &Text,
-    next: u64,
-    histories: &Histories,
-    reports: &[Report],
-    room: &mut Room,
-)
-    requires { HasRoom room.old (length (saved_text (record {
-      computer = computer.now;
-      next = next;
-      histories = histories.now;
-      reports = reports.now;
-    }))) }
-    ensures { Fills room.old room.new (saved_text (record {
-      computer = computer.now;
-      next = next;
-      histories = histories.now;
-      reports = reports.now;
-    })) }
-{
-    let made = MadeReports {
-        reports,
-        count: 0,
-        made: &[],
-    };
-    fill_saved_made(computer, next, histories, made, room)
-}
-
-/// Appends the same text where texts of reports are made already.
 pub fn fill_saved_made(
     computer: &Text,
     next: u64,
@@ -79,7 +42,7 @@ pub fn fill_saved_made(
     })) }
 {
     fill_head(computer, next, room);
-    fill_histories(histories.kept(), room);
+    fill_kept(histories.kept(), room);
     fill_pending(histories.as_slice(), room);
     fill_made(reports, room);
     room.extend(b"end\n")
@@ -95,6 +58,16 @@ fn fill_head(computer: &Text, next: u64, room: &mut Room)
     room.extend(b"\nnext ");
     room.decimal(next);
     room.push(b'\n')
+}
+
+/// Appends the lines of histories, of which those of the first are joined already.
+fn fill_kept(histories: KeptHistories<'_>, room: &mut Room)
+    requires kept { AreKept histories.list.now histories.made.now }
+    requires room { HasRoom room.old (length (flat_map history_text (map shown_history histories.list.now))) }
+    ensures { Fills room.old room.new (flat_map history_text (map shown_history histories.entry.list.now)) }
+{
+    room.extend(histories.made.text());
+    fill_histories(&histories.list[histories.made.count()..], room);
 }
 
 /// Appends the lines of histories.
@@ -208,13 +181,13 @@ fn fill_pending_line(history: &History, room: &mut Room)
 }
 
 /// Appends the texts of reports, of which the first are made already.
-pub fn fill_made(reports: MadeReports<'_>, room: &mut Room)
+fn fill_made(reports: MadeReports<'_>, room: &mut Room)
     requires made { AreMade reports }
     requires room { HasRoom room.old (length (flat_map report_text reports.reports.now)) }
     ensures { Fills room.old room.new (flat_map report_text reports.entry.reports.now) }
 {
-    room.extend(reports.made);
-    fill_reports(&reports.reports[reports.count..], room);
+    room.extend(reports.made.text());
+    fill_reports(&reports.reports[reports.made.count()..], room);
 }
 
 /// Appends the texts of reports.

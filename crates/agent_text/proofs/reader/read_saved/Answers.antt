@@ -4,6 +4,10 @@ use Rattle.report_text.specs.Reports.{end_line}
 use Rattle.agent_text.specs.declared.history.History.{History}
 use Rattle.agent_text.specs.declared.saved.Saved.{Saved}
 use Rattle.agent_text.specs.Histories.{AreHistories, PlainHistory, shown_history}
+use Rattle.agent_text.specs.HistoryLines.{history_text}
+use Rattle.agent_text.specs.MadeTexts.{nothing_made}
+use Rattle.agent_text.specs.MostBytes.{history_bytes}
+use Rattle.agent_text.proofs.MadeLemmas.{made_none}
 use Rattle.agent_text.specs.KeptTexts.{AreKept, KeepsText}
 use Rattle.agent_text.specs.PartReadings.{TakesPending, around_of, untold}
 use Rattle.std.proofs.lemmas.Bool.{iff_false}
@@ -67,10 +71,11 @@ pub from_vec-requires : goal.from_vec-requires
 from_vec-requires c =
     let new : List History = c.take_pending.new.histories in
     let items = marked_items c.deref_mut.result.now (drop (length new) c.in_ok-histories.histories.items) new c.in_ok-histories.histories.len c.take_pending.ensures.taken.same c.deref_mut.ensures.len in
-    subst AreKept (sym items) (record {
+    subst (λ (l : List History). AreKept l nothing_made) (sym items) (record {
       are = marked_good c.in_ok-frame.frame.form c.take_frame.new.lines c.take_histories.new.lines c.take_pending.new.lines c.in_ok-histories.histories.items c.deref_mut.result.now new c.in_ok-histories.ensures.taken
           c.deref_mut.ensures.value c.take_pending.ensures.taken;
       texts = c.take_pending.ensures.kept;
+      made = made_none history_text history_bytes (map shown_history new);
     })
 
 pub returns : goal.returns

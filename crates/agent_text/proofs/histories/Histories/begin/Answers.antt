@@ -7,8 +7,12 @@ use Rattle.agent_text.specs.PartReadings.{HasPlace}
 use Rattle.std.proofs.lemmas.List.Elements.{All-set}
 use Rattle.agent_text.specs.declared.history.History.{History}
 use Rattle.agent_text.specs.KeptTexts.{KeepsText}
+use Rattle.agent_text.specs.MadeTexts.{IsMadeOf}
+use Rattle.agent_text.specs.HistoryLines.{history_text}
+use Rattle.agent_text.specs.MostBytes.{history_bytes}
 use Rattle.agent_text.proofs.HistoryLemmas.{begun_kept}
 use Rattle.agent_text.proofs.ItemLemmas.{All-inserted, id_of_item, new_item, rows_of_item, same_item, told_item}
+use Rattle.agent_text.proofs.MadeLemmas.{made_inserted, made_set}
 use Rattle.agent_text.proofs.PlaceLemmas.{no_rows_there}
 use Rattle.agent_text.proofs.histories.Histories.begin.Goals as goal
 
@@ -69,6 +73,7 @@ invariant_of-self c =
         | inr same ↦ subst AreHistories (sym (same_item c.self.inside.list.items hs c.self.view_is c.in-Ok.place c.in-Ok.ensures.0 c.index_mut.result.now c.begin.new.self c.index_mut.ensures.value same)) are
       ];
       texts = All-set KeepsText c.self.inside.list.items c.in-Ok.place c.begin.new.self c.begin.ensures.kept c.self.invariant.texts;
+      made = made_set shown_history history_text history_bytes c.self.inside.list.items c.in-Ok.place c.self.inside.made c.leave.new.self c.begin.new.self c.leave.ensures c.self.invariant.made;
     }
 
 pub push-requires-clause-number : goal.push-requires-clause-number
@@ -92,4 +97,6 @@ invariant_of-self-in-Err c =
           (begun_kept c.args.self.now c.args.action c.args.row (subst AreHistories c.self.view_is c.self.invariant.are) c.requires.action c.requires.ended c.requires.few
           c.requires.number c.requires.moments c.requires.good);
       texts = subst (All KeepsText) (sym c.in_ok-insert-in-Err.ensures.items) (All-inserted KeepsText c.self.inside.list.items c.in-Err.place new tt c.self.invariant.texts);
+      made = subst (λ (l : List History). IsMadeOf history_text history_bytes (map shown_history l) c.leave-in-Err.new.self) (sym c.in_ok-insert-in-Err.ensures.items)
+          (made_inserted shown_history history_text history_bytes c.self.inside.list.items c.in-Err.place c.self.inside.made c.leave-in-Err.new.self new c.leave-in-Err.ensures c.self.invariant.made);
     }

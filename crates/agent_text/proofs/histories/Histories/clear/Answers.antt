@@ -4,10 +4,13 @@ use Rattle.std.specs.Prelude.{IsSomeAnd}
 use Rattle.std.proofs.lemmas.List.Elements.{All-set}
 use Rattle.act_rules.specs.declared.row.Row.{Row}
 use Rattle.act_rules.specs.Rows.{HasEnded, last_row}
-use Rattle.agent_text.specs.Histories.{AreHistories}
+use Rattle.agent_text.specs.Histories.{AreHistories, shown_history}
 use Rattle.agent_text.specs.KeptTexts.{KeepsText}
+use Rattle.agent_text.specs.HistoryLines.{history_text}
+use Rattle.agent_text.specs.MostBytes.{history_bytes}
 use Rattle.agent_text.proofs.HistoryLemmas.{cleared_kept}
 use Rattle.agent_text.proofs.ItemLemmas.{cleared_item, rows_of_item}
+use Rattle.agent_text.proofs.MadeLemmas.{made_set}
 use Rattle.agent_text.proofs.PlaceLemmas.{no_rows_there}
 use Rattle.agent_text.proofs.histories.Histories.clear.Goals as goal
 
@@ -35,6 +38,7 @@ invariant_of-self c = record {
   are = subst AreHistories (sym (returns-in-Ok c))
       (cleared_kept c.args.self.now c.args.action c.args.moment (subst AreHistories c.self.view_is c.self.invariant.are) c.requires.moment c.requires.ended);
   texts = All-set KeepsText c.self.inside.list.items c.in-Ok.place c.clear.new.self c.clear.ensures.kept c.self.invariant.texts;
+  made = made_set shown_history history_text history_bytes c.self.inside.list.items c.in-Ok.place c.self.inside.made c.leave.new.self c.clear.new.self c.leave.ensures c.self.invariant.made;
 }
 
 pub returns-in_default : goal.returns-in_default

@@ -4,10 +4,13 @@ use Rattle.std.specs.Prelude.{IsSomeAnd}
 use Rattle.std.proofs.lemmas.List.Elements.{All-set}
 use Rattle.act_rules.specs.declared.row.Row.{Row}
 use Rattle.act_rules.specs.Rows.{last_row, with_last}
-use Rattle.agent_text.specs.Histories.{AreHistories, PlainHistory, rows_at}
+use Rattle.agent_text.specs.Histories.{AreHistories, PlainHistory, rows_at, shown_history}
 use Rattle.agent_text.specs.KeptTexts.{KeepsText}
+use Rattle.agent_text.specs.HistoryLines.{history_text}
+use Rattle.agent_text.specs.MostBytes.{history_bytes}
 use Rattle.agent_text.proofs.HistoryLemmas.{ended_kept}
 use Rattle.agent_text.proofs.ItemLemmas.{id_of_item, rows_of_item, told_item}
+use Rattle.agent_text.proofs.MadeLemmas.{made_set}
 use Rattle.agent_text.proofs.PlaceLemmas.{no_rows_there}
 use Rattle.agent_text.proofs.histories.Histories.end.Goals as goal
 
@@ -37,6 +40,7 @@ invariant_of-self c = record {
   are = subst AreHistories (sym (returns-in-Ok c))
       (ended_kept c.args.self.now c.args.action c.args.moment c.args.outcome c.args.note (subst AreHistories c.self.view_is c.self.invariant.are) c.requires.moment c.requires.running c.requires.note);
   texts = All-set KeepsText c.self.inside.list.items c.in-Ok.place c.end.new.self c.end.ensures.kept c.self.invariant.texts;
+  made = made_set shown_history history_text history_bytes c.self.inside.list.items c.in-Ok.place c.self.inside.made c.leave.new.self c.end.new.self c.leave.ensures c.self.invariant.made;
 }
 
 pub returns-in_default : goal.returns-in_default

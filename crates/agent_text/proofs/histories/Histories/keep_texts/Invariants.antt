@@ -1,11 +1,6 @@
-use Rattle.std.proofs.Common.{◌≡◌, All, map}
-use Rattle.agent_text.specs.Histories.{shown_history}
-use Rattle.agent_text.specs.KeptTexts.{KeepsText}
+use Rattle.std.proofs.Common.{◌≡◌}
 use Rattle.agent_text.proofs.histories.Histories.keep_texts.Given as goal
 
--- the histories are the same, and each keeps the bytes of its own lines, if any
-abbrev pub invariant-loop-history : goal.invariant-loop-history
-invariant-loop-history l = record {
-  same : map shown_history l.history-items ≡ l.fn.self;
-  texts : All KeepsText l.history-items;
-}
+-- the histories are the same
+abbrev pub invariant-loop-place : goal.invariant-loop-place
+invariant-loop-place l = l.self ≡ l.fn.self

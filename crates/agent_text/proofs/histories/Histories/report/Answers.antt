@@ -3,9 +3,13 @@ use Rattle.std.proofs.lemmas.List.{length-map, set-get_or, take_at}
 use Rattle.agent_text.specs.declared.history.History.{History}
 use Rattle.std.proofs.lemmas.List.Elements.{All-set}
 use Rattle.agent_text.specs.KeptTexts.{KeepsText}
-use Rattle.agent_text.specs.Histories.{AreHistories, shown_history, with_reported}
+use Rattle.agent_text.specs.Histories.{AreHistories, PlainHistory, shown_history, with_reported}
+use Rattle.agent_text.specs.HistoryLines.{history_text}
+use Rattle.agent_text.specs.MadeTexts.{IsMadeOf}
+use Rattle.agent_text.specs.MostBytes.{history_bytes}
 use Rattle.agent_text.proofs.HistoryLemmas.{reported_kept}
 use Rattle.agent_text.proofs.ItemLemmas.{item_kept, item_reported, reports_all}
+use Rattle.agent_text.proofs.MadeLemmas.{made_reported}
 use Rattle.agent_text.proofs.histories.Histories.report.Goals as goal
 use Rattle.agent_text.proofs.histories.Histories.report.Goals.{then-left-gt0+then-history, else-left-gt0, else-left-gt0-via-then-left-gt0+else-history, else-left-gt0-via-else-left-gt0}
 
@@ -51,8 +55,11 @@ invariant_of-self c =
     let all : length now ≤ c.loop-history.history-index = omega (arith, c.loop-history-test.false, c.loop-history.auto.history-items) in
     let count : length items ≡ c.self.inside.list.len = omega (arith, c.loop-history.auto.history-items, c.deref_mut-history-items.ensures.len) in
     let are = reported_kept c.args.self.now c.args.most (subst AreHistories c.self.view_is c.self.invariant.are) in
+    let told = ap (map shown_history) (take_at items _ c.self.inside.list.len count)
+    ∙ reports_all (with_reported c.args.most c.args.self.now) now c.loop-history.history-index c.loop-history.left all c.loop-history.invariant.so_far in
+    let made = subst (λ (hs : List PlainHistory). IsMadeOf history_text history_bytes hs c.self.inside.made) c.self.view_is c.self.invariant.made in
     record {
-      are = subst AreHistories (sym (ap (map shown_history) (take_at items _ c.self.inside.list.len count)
-          ∙ reports_all (with_reported c.args.most c.args.self.now) now c.loop-history.history-index c.loop-history.left all c.loop-history.invariant.so_far)) are;
+      are = subst AreHistories (sym told) are;
       texts = subst (All KeepsText) (sym (take_at items _ c.self.inside.list.len count)) c.loop-history.invariant.texts;
+      made = subst (λ (hs : List PlainHistory). IsMadeOf history_text history_bytes hs c.self.inside.made) (sym told) (made_reported c.args.most c.args.self.now c.self.inside.made made);
     }
