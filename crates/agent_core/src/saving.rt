@@ -5,7 +5,7 @@ ghost use Rattle.agent_state.specs.States.{text_of};
 ghost use Rattle.agent_core.specs.Steps.{SavesKept};
 
 use crate::kept_state::KeptState;
-use agent_text::{Pocket, SaveResult, fill_saved_made, saved_size, saved_texts_are_short};
+use agent_text::{Pocket, SaveResult, fill_saved, saved_size, saved_texts_are_short};
 use desk_base::Room;
 use std::alloc::Global;
 
@@ -33,7 +33,7 @@ impl KeptState {
         ensures text { room.old.capacity ≤ room.new.capacity }
     {
         room.clear();
-        fill_saved_made(
+        fill_saved(
             &self.name,
             self.next,
             &self.histories,

@@ -2,7 +2,7 @@
 ghost use Rattle.agent_text.specs.SavedTexts.{IsSaved};
 
 use agent_text::{
-    Made, MadeReports, Saved, SavedError, a_saved_text_is_read_again, fill_saved_made, one_saved,
+    Made, MadeReports, Saved, SavedError, a_saved_text_is_read_again, fill_saved, one_saved,
     read_saved, saved_size, saved_texts_are_short,
 };
 use desk_base::{Bytes, Room};
@@ -23,7 +23,7 @@ fn written(alloc: Global, saved: &Saved) -> Option<Bytes>
     };
     let size = saved_size(&saved.histories, reports)?;
     let mut room = Room::with_capacity(alloc, size).ok()?;
-    fill_saved_made(
+    fill_saved(
         &saved.computer,
         saved.next,
         &saved.histories,

@@ -34,7 +34,7 @@ pub use memory_pocket::MemoryPocket;
 pub use pocket::{Loaded, Pocket, SaveResult};
 pub use reader::read_saved;
 pub use report_reader::MOST_REPORTS;
-pub use room_writer::fill_saved_made;
+pub use room_writer::fill_saved;
 pub use saved::{Reports, Saved};
 pub use size::saved_size;
 pub use sure_pocket::SurePocket;

@@ -20,7 +20,7 @@ use rel_lexer::Text;
 use report_text::{Report, fill_end, fill_note, fill_report, outcome_field};
 
 /// Appends the text that an agent saves, for which there is room. It takes no memory.
-pub fn fill_saved_made(
+pub fn fill_saved(
     computer: &Text,
     next: u64,
     histories: &Histories,

@@ -9,7 +9,7 @@ use Rattle.agent_text.specs.SavedTexts.{pending_line}
 use Rattle.agent_text.specs.PartWritings.{head_text}
 use Rattle.agent_text.specs.HistoryLines.{history_text}
 use Rattle.agent_text.proofs.FillLemmas.{filled_length, fills_then, rest_text, saved_length, saved_parts}
-use Rattle.agent_text.proofs.room_writer.fill_saved_made.Goals as goal
+use Rattle.agent_text.proofs.room_writer.fill_saved.Goals as goal
 
 abbrev pending_lines : List PlainHistory → List ℕ
 pending_lines hs = lines_text (map pending_line (pending_ids hs))
