@@ -1,6 +1,6 @@
 -- Success rules and targets that are asked.
 use Rattle.std.proofs.Common.{◌≡◌, ◌↔◌, ℕ, Bool, true, false, List, inl, inr, Option, Some, None, refl, sym, ap, subst, ◌∙◌}
-use Rattle.std.specs.Prelude.{Contains, IsTrue, is_some, not}
+use Rattle.std.specs.Prelude.{Contains, IsTrue, is_some}
 use Rattle.script_text.specs.declared.script.Script.{Script}
 use Rattle.script_text.specs.Readings.{shown_script}
 use Rattle.fix_site.specs.declared.action.Target.{Target}
@@ -59,22 +59,21 @@ pub targets_where : (at : When) (computer : List ℕ) (own t : Target) (question
 targets_where at computer own t question clause old found new same is reads asks =
     subst (λ (x : Target). Targets at computer x old found new) (sym is ∙ same) (asks question (reads ∙ ap target_clause is))
 
--- ---- relevance
-script_none : (script : Option Script) → is_some script ≡ false → script ≡ None
-script_none None none = refl
-script_none (Some script) none = absurd (cc)
+-- ---- scripts and relevance; `f` is another name of the fixlet
+tells_script : OneVerdict → (lines : List (List ℕ)) (script : Option Script) → IsScriptOf lines script → IsTrue (is_some script) ↔ HasScript lines
+tells_script one_verdict lines None h = ((λ e. absurd (cc)), (λ k. absurd (no_script one_verdict lines h k)))
+tells_script one_verdict lines (Some script) h = ((λ _. (shown_script script, h)), (λ _. refl))
 
-script_some : (lines : List (List ℕ)) (script : Option Script) → is_some script ≡ true → IsScriptOf lines script → HasScript lines
-script_some lines None some h = absurd (cc)
-script_some lines (Some script) some h = (shown_script script, h)
+pub has_script : OneVerdict → (own f : Fixlet) (script : Option Script) (some : Bool) → f ≡ own → is_some script ≡ some → IsScriptOf f.script script → IsTrue some ↔ HasScript own.script
+has_script one_verdict own f script some same is h =
+    subst (λ (x : Fixlet). IsTrue some ↔ HasScript x.script) same
+    (subst (λ b. IsTrue b ↔ HasScript f.script) is (tells_script one_verdict f.script script h))
 
-pub relevant_refused : OneVerdict → (at : When) (own f : Fixlet) (script : Option Script) (v : MachineView) (none : Bool) → f ≡ own → none ≡ true → is_some script ≡ not none → IsScriptOf f.script script → FixletIs at own v No v
-relevant_refused one_verdict at own f script v none same so is h =
-    let gone : script ≡ None = script_none script (is ∙ ap not so) in
-    subst (λ (x : Fixlet). FixletIs at x v No v) same (inr (no_script one_verdict f.script (subst (IsScriptOf f.script) gone h), (refl, refl)))
+pub relevant_refused : (at : When) (own f : Fixlet) (runs : Bool) (v : MachineView) → f ≡ own → runs ≡ false → (IsTrue runs ↔ HasScript f.script) → FixletIs at own v No v
+relevant_refused at own f runs v same isnt is =
+    subst (λ (x : Fixlet). FixletIs at x v No v) same (inr ((λ h. let so : runs ≡ true = is.1 h in absurd (cc)), (refl, refl)))
 
-pub relevant_asked : (at : When) (own f : Fixlet) (script : Option Script) (texts : List (List ℕ)) (old : MachineView) (found : Found) (new : MachineView) (none : Bool) → f ≡ own → none ≡ false → is_some script ≡ not none →
-    IsScriptOf f.script script → texts ≡ f.relevance → AllAre at texts old found new → FixletIs at own old found new
-relevant_asked at own f script texts old found new none same isnt is h are asks =
-    subst (λ (x : Fixlet). FixletIs at x old found new) same
-    (inl (script_some f.script script (is ∙ ap not isnt) h, subst (λ l. AllAre at l old found new) are asks))
+pub relevant_asked : (at : When) (own f : Fixlet) (runs : Bool) (texts : List (List ℕ)) (old : MachineView) (found : Found) (new : MachineView) → f ≡ own → runs ≡ true → (IsTrue runs ↔ HasScript f.script) →
+    texts ≡ f.relevance → AllAre at texts old found new → FixletIs at own old found new
+relevant_asked at own f runs texts old found new same so is are asks =
+    subst (λ (x : Fixlet). FixletIs at x old found new) same (inl (is.0 so, subst (λ l. AllAre at l old found new) are asks))

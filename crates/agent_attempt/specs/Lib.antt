@@ -1,5 +1,6 @@
 pub mod ActionContents
 pub mod ReadTexts
+pub mod AskedBlocks
 pub mod ReadBlocks
 pub mod BlockPlaces
 pub mod FoundContents

@@ -67,7 +67,7 @@ fn question_of(alloc: Global, text: &Text) -> Result<Option<Question>, AllocErro
 pub(crate) fn read_all(alloc: Global, texts: &[Text]) -> Result<Vec<Clause>, AllocError>
     ensures { IfOk result (λ clauses. clauses.items ≡ texts.now) }
 {
-    let mut clauses = Vec::new(alloc);
+    let mut clauses = Vec::with_capacity(alloc, texts.len())?;
     for text in texts {
         clauses.push(Clause::read(alloc, text)?)?;
     }

@@ -1,9 +1,9 @@
-ghost use Rattle.std.specs.Prelude.{◌≡◌, ◌<◌, ◌^◌, length, Some, IfOk};
+ghost use Rattle.std.specs.Prelude.{◌≡◌, ◌<◌, ◌^◌, ◌↔◌, length, Some, IfOk, IsTrue};
 ghost use Rattle.fix_site.specs.Contents.{IsFixlet};
 ghost use Rattle.agent_attempt.specs.ReadTexts.{IsScriptOf, success_clause};
-ghost use Rattle.agent_attempt.specs.Relevance.{FixletIs, HasScript, Succeeds};
+ghost use Rattle.agent_attempt.specs.Relevance.{HasScript, Succeeds};
 
-use crate::clause::{Clause, ask_all, ask_given, read_all};
+use crate::clause::{Clause, ask_all, ask_given};
 use crate::found::Found;
 use crate::time::Time;
 use bf_machine::Machine;
@@ -13,35 +13,32 @@ use script_text::{Script, ScriptError, one_verdict, read_script};
 use std::alloc::{AllocError, Global};
 use std::marker::Model;
 
-/// A fixlet, and what its texts read as. Contracts see the fixlet.
+/// A fixlet, and what its texts but those of its relevance read as. Contracts see the fixlet.
 #[derive(Drop)]
 pub struct FixletTexts {
-    // The first two are what an idle turn looks at.
-    relevance: Vec<Clause>,
-    script: Option<Script>,
-    success: Option<Clause>,
     fixlet: Fixlet,
+    success: Option<Clause>,
+    script: Option<Script>,
 }
 
 impl Model for FixletTexts {
     ghost use Rattle.fix_site.specs.declared.fixlet.Fixlet.{Fixlet};
-    ghost use Rattle.agent_attempt.specs.ReadTexts.{IsReadFixlet};
+    ghost use Rattle.agent_attempt.specs.ReadTexts.{AreTextsOf};
 
     ghost Value = { Fixlet };
 
     ghost view = { λ f. f.fixlet };
 
-    ghost invariant = { λ f. IsReadFixlet f.fixlet f.relevance.items f.success f.script };
+    ghost invariant = { λ f. AreTextsOf f.fixlet f.success f.script };
 }
 
 impl FixletTexts {
-    /// Reads the texts of a fixlet. The error is want of memory, here and below.
+    /// Reads the texts of a fixlet but its relevance. The error is want of memory, here and below.
     pub(crate) fn read(alloc: Global, fixlet: Fixlet) -> Result<FixletTexts, AllocError>
         requires { IsFixlet fixlet }
         ensures { IfOk result (λ read. read ≡ fixlet) }
     {
         Ok(FixletTexts {
-            relevance: read_all(alloc, fixlet.relevance.as_slice())?,
             success: read_success(alloc, &fixlet.success)?,
             script: script_of(alloc, fixlet.script.as_slice())?,
             fixlet,
@@ -61,32 +58,29 @@ impl FixletTexts {
         }
     }
 
-    /// Whether the fixlet is relevant.
-    pub(crate) fn is_relevant<M: Machine>(
+    /// Whether its script isn't refused.
+    pub(crate) fn has_script(&self) -> bool
+        ensures { IsTrue result ↔ HasScript self.now.script }
+    {
+        // Proof: lines that are refused are no script.
+        one_verdict();
+        self.script.is_some()
+    }
+
+    /// Whether its success rule holds, after its script is done. These are its relevance.
+    pub(crate) fn succeeds<M: Machine>(
         &self,
         alloc: Global,
+        relevance: &[Clause],
         machine: &mut M,
         time: &Time,
     ) -> Found
-        ensures { FixletIs time.now self.now (M.told machine.old) result (M.told machine.new) }
-    {
-        if self.script.is_none() {
-            // Proof: lines that are refused are no script.
-            one_verdict();
-            return Found::No;
-        }
-        ask_all(alloc, self.relevance.as_slice(), machine, time)
-    }
-
-    /// Whether its success rule holds, after its script is done.
-    pub(crate) fn succeeds<M: Machine>(&self, alloc: Global, machine: &mut M, time: &Time) -> Found
+        requires { relevance.now ≡ self.now.relevance }
         ensures { Succeeds time.now self.now self.now.success (M.told machine.old) result (M.told machine.new) }
     {
         match &self.fixlet.success {
             Success::Lines => Found::Yes,
-            Success::Relevance => {
-                ask_all(alloc, self.relevance.as_slice(), machine, time).opposite()
-            }
+            Success::Relevance => ask_all(alloc, relevance, machine, time).opposite(),
             Success::Clause(_) => ask_given(alloc, &self.success, machine, time),
         }
     }

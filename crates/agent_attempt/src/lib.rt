@@ -1,8 +1,10 @@
 //! Attempts of actions over a machine: what is relevant and due, and how an attempt goes on until it ends.
 #![tactic(auto)]
 
+mod asked_block;
 mod attempt;
 mod clause;
+mod clauses;
 mod component;
 mod fixlet_texts;
 mod found;

@@ -1,13 +1,15 @@
 ghost use Rattle.std.specs.Prelude.{◌≡◌, IfOk, IsTrue, ◌↔◌, Contains};
 ghost use Rattle.desk_base.specs.Moments.{IsMoment};
 ghost use Rattle.fix_site.specs.Actions.{IsAction};
-ghost use Rattle.fix_site.specs.Blocks.{IsBlock};
 ghost use Rattle.agent_attempt.specs.ReadTexts.{target_clause};
+ghost use Rattle.agent_attempt.specs.AskedBlocks.{IsAsked};
 ghost use Rattle.agent_attempt.specs.ReadBlocks.{shown_block, read_id};
 ghost use Rattle.agent_attempt.specs.FoundContents.{IsFixletOf};
 ghost use Rattle.agent_attempt.specs.Relevance.{AllAre, Targets};
 
-use crate::clause::{Clause, ask_all, ask_given, read_all};
+use crate::asked_block::AskedBlock;
+use crate::clause::{Clause, ask_all, ask_given};
+use crate::clauses::Clauses;
 use crate::found::Found;
 use crate::read_fixlet::ReadFixlet;
 use crate::time::Time;
@@ -17,11 +19,18 @@ use rel_lexer::Text;
 use std::alloc::{AllocError, Global};
 use std::marker::Model;
 
+/// A baseline, and what its relevance reads as.
+#[derive(Drop)]
+pub struct BaselineTexts {
+    baseline: Baseline,
+    relevance: Clauses,
+}
+
 /// A baseline whose clauses were read once. Contracts see the baseline.
 #[derive(Drop)]
 pub struct ReadBaseline {
-    baseline: Baseline,
-    relevance: Vec<Clause>,
+    // Blocks are small, so that those of a site lie close together.
+    texts: Box<BaselineTexts>,
 }
 
 impl Model for ReadBaseline {
@@ -30,18 +39,27 @@ impl Model for ReadBaseline {
 
     ghost Value = { Baseline };
 
-    ghost view = { λ b. b.baseline };
+    ghost view = { λ b. b.texts.value.baseline };
 
-    ghost invariant = { λ b. b.relevance.items ≡ b.baseline.relevance };
+    ghost invariant = { λ b. b.texts.value.relevance ≡ b.texts.value.baseline.relevance };
 }
 
 impl ReadBaseline {
-    fn read(alloc: Global, baseline: Baseline) -> Result<ReadBaseline, AllocError>
+    /// A baseline whose relevance was read.
+    fn new(
+        alloc: Global,
+        baseline: Baseline,
+        relevance: Clauses,
+    ) -> Result<ReadBaseline, AllocError>
+        requires { relevance ≡ baseline.relevance }
         ensures { IfOk result (λ read. read ≡ baseline) }
     {
-        Ok(ReadBaseline {
-            relevance: read_all(alloc, baseline.relevance.as_slice())?,
+        let texts = BaselineTexts {
             baseline,
+            relevance,
+        };
+        Ok(ReadBaseline {
+            texts: Box::new(alloc, texts)?,
         })
     }
 
@@ -49,29 +67,35 @@ impl ReadBaseline {
     pub(crate) fn id(&self) -> u64
         ensures { result ≡ self.now.id }
     {
-        self.baseline.id
+        self.texts.baseline.id
     }
 
     /// The ids of its components.
     pub(crate) fn components(&self) -> &[u64]
         ensures { result.now ≡ self.now.components }
     {
-        self.baseline.components.as_slice()
+        self.texts.baseline.components.as_slice()
     }
 
     /// Asks its own clauses.
     pub(crate) fn ask<M: Machine>(&self, alloc: Global, machine: &mut M, time: &Time) -> Found
         ensures { AllAre time.now self.now.relevance (M.told machine.old) result (M.told machine.new) }
     {
-        ask_all(alloc, self.relevance.as_slice(), machine, time)
+        ask_all(alloc, self.texts.relevance.as_slice(), machine, time)
     }
+}
+
+/// An action, and what its target reads as.
+#[derive(Drop)]
+pub struct ActionTexts {
+    action: Action,
+    target: Option<Clause>,
 }
 
 /// An action whose target was read once. Contracts see the action.
 #[derive(Drop)]
 pub struct ReadAction {
-    action: Action,
-    target: Option<Clause>,
+    texts: Box<ActionTexts>,
 }
 
 impl Model for ReadAction {
@@ -82,9 +106,10 @@ impl Model for ReadAction {
 
     ghost Value = { Action };
 
-    ghost view = { λ a. a.action };
+    ghost view = { λ a. a.texts.value.action };
 
-    ghost invariant = { λ a. IsAction a.action × (a.target ≡ target_clause a.action.target) };
+    ghost invariant = { λ a. IsAction a.texts.value.action
+        × (a.texts.value.target ≡ target_clause a.texts.value.action.target) };
 }
 
 impl ReadAction {
@@ -92,9 +117,12 @@ impl ReadAction {
         requires { IsAction action }
         ensures { IfOk result (λ read. read ≡ action) }
     {
-        Ok(ReadAction {
+        let texts = ActionTexts {
             target: read_target(alloc, &action.target)?,
             action,
+        };
+        Ok(ReadAction {
+            texts: Box::new(alloc, texts)?,
         })
     }
 
@@ -102,14 +130,14 @@ impl ReadAction {
     pub fn action(&self) -> &Action
         ensures { result.now ≡ self.now }
     {
-        &self.action
+        &self.texts.action
     }
 
     /// A copy of the action.
     pub(crate) fn copied(&self) -> Result<Action, AllocError>
         ensures { IfOk result (λ action. (action ≡ self.now) × IsMoment action.issued) }
     {
-        self.action.copy()
+        self.texts.action.copy()
     }
 
     /// Whether the action targets this computer.
@@ -122,17 +150,40 @@ impl ReadAction {
     ) -> Found
         ensures { Targets time.now computer.now self.now.target (M.told machine.old) result (M.told machine.new) }
     {
-        match &self.action.target {
-            Target::All => Found::Yes,
-            Target::Computers(names) => {
-                if is_among(names.as_slice(), computer) {
-                    Found::Yes
-                } else {
-                    Found::No
-                }
+        let texts = &*self.texts;
+        ask_target(
+            alloc,
+            &texts.action.target,
+            &texts.target,
+            computer,
+            machine,
+            time,
+        )
+    }
+}
+
+/// Whether a target, whose question was read, is this computer.
+fn ask_target<M: Machine>(
+    alloc: Global,
+    target: &Target,
+    clause: &Option<Clause>,
+    computer: &Text,
+    machine: &mut M,
+    time: &Time,
+) -> Found
+    requires { clause.now ≡ target_clause target.now }
+    ensures { Targets time.now computer.now target.now (M.told machine.old) result (M.told machine.new) }
+{
+    match target {
+        Target::All => Found::Yes,
+        Target::Computers(names) => {
+            if is_among(names.as_slice(), computer) {
+                Found::Yes
+            } else {
+                Found::No
             }
-            Target::Where(_) => ask_given(alloc, &self.target, machine, time),
         }
+        Target::Where(_) => ask_given(alloc, clause, machine, time),
     }
 }
 
@@ -161,15 +212,18 @@ pub enum ReadBlock {
 }
 
 impl ReadBlock {
-    /// Reads the texts of a block. The error is want of memory.
-    pub(crate) fn read(alloc: Global, block: Block) -> Result<ReadBlock, AllocError>
-        requires { IsBlock block }
-        ensures { IfOk result (λ read. shown_block read ≡ block) }
+    /// Reads the texts of a block whose relevance was read. The error is want of memory.
+    pub(crate) fn read(alloc: Global, asked: AskedBlock) -> Result<ReadBlock, AllocError>
+        requires { IsAsked asked }
+        ensures { IfOk result (λ read. shown_block read ≡ asked.block) }
     {
+        let AskedBlock { block, relevance } = asked;
         match block {
-            Block::Fixlet(fixlet) => Ok(ReadBlock::Fixlet(ReadFixlet::read(alloc, fixlet)?)),
+            Block::Fixlet(fixlet) => {
+                Ok(ReadBlock::Fixlet(ReadFixlet::read(alloc, fixlet, relevance)?))
+            }
             Block::Baseline(baseline) => {
-                Ok(ReadBlock::Baseline(ReadBaseline::read(alloc, baseline)?))
+                Ok(ReadBlock::Baseline(ReadBaseline::new(alloc, baseline, relevance)?))
             }
             Block::Action(action) => Ok(ReadBlock::Action(ReadAction::read(alloc, action)?)),
         }

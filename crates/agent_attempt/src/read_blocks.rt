@@ -4,6 +4,7 @@ ghost use Rattle.agent_attempt.specs.ReadBlocks.{shown_block};
 ghost use Rattle.agent_attempt.specs.FoundContents.{FindsBlock};
 ghost use Rattle.agent_attempt.specs.BlockPlaces.{AddsPlace};
 
+use crate::asked_block::ask_blocks;
 use crate::read_block::ReadBlock;
 use fix_site::Blocks;
 use std::alloc::{AllocError, Global};
@@ -48,8 +49,10 @@ impl ReadBlocks {
         requires { All IsBlock blocks }
         ensures { IfOk result (λ read. read ≡ blocks) }
     {
+        // What a turn asks is read of all blocks first, so that it lies together.
+        let asked = ask_blocks(alloc, blocks)?;
         let mut done = ReadBlocks::new(alloc);
-        for block in blocks.into_vec() {
+        for block in asked {
             done = done.with(ReadBlock::read(alloc, block)?)?;
         }
         Ok(done)

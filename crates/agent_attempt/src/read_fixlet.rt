@@ -3,6 +3,8 @@ ghost use Rattle.fix_site.specs.Contents.{IsFixlet};
 ghost use Rattle.agent_attempt.specs.ReadTexts.{IsScriptOf};
 ghost use Rattle.agent_attempt.specs.Relevance.{FixletIs, HasScript, Succeeds};
 
+use crate::clause::ask_all;
+use crate::clauses::Clauses;
 use crate::fixlet_texts::FixletTexts;
 use crate::found::Found;
 use crate::time::Time;
@@ -16,32 +18,42 @@ use std::rc::Rc;
 /// A fixlet whose texts were read once. Its copies share them. Contracts see the fixlet.
 #[derive(Drop)]
 pub struct ReadFixlet {
-    // Its id stands here once more, so that a lookup needn't go to its texts.
+    // What an idle turn looks at stands here, so that it needn't go to the texts: the id once more, whether the script is one, and what
+    // the relevance reads as.
     id: u64,
+    runs: bool,
+    relevance: Clauses,
     texts: Rc<FixletTexts>,
 }
 
 impl Model for ReadFixlet {
-    ghost use Rattle.std.specs.Prelude.{◌≡◌};
     ghost use Rattle.fix_site.specs.declared.fixlet.Fixlet.{Fixlet};
+    ghost use Rattle.agent_attempt.specs.ReadTexts.{IsReadFixlet};
 
     ghost Value = { Fixlet };
 
     ghost view = { λ f. f.texts.value };
 
-    ghost invariant = { λ f. f.id ≡ f.texts.value.id };
+    ghost invariant = { λ f. IsReadFixlet f.texts.value f.id f.relevance f.runs };
 }
 
 impl ReadFixlet {
-    /// Reads the texts of a fixlet. The error is want of memory, here and below.
-    pub(crate) fn read(alloc: Global, fixlet: Fixlet) -> Result<ReadFixlet, AllocError>
-        requires { IsFixlet fixlet }
+    /// Reads the texts of a fixlet whose relevance was read. The error is want of memory, here and below.
+    pub(crate) fn read(
+        alloc: Global,
+        fixlet: Fixlet,
+        relevance: Clauses,
+    ) -> Result<ReadFixlet, AllocError>
+        requires fixlet { IsFixlet fixlet }
+        requires relevance { relevance ≡ fixlet.relevance }
         ensures { IfOk result (λ read. read ≡ fixlet) }
     {
         let id = fixlet.id;
         let texts = FixletTexts::read(alloc, fixlet)?;
         Ok(ReadFixlet {
             id,
+            runs: texts.has_script(),
+            relevance,
             texts: Rc::new(alloc, texts)?,
         })
     }
@@ -52,6 +64,8 @@ impl ReadFixlet {
     {
         Ok(ReadFixlet {
             id: self.id,
+            runs: self.runs,
+            relevance: self.relevance.copy()?,
             texts: self.texts.clone()?,
         })
     }
@@ -80,13 +94,17 @@ impl ReadFixlet {
     ) -> Found
         ensures { FixletIs time.now self.now (M.told machine.old) result (M.told machine.new) }
     {
-        self.texts.is_relevant(alloc, machine, time)
+        if !self.runs {
+            return Found::No;
+        }
+        ask_all(alloc, self.relevance.as_slice(), machine, time)
     }
 
     /// Whether its success rule holds, after its script is done.
     pub(crate) fn succeeds<M: Machine>(&self, alloc: Global, machine: &mut M, time: &Time) -> Found
         ensures { Succeeds time.now self.now self.now.success (M.told machine.old) result (M.told machine.new) }
     {
-        self.texts.succeeds(alloc, machine, time)
+        self.texts
+            .succeeds(alloc, self.relevance.as_slice(), machine, time)
     }
 }

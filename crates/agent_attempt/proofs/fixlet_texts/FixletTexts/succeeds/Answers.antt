@@ -1,4 +1,5 @@
-use Rattle.std.proofs.Common.{◌∙◌}
+use Rattle.std.proofs.Common.{◌∙◌, ap, sym}
+use Rattle.fix_site.specs.declared.fixlet.Fixlet.{Fixlet}
 use Rattle.agent_attempt.proofs.Rules.{succeeds_lines, succeeds_relevance, succeeds_clause}
 use Rattle.agent_attempt.proofs.fixlet_texts.FixletTexts.succeeds.Goals as goal
 
@@ -7,8 +8,8 @@ returns-in-Lines g c = succeeds_lines _ c.args.self.now c.self.inside.fixlet _ c
 
 pub returns-in-Relevance : goal.returns-in-Relevance
 returns-in-Relevance g c =
-    succeeds_relevance _ c.args.self.now c.self.inside.fixlet c.as_slice.result.now _ c.ask_all.result c.opposite.result _ c.self.view_is c.in-Relevance.is (c.as_slice.ensures.value ∙ c.self.invariant.relevance) c.opposite.ensures
-    c.ask_all.ensures
+    succeeds_relevance _ c.args.self.now c.self.inside.fixlet c.args.relevance.now _ c.ask_all.result c.opposite.result _ c.self.view_is c.in-Relevance.is
+    (c.requires ∙ ap (λ (f : Fixlet). f.relevance) (sym c.self.view_is)) c.opposite.ensures c.ask_all.ensures
 
 pub returns-in-Clause : goal.returns-in-Clause
 returns-in-Clause g c =
