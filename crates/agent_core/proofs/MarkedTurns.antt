@@ -22,17 +22,17 @@ use Rattle.agent_core.specs.declared.turned.Turned.{Turned}
 use Rattle.agent_core.specs.declared.turned.Turned.TheVariants.{Idle}
 use Rattle.agent_core.specs.Devices.{Devices, devices}
 use Rattle.agent_core.specs.Inside.{AreSoundOn, IsSoundKept, state_of}
-use Rattle.agent_core.specs.Marked.{AreBefore, UndoneSame, undone}
+use Rattle.agent_core.specs.Marked.{AreBefore, Covers, UndoneSame, undone}
 use Rattle.agent_core.specs.Marking.{AreMarksOf, HasMarks, StopsMarks, unmarked_state}
 use Rattle.agent_core.specs.Saving.{OrMemory}
-use Rattle.agent_core.specs.Steps.{AnswersTry, AreMarked, BeginsAs, FindsAfter, FindsDue, MakesMarks, MarksAfter, MarksEach, TestsMark, may_mark, marked_by}
+use Rattle.agent_core.specs.Steps.{AnswersTry, AreMarked, BeginsAs, FindsAfter, FindsDue, MakesMarks, MarksAfter, MarksEach, TestsMark, marked_by}
 use Rattle.agent_core.specs.Turns.{Finishes, Marks, Tries}
 use Rattle.agent_core.proofs.HeldAttempt.{none_shown, waits_as}
 use Rattle.agent_core.proofs.Keeping.{sound_with, standing_marked, standing_unmarked}
 use Rattle.agent_core.proofs.PuttingBack.{undone_marks}
 use Rattle.agent_core.proofs.Searching.{ComesTo, tries_marked, tries_stopped}
 use Rattle.agent_core.proofs.Starting.{begins_or}
-use Rattle.agent_core.proofs.Unmarked.{unmarked_each}
+use Rattle.agent_core.proofs.Unmarked.{none_may, unmarked_each}
 
 -- ---- marks are made by the state's sites alone
 module _ (at : When) (s t : State) (same : s.sites ≡ t.sites) where
@@ -83,12 +83,12 @@ module _ (at : When) (s : State) (hs : List PlainHistory) where
   )
 
 -- ---- marks in place
-pub no_marks_kept : (at : When) (a : KeptState) (marked : Marked) (v : MachineView) → IsSoundKept a → a.held ≡ None → may_mark a.histories ≡ false → marked.any ≡ false → marked.before.items ≡ [] → HasMarks at a v marked a v
-no_marks_kept at a marked v is free none any before =
+pub no_marks_kept : (at : When) (a : KeptState) (marked : Marked) (v : MachineView) → IsSoundKept a → a.held ≡ None → AreBefore marked.before.items a.histories → marked.any ≡ false → marked.before.items ≡ [] → HasMarks at a v marked a v
+no_marks_kept at a marked v is free are any before =
     let same : undone marked.before.items a.histories ≡ a.histories = ap (λ bs. undone bs a.histories) before in
     record {
       makes = record {
-        marks = subst (λ b. MarksEach at (state_of a) (actions_of a.sites) (record { histories = a.histories; any = false }) v (Ok b) a.histories v) (sym any) (unmarked_each at (state_of a) (actions_of a.sites) a.histories v none);
+        marks = subst (λ b. MarksEach at (state_of a) (actions_of a.sites) (record { histories = a.histories; any = false }) v (Ok b) a.histories v) (sym any) (unmarked_each at (state_of a) (actions_of a.sites) a.histories v (none_may a.histories (subst (λ bs. Covers bs a.histories) before are.covers)));
         marked = refl;
         good = is.sound.saved.histories;
       };

@@ -1,16 +1,20 @@
 -- What stood before marks, and that it can be put back.
-use Rattle.std.proofs.Common.{ℕ, suc, ◌≡◌, ◌-◌, ◌&&◌, ◌⊎◌, ℤ, List, [], ◌∷◌, ◌++◌, Bool, true, false, cond, refl, sym, ap, ◌∙◌, subst, arith, eqb, length, inl, inr, All, Option, None, Some}
-use Rattle.std.specs.Prelude.{IfSome, is_some, slice_get}
+use Rattle.std.proofs.Common.{ℕ, suc, ◌≡◌, ◌-◌, ◌&&◌, ◌⊎◌, ℤ, List, [], ◌∷◌, ◌++◌, Bool, true, false, cond, refl, sym, ap, ◌∙◌, subst, arith, eqb, length, map, inl, inr, All, Option, None, Some}
+use Rattle.std.specs.Prelude.{Contains, IfSome, is_some, slice_get}
 use Rattle.std.proofs.lemmas.Bool.{cases_eq, eqb-true, ne_eqb}
 use Rattle.std.proofs.lemmas.List.{map-append}
-use Rattle.std.proofs.lemmas.List.Elements.{All-head, All-tail, All-weaker}
+use Rattle.std.proofs.lemmas.List.Elements.{All-head, All-tail, All-weaker, Contains-append_left, Contains-push}
 use Rattle.act_rules.specs.declared.row.Row.{Row}
 use Rattle.act_rules.specs.Rows.{last_row, with_last}
 use Rattle.agent_text.specs.Befores.{IsHistoryOf, PlainBefore, before_of, listed, with_before}
 use Rattle.agent_text.specs.Histories.{AreHistories, PlainHistory, cleared, rows_at, with_cleared}
+use Rattle.agent_text.proofs.PendingIds.{Has, contains_has}
 use Rattle.agent_text.proofs.BeforeLemmas.{forgets_cleared, found_good, same_before}
-use Rattle.agent_core.specs.Marked.{AreBefore, AreOwn, Covers, Has, UndoneSame, undone}
+use Rattle.agent_core.specs.Marked.{AreBefore, AreOwn, Covers, UndoneSame, undone}
 use Rattle.agent_core.specs.Turns.{may_clear}
+
+abbrev pub ids_of : List PlainBefore → List ℕ
+ids_of bs = map (λ b. b.action) bs
 
 -- ---- a mark at another action
 abbrev one_before : PlainBefore → PlainHistory → List PlainHistory
@@ -65,7 +69,7 @@ either_way (b ∷ bs) id moment hs own = by (either_way bs id moment hs (All-tai
       | inr other ↦ inr (ap (with_before b) e ∙ commutes_cleared b id moment (undone bs hs) (All-head IsOwn b bs own) other)
     ]
 
-undone_has : (bs : List PlainBefore) (id : ℕ) (moment : ℤ) (hs : List PlainHistory) → AreOwn bs → Has bs id → undone bs (with_cleared id moment hs) ≡ undone bs hs
+undone_has : (bs : List PlainBefore) (id : ℕ) (moment : ℤ) (hs : List PlainHistory) → AreOwn bs → Has (ids_of bs) id → undone bs (with_cleared id moment hs) ≡ undone bs hs
 undone_has [] id moment hs own has = absurd has
 undone_has (b ∷ bs) id moment hs own (inr has) = ap (with_before b) (undone_has bs id moment hs (All-tail IsOwn b bs own) has)
 undone_has (b ∷ bs) id moment hs own (inl same) = by (either_way bs id moment hs (All-tail IsOwn b bs own))
@@ -122,7 +126,7 @@ same_then hs mid now one other = record {
 
 pub same_marked : (id : ℕ) (moment : ℤ) (hs : List PlainHistory) → may_clear (last_row (rows_at id hs)) ≡ true → UndoneSame hs (with_cleared id moment hs)
 same_marked id moment hs may = record {
-  undo = λ bs own covers. undone_has bs id moment hs own (covers id may);
+  undo = λ bs own covers. undone_has bs id moment hs own (contains_has (ids_of bs) id (covers id may));
   covers = λ bs covers a is. covers a (may_before a id moment hs is);
 }
 
@@ -148,14 +152,12 @@ pub undone_marks : (hs now : List PlainHistory) (bs : List PlainBefore) → AreH
 undone_marks hs now bs are before same = same.undo bs (are_own hs bs are before.stand) before.covers ∙ undone_same hs bs are before.stand
 
 -- ---- one more
-pub has_more : (bs : List PlainBefore) (b : PlainBefore) (action : ℕ) → Has bs action → Has (bs ++ b ∷ []) action
-has_more [] b action has = absurd has
-has_more (x ∷ bs) b action (inl same) = inl same
-has_more (x ∷ bs) b action (inr has) = inr (has_more bs b action has)
+pub has_more : (bs : List PlainBefore) (b : PlainBefore) (action : ℕ) → Contains (ids_of bs) action → Contains (ids_of (bs ++ b ∷ [])) action
+has_more bs b action has =
+    subst (λ l. Contains l action) (sym (map-append (λ (x : PlainBefore). x.action) bs (b ∷ []))) (Contains-append_left (ids_of bs) (b.action ∷ []) action has)
 
-pub has_last : (bs : List PlainBefore) (b : PlainBefore) → Has (bs ++ b ∷ []) b.action
-has_last [] b = inl refl
-has_last (x ∷ bs) b = inr (has_last bs b)
+pub has_last : (bs : List PlainBefore) (b : PlainBefore) → Contains (ids_of (bs ++ b ∷ [])) b.action
+has_last bs b = subst (λ l. Contains l b.action) (sym (map-append (λ (x : PlainBefore). x.action) bs (b ∷ []))) (Contains-push (ids_of bs) b.action)
 
 -- the last one is put back first
 pub undone_last : (bs : List PlainBefore) (b : PlainBefore) (hs : List PlainHistory) → undone (bs ++ b ∷ []) hs ≡ undone bs (with_before b hs)
@@ -163,13 +165,13 @@ undone_last [] b hs = refl
 undone_last (x ∷ bs) b hs = ap (with_before x) (undone_last bs b hs)
 
 -- each history that may be marked is covered, and so is each action
-pub covered : (bs : List PlainBefore) (hs : List PlainHistory) → All (λ h. may_clear (last_row h.rows) ≡ true → Has bs h.action) hs → Covers bs hs
+pub covered : (bs : List PlainBefore) (hs : List PlainHistory) → All (λ h. may_clear (last_row h.rows) ≡ true → Contains (ids_of bs) h.action) hs → Covers bs hs
 covered bs [] all action may = untrue (may_clear None) refl may
 covered bs (h ∷ hs) all action may = by (eqb h.action action) refl (covered bs hs (All-tail Covered h hs all) action) may
   where
     Covered : PlainHistory → Type 0
-    Covered = λ h. may_clear (last_row h.rows) ≡ true → Has bs h.action
+    Covered = λ h. may_clear (last_row h.rows) ≡ true → Contains (ids_of bs) h.action
 
-    by : (t : Bool) → eqb h.action action ≡ t → (may_clear (last_row (rows_at action hs)) ≡ true → Has bs action) → may_clear (last_row (cond (eqb h.action action) h.rows (rows_at action hs))) ≡ true → Has bs action
-    by true e next may = subst (Has bs) (eqb-true h.action action e) (All-head Covered h hs all (subst (λ t. may_clear (last_row (cond t h.rows (rows_at action hs))) ≡ true) e may))
+    by : (t : Bool) → eqb h.action action ≡ t → (may_clear (last_row (rows_at action hs)) ≡ true → Contains (ids_of bs) action) → may_clear (last_row (cond (eqb h.action action) h.rows (rows_at action hs))) ≡ true → Contains (ids_of bs) action
+    by true e next may = subst (Contains (ids_of bs)) (eqb-true h.action action e) (All-head Covered h hs all (subst (λ t. may_clear (last_row (cond t h.rows (rows_at action hs))) ≡ true) e may))
     by false e next may = next (subst (λ t. may_clear (last_row (cond t h.rows (rows_at action hs))) ≡ true) e may)

@@ -1,5 +1,5 @@
 -- What stood before marks, so that they can be taken back. Only the code's contracts cite these definitions.
-use Rattle.std.specs.Prelude.{◌≡◌, ◌⊎◌, ℕ, List, [], ◌∷◌, All, IfSome, true}
+use Rattle.std.specs.Prelude.{◌≡◌, ℕ, List, [], ◌∷◌, map, All, Contains, IfSome, true}
 use Rattle.act_rules.specs.Rows.{last_row}
 use Rattle.agent_text.specs.Befores.{PlainBefore, before_of, with_before}
 use Rattle.agent_text.specs.Histories.{PlainHistory, rows_at}
@@ -14,14 +14,9 @@ undone (b ∷ bs) hs = with_before b (undone bs hs)
 abbrev pub AreOwn : List PlainBefore → Type 0
 AreOwn bs = All (λ b. IfSome b.history (λ h. h.action ≡ b.action)) bs
 
--- one of them is of this action
-abbrev pub Has : List PlainBefore → ℕ → Type 0
-Has [] action = ⊥
-Has (b ∷ bs) action = (b.action ≡ action) ⊎ Has bs action
-
 -- there is one of each action whose last row has ended and isn't cleared
 abbrev pub Covers : List PlainBefore → List PlainHistory → Type 0
-Covers bs hs = (action : ℕ) → may_clear (last_row (rows_at action hs)) ≡ true → Has bs action
+Covers bs hs = (action : ℕ) → may_clear (last_row (rows_at action hs)) ≡ true → Contains (map (λ b. b.action) bs) action
 
 -- these stand among the histories, one of each such action
 pub record AreBefore (bs : List PlainBefore) (hs : List PlainHistory) : Type 0 where

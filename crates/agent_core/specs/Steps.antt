@@ -1,6 +1,5 @@
 -- What the private functions of a turn do. Only the code's contracts cite these definitions.
 use Rattle.std.specs.Prelude.{◌≡◌, ◌⊎◌, ℕ, ◌+◌, ◌^◌, ◌<◌, ◌≤◌, min, List, [], ◌∷◌, length, map, vec_capacity, IfSome, Bool, true, false, Option, Some, None, Result, Ok, Err}
-use Rattle.std.specs.List.{list_any}
 use Rattle.act_rules.specs.declared.row.Row.{Row}
 use Rattle.line_forms.specs.Numbers.{IsId}
 use Rattle.act_rules.specs.Rows.{HasEnded, last_row}
@@ -59,10 +58,6 @@ stop_of Failed = MachineFault
 stop_of _ = Memory
 
 -- ---- marks
--- whether the last row of an action has ended and isn't cleared
-abbrev pub may_mark : List PlainHistory → Bool
-may_mark hs = list_any (λ h. may_clear (last_row h.rows)) hs
-
 -- whether an action is marked by what was found of its content
 abbrev pub mark_by : Found → Result Bool Turned
 mark_by Yes = Ok false

@@ -9,7 +9,7 @@ ghost use Rattle.agent_core.specs.Inside.{IsSoundKept, state_of};
 ghost use Rattle.agent_state.specs.Lookups.{rows_if};
 ghost use Rattle.agent_core.specs.Marked.{AreBefore, UndoneSame, undone};
 ghost use Rattle.agent_core.specs.Marking.{HasMarks, StopsMarks};
-ghost use Rattle.agent_core.specs.Steps.{MakesMarks, TestsMark, may_mark};
+ghost use Rattle.agent_core.specs.Steps.{MakesMarks, TestsMark};
 ghost use Rattle.agent_core.specs.Turns.{may_clear};
 
 use crate::kept_state::KeptState;
@@ -44,15 +44,12 @@ impl KeptState {
             (λ stop. StopsMarks time.now (state_of self.old) (actions_of self.old.sites) (M.told machine.old) stop (M.told machine.new)
             × (self.new ≡ self.old)) }
     {
-        if !self.may_mark() {
-            return Ok(Marked {
-                any: false,
-                before: Vec::new(alloc),
-            });
-        }
         let Ok(before) = self.before_marks(alloc) else {
             return Err(Turned::Memory);
         };
+        if before.is_empty() {
+            return Ok(Marked { any: false, before });
+        }
         let mut histories = mem::replace(&mut self.histories, Histories::new(alloc));
         let cleared = self.clear(alloc, machine, time, &mut histories);
         self.histories = histories;
@@ -85,16 +82,6 @@ impl KeptState {
         while let Some(last) = before.pop() {
             self.histories.put_back(last);
         }
-    }
-
-    /// Whether the last row of an action has ended and isn't cleared, so that it may have to be marked.
-    fn may_mark(&self) -> bool
-        ensures { result ≡ may_mark self.now.histories }
-    {
-        self.histories
-            .as_slice()
-            .iter()
-            .any(|history| may_clear(Some(&history.rows)))
     }
 
     /// Marks the last row of each action that has ended, isn't cleared and isn't relevant. Answers whether there is any.

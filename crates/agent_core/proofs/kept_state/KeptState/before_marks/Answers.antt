@@ -2,18 +2,18 @@ use Rattle.std.proofs.Common.{◌≡◌, ◌<◌, ◌+◌, ◌++◌, ℕ, List, 
 use Rattle.std.proofs.lemmas.List.{take_all}
 use Rattle.std.proofs.lemmas.List.Elements.{All-map, All-more, All-push, All-weaker}
 use Rattle.std.specs.Global.{Vec}
+use Rattle.std.specs.Prelude.{Contains}
 use Rattle.act_rules.specs.Rows.{last_row}
 use Rattle.agent_text.specs.declared.history.History.{History}
 use Rattle.agent_text.specs.Befores.{PlainBefore, before_of}
 use Rattle.agent_text.specs.Histories.{PlainHistory, shown_history}
-use Rattle.agent_core.specs.Marked.{Has}
 use Rattle.agent_core.specs.Turns.{may_clear}
-use Rattle.agent_core.proofs.PuttingBack.{covered, has_last, has_more}
+use Rattle.agent_core.proofs.PuttingBack.{covered, has_last, has_more, ids_of}
 use Rattle.agent_core.proofs.kept_state.KeptState.before_marks.Goals as goal
 use Rattle.agent_core.proofs.kept_state.KeptState.before_marks.Goals.{then-may_clear+in_ok-before+in_ok-push, else-may_clear}
 
 abbrev Covered : List PlainBefore → History → Type 0
-Covered bs h = may_clear (last_row h.rows.rows) ≡ true → Has bs h.action
+Covered bs h = may_clear (last_row h.rows.rows) ≡ true → Contains (ids_of bs) h.action
 
 module _ (items : List History) (i : ℕ) (h : History) (below : i < length items) (is : h ≡ get_or items i h) where
   passed : (bs : List PlainBefore) → may_clear (last_row h.rows.rows) ≡ false → All (Covered bs) (take i items) → All (Covered bs) (take (i + 1) items)
@@ -22,7 +22,7 @@ module _ (items : List History) (i : ℕ) (h : History) (below : i < length item
   kept : (bs : List PlainBefore) (b : PlainBefore) → b.action ≡ h.action → All (Covered bs) (take i items) → All (Covered (bs ++ b ∷ [])) (take (i + 1) items)
   kept bs b same all =
       All-more (Covered (bs ++ b ∷ [])) items i h below (All-weaker (Covered bs) (Covered (bs ++ b ∷ [])) (λ x has may. has_more bs b x.action (has may)) (take i items) all)
-      (subst (Covered (bs ++ b ∷ [])) is (λ may. subst (Has (bs ++ b ∷ [])) same (has_last bs b)))
+      (subst (Covered (bs ++ b ∷ [])) is (λ may. subst (Contains (ids_of (bs ++ b ∷ []))) same (has_last bs b)))
 
 stands : (hs : List PlainHistory) (action : ℕ) (b : PlainBefore) → b ≡ before_of action hs → b ≡ before_of b.action hs
 stands hs action b is = is ∙ sym (ap (λ (x : PlainBefore). before_of x.action hs) is)
@@ -61,8 +61,8 @@ returns c =
     let bs : List PlainBefore = c.loop-history.before.items in
     let i = c.loop-history.history-index in
     let all : All (Covered bs) items = subst (All (Covered bs)) (take_all i items (omega arith)) c.loop-history.invariant.covered in
-    let shown : All (λ (h : PlainHistory). may_clear (last_row h.rows) ≡ true → Has bs h.action) (map shown_history items) = All-map (λ (h : PlainHistory). may_clear (last_row h.rows) ≡ true → Has bs h.action) shown_history items all in
+    let shown : All (λ (h : PlainHistory). may_clear (last_row h.rows) ≡ true → Contains (ids_of bs) h.action) (map shown_history items) = All-map (λ (h : PlainHistory). may_clear (last_row h.rows) ≡ true → Contains (ids_of bs) h.action) shown_history items all in
     record {
       stand = c.loop-history.invariant.stand;
-      covers = covered bs hs (subst (All (λ (h : PlainHistory). may_clear (last_row h.rows) ≡ true → Has bs h.action)) c.as_slice-history-items.ensures.value shown);
+      covers = covered bs hs (subst (All (λ (h : PlainHistory). may_clear (last_row h.rows) ≡ true → Contains (ids_of bs) h.action)) c.as_slice-history-items.ensures.value shown);
     }

@@ -1,8 +1,9 @@
 use Rattle.std.proofs.Common.{◌≡◌, All, take, true}
+use Rattle.std.specs.Prelude.{Contains}
 use Rattle.act_rules.specs.Rows.{last_row}
 use Rattle.agent_text.specs.declared.history.History.{History}
 use Rattle.agent_text.specs.Befores.{before_of}
-use Rattle.agent_core.specs.Marked.{Has}
+use Rattle.agent_core.proofs.PuttingBack.{ids_of}
 use Rattle.agent_core.specs.Turns.{may_clear}
 use Rattle.agent_core.proofs.kept_state.KeptState.before_marks.Given as goal
 
@@ -10,5 +11,5 @@ use Rattle.agent_core.proofs.kept_state.KeptState.before_marks.Given as goal
 abbrev pub invariant-loop-history : goal.invariant-loop-history
 invariant-loop-history l = record {
   stand : All (λ b. b ≡ before_of b.action l.self.histories) l.before.items;
-  covered : All (λ (h : History). may_clear (last_row h.rows.rows) ≡ true → Has l.before.items h.action) (take l.history-index l.history-items);
+  covered : All (λ (h : History). may_clear (last_row h.rows.rows) ≡ true → Contains (ids_of l.before.items) h.action) (take l.history-index l.history-items);
 }

@@ -1,11 +1,15 @@
-use Rattle.std.proofs.Common.{false, refl, sym, ◌∙◌}
+use Rattle.std.proofs.Common.{◌≡◌, arith, false, refl, sym, ◌∙◌}
+use Rattle.std.proofs.lemmas.Bool.{eqb-true}
+use Rattle.std.proofs.lemmas.List.{nil_from_length}
 use Rattle.agent_core.specs.declared.kept_state.KeptState.{KeptState}
 use Rattle.agent_core.proofs.MarkedTurns.{marks_kept, marks_stopped, no_marks_kept}
 use Rattle.agent_core.proofs.kept_state.KeptState.mark.Goals as goal
 
-pub returns-then-not-may_mark : goal.returns-then-not-may_mark
-returns-then-not-may_mark g c =
-    no_marks_kept c.args.time.now c.args.self.now (record { any = false; before = c.new.result }) (g.M.Machine.told c.args.machine.now) c.requires.sound c.requires.free (sym c.may_mark.ensures ∙ c.if-not-may_mark.true) refl c.new.ensures.items
+pub returns-then-is_empty : goal.returns-then-is_empty
+returns-then-is_empty g c =
+    let len : c.in-Ok.before.len ≡ 0 = eqb-true c.in-Ok.before.len 0 (sym c.is_empty.ensures ∙ c.if-is_empty.true) in
+    no_marks_kept c.args.time.now c.args.self.now (record { any = false; before = c.in-Ok.before }) (g.M.Machine.told c.args.machine.now) c.requires.sound c.requires.free c.in-Ok.ensures refl
+    (nil_from_length c.in-Ok.before.items (omega (arith, c.in-Ok.before.ok.0, len)))
 
 pub returns-in-Ok-cleared : goal.returns-in-Ok-cleared
 returns-in-Ok-cleared g c =

@@ -9,5 +9,5 @@ use Rattle.agent_core.proofs.kept_state.KeptState.save.Goals as goal
 pub save_in-requires-clause-within : goal.save_in-requires-clause-within
 save_in-requires-clause-within g c =
     let a : KeptState = c.args.self.now in
-    let size : c.in-Some.size ≡ most_bytes a.histories a.outbox.reports = c.in-Some.ensures ∙ ap (most_bytes a.histories) c.all.ensures in
+    let size : c.in-Some.size ≡ most_bytes a.histories a.outbox.reports = c.in-Some.ensures ∙ ap (most_bytes a.histories) c.made.ensures.reports in
     within (length (text_of (state_of a))) _ _ _ (c.saved_texts_are_short.ensures (saved_of (state_of a)) c.requires.sound.saved) size c.in-Ok.ensures.1
