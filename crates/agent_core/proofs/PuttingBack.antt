@@ -1,5 +1,5 @@
 -- What stood before marks, and that it can be put back.
-use Rattle.std.proofs.Common.{ℕ, suc, ◌≡◌, ◌-◌, ◌&&◌, ◌⊎◌, ℤ, List, [], ◌∷◌, ◌++◌, Bool, true, false, cond, refl, sym, ap, ◌∙◌, subst, arith, eqb, length, map, inl, inr, All, Option, None, Some}
+use Rattle.std.proofs.Common.{ℕ, zero, suc, ◌≡◌, ◌-◌, ◌&&◌, ◌⊎◌, ℤ, List, [], ◌∷◌, ◌++◌, Bool, true, false, cond, refl, sym, ap, ◌∙◌, subst, arith, eqb, length, map, inl, inr, All, Option, None, Some}
 use Rattle.std.specs.Prelude.{Contains, IfSome, is_some, slice_get}
 use Rattle.std.proofs.lemmas.Bool.{cases_eq, eqb-true, ne_eqb}
 use Rattle.std.proofs.lemmas.List.{map-append}
@@ -8,7 +8,6 @@ use Rattle.act_rules.specs.declared.row.Row.{Row}
 use Rattle.act_rules.specs.Rows.{last_row, with_last}
 use Rattle.agent_text.specs.Befores.{IsHistoryOf, PlainBefore, before_of, listed, with_before}
 use Rattle.agent_text.specs.Histories.{AreHistories, PlainHistory, cleared, rows_at, with_cleared}
-use Rattle.agent_text.proofs.PendingIds.{Has, contains_has}
 use Rattle.agent_text.proofs.BeforeLemmas.{forgets_cleared, found_good, same_before}
 use Rattle.agent_core.specs.Marked.{AreBefore, AreOwn, Covers, UndoneSame, undone}
 use Rattle.agent_core.specs.Turns.{may_clear}
@@ -69,10 +68,10 @@ either_way (b ∷ bs) id moment hs own = by (either_way bs id moment hs (All-tai
       | inr other ↦ inr (ap (with_before b) e ∙ commutes_cleared b id moment (undone bs hs) (All-head IsOwn b bs own) other)
     ]
 
-undone_has : (bs : List PlainBefore) (id : ℕ) (moment : ℤ) (hs : List PlainHistory) → AreOwn bs → Has (ids_of bs) id → undone bs (with_cleared id moment hs) ≡ undone bs hs
-undone_has [] id moment hs own has = absurd has
-undone_has (b ∷ bs) id moment hs own (inr has) = ap (with_before b) (undone_has bs id moment hs (All-tail IsOwn b bs own) has)
-undone_has (b ∷ bs) id moment hs own (inl same) = by (either_way bs id moment hs (All-tail IsOwn b bs own))
+undone_has : (bs : List PlainBefore) (id : ℕ) (moment : ℤ) (hs : List PlainHistory) → AreOwn bs → Contains (ids_of bs) id → undone bs (with_cleared id moment hs) ≡ undone bs hs
+undone_has [] id moment hs own (k, within, e) = absurd (omega (arith, within))
+undone_has (b ∷ bs) id moment hs own (suc k, within, e) = ap (with_before b) (undone_has bs id moment hs (All-tail IsOwn b bs own) (k, omega (arith, within), e))
+undone_has (b ∷ bs) id moment hs own (zero, within, same) = by (either_way bs id moment hs (All-tail IsOwn b bs own))
   where
     by : (undone bs (with_cleared id moment hs) ≡ undone bs hs) ⊎ (undone bs (with_cleared id moment hs) ≡ with_cleared id moment (undone bs hs)) → with_before b (undone bs (with_cleared id moment hs)) ≡ with_before b (undone bs hs)
     by (inl e) = ap (with_before b) e
@@ -126,7 +125,7 @@ same_then hs mid now one other = record {
 
 pub same_marked : (id : ℕ) (moment : ℤ) (hs : List PlainHistory) → may_clear (last_row (rows_at id hs)) ≡ true → UndoneSame hs (with_cleared id moment hs)
 same_marked id moment hs may = record {
-  undo = λ bs own covers. undone_has bs id moment hs own (contains_has (ids_of bs) id (covers id may));
+  undo = λ bs own covers. undone_has bs id moment hs own (covers id may);
   covers = λ bs covers a is. covers a (may_before a id moment hs is);
 }
 

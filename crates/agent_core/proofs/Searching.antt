@@ -2,7 +2,7 @@
 use Rattle.std.proofs.Common.{ℕ, ◌≡◌, ◌<◌, ◌+◌, List, [], ◌∷◌, length, get_or, drop, map, Bool, true, false, ◌||◌, inl, inr, Ok, Err, refl, sym, ap, subst, ◌∙◌}
 use Rattle.std.specs.declared.option.Option.{Option}
 use Rattle.std.specs.declared.result.Result.{Result}
-use Rattle.std.specs.Prelude.{◌≢◌, All, None, Some}
+use Rattle.std.specs.Prelude.{◌≢◌, All, IsSomeAnd, None, Some}
 use Rattle.std.specs.List.{cons_option, filter_map}
 use Rattle.std.proofs.Math.Bool.{or-true, or-false}
 use Rattle.std.proofs.lemmas.List.{drop_more}
@@ -19,7 +19,7 @@ use Rattle.agent_attempt.specs.declared.found.Found.TheVariants.{Yes, No, Failed
 use Rattle.agent_attempt.specs.declared.read_block.ReadBlock.{ReadBlock}
 use Rattle.agent_attempt.specs.ReadBlocks.{shown_block}
 use Rattle.agent_attempt.specs.ActionContents.{Content, as_action, content_of}
-use Rattle.agent_attempt.specs.Relevance.{ContentIs, IsDue}
+use Rattle.agent_attempt.specs.Relevance.{ContentIs, IsDue, MayBegin}
 use Rattle.agent_attempt.specs.Stages.{AttemptState, shown_attempt}
 use Rattle.agent_core.specs.declared.turned.Turned.{Turned}
 use Rattle.agent_core.specs.declared.turned.Turned.TheVariants.{MachineFault, Memory}
@@ -27,7 +27,7 @@ use Rattle.agent_core.specs.Saving.{Answers, Ending}
 use Rattle.agent_state.specs.States.{State, with_histories}
 use Rattle.agent_core.specs.Devices.{Devices, devices}
 use Rattle.agent_text.specs.Pockets.{PocketView}
-use Rattle.agent_core.specs.Steps.{AnswersTry, BeginsAs, BeginsOne, CanBegin, FindsAfter, FindsDue, MarksAfter, MarksEach, TestsMark, TriesOne, mark_by, marked_by}
+use Rattle.agent_core.specs.Steps.{AnswersTry, BeginsAs, BeginsOne, CanBegin, FindsAfter, FindsDue, MarksAfter, MarksEach, MayTry, TestsMark, TriesOne, mark_by, marked_by}
 use Rattle.agent_core.specs.Turns.{AfterTrying, Begins, Clears, Marks, TestsOne, Tries, TriesEach, TriesMarked, beginning, may_clear, no_marks, with_mark}
 use Rattle.agent_core.proofs.Due.{can_begin, due_may}
 use Rattle.agent_core.proofs.Flowing.{no_save}
@@ -308,6 +308,15 @@ finds_block at s block action hs old new answer is h = subst (λ (o : Option Act
 
 pub finds_other : (at : When) (s : State) (block : ReadBlock) (hs : List PlainHistory) (v : MachineView) → as_action (shown_block block) ≡ None → FindsDue at s hs (shown_actions (block ∷ [])) v (Ok None) v
 finds_other at s block hs v isnt = subst (λ (o : Option Action). FindsDue at s hs (cons_option o []) v (Ok None) v) (sym isnt) (refl, refl)
+
+pub finds_untried : (at : When) (s : State) (block : ReadBlock) (hs : List PlainHistory) (v : MachineView) → ¬ MayTry at block hs → FindsDue at s hs (shown_actions (block ∷ [])) v (Ok None) v
+finds_untried at s block hs v not = by (as_action (shown_block block)) refl
+  where
+    by : (o : Option Action) → as_action (shown_block block) ≡ o → FindsDue at s hs (shown_actions (block ∷ [])) v (Ok None) v
+    by None is = finds_other at s block hs v is
+    by (Some action) is =
+        finds_block at s block action hs v v (Ok None) is
+        (No, inr ((λ may. not (subst (λ o. IsSomeAnd o (λ (a : Action). MayBegin at a (rows_at a.id hs))) (sym is) may)), (refl, refl)), refl)
 
 -- an action that was tested by itself
 pub marks_one : (at : When) (s : State) (action : Action) (mark : Bool) (hs now : List PlainHistory) (old new : MachineView) → mark ≡ true → TestsMark (may_clear (last_row (rows_at action.id hs))) at s action old (Ok mark) new

@@ -1,5 +1,5 @@
 -- What the private functions of a turn do. Only the code's contracts cite these definitions.
-use Rattle.std.specs.Prelude.{◌≡◌, ◌⊎◌, ℕ, ◌+◌, ◌^◌, ◌<◌, ◌≤◌, min, List, [], ◌∷◌, length, map, vec_capacity, IfSome, Bool, true, false, Option, Some, None, Result, Ok, Err}
+use Rattle.std.specs.Prelude.{◌≡◌, ◌⊎◌, ℕ, ◌+◌, ◌^◌, ◌<◌, ◌≤◌, min, List, [], ◌∷◌, length, map, vec_capacity, IfSome, IsSomeAnd, Bool, true, false, Option, Some, None, Result, Ok, Err}
 use Rattle.act_rules.specs.declared.row.Row.{Row}
 use Rattle.line_forms.specs.Numbers.{IsId}
 use Rattle.act_rules.specs.Rows.{HasEnded, last_row}
@@ -13,10 +13,12 @@ use Rattle.agent_text.specs.Histories.{AreHistories, PlainHistory, rows_at}
 use Rattle.agent_text.specs.SavedTexts.{most_bytes}
 use Rattle.agent_attempt.specs.declared.found.Found.{Found}
 use Rattle.agent_attempt.specs.declared.found.Found.TheVariants.{Yes, No, Failed}
+use Rattle.agent_attempt.specs.declared.read_block.ReadBlock.{ReadBlock}
+use Rattle.agent_attempt.specs.ReadBlocks.{shown_block}
 use Rattle.agent_attempt.specs.Attempts.{PlainAttempt, StageWaitsBelow}
-use Rattle.agent_attempt.specs.ActionContents.{Content, content_of}
+use Rattle.agent_attempt.specs.ActionContents.{Content, as_action, content_of}
 use Rattle.agent_attempt.specs.Stages.{AttemptState, shown_attempt}
-use Rattle.agent_attempt.specs.Relevance.{ContentIs, IsDue}
+use Rattle.agent_attempt.specs.Relevance.{ContentIs, IsDue, MayBegin}
 use Rattle.agent_core.specs.declared.kept_state.KeptState.{KeptState}
 use Rattle.agent_state.specs.declared.spare.Spare.{Spare}
 use Rattle.agent_core.specs.declared.turned.Turned.{Turned}
@@ -123,6 +125,10 @@ abbrev pub AnswersTry : When → State → State → Action → Found → Result
 AnswersTry at s marked action Yes answer = BeginsOne at marked action (content_of action s.sites) answer
 AnswersTry at s marked action No answer = answer ≡ Ok None
 AnswersTry at s marked action found answer = answer ≡ Err (stop_of found)
+
+-- the action of a block, if it is an action's, may begin by its rows
+abbrev pub MayTry : When → ReadBlock → List PlainHistory → Type 0
+MayTry at block hs = IsSomeAnd (as_action (shown_block block)) (λ action. MayBegin at action (rows_at action.id hs))
 
 -- what trying comes to: from one view of the machine, the attempt of an action that is due, if one is, and another view
 abbrev pub Trying : Type 1

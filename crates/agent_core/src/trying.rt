@@ -1,17 +1,18 @@
 // Trying the actions: the first that is due.
-ghost use Rattle.std.specs.Prelude.{◌≡◌, ◌∷◌, [], None};
+ghost use Rattle.std.specs.Prelude.{◌≡◌, ◌∷◌, ◌↔◌, [], IsTrue, None};
 ghost use Rattle.std.specs.List.{filter_map};
 ghost use Rattle.act_rules.specs.Tallies.{StandsFor};
 ghost use Rattle.bf_machine.specs.Views.{MachineView};
 ghost use Rattle.agent_text.specs.Histories.{rows_at};
 ghost use Rattle.agent_attempt.specs.ReadBlocks.{shown_block};
 ghost use Rattle.agent_attempt.specs.ActionContents.{actions_of, as_action};
+ghost use Rattle.agent_attempt.specs.Relevance.{MayBegin};
 ghost use Rattle.agent_core.specs.Inside.{AreSoundOn, IsSoundKept, state_of};
 ghost use Rattle.agent_core.specs.Saving.{OrMemory};
 ghost use Rattle.agent_state.specs.States.{broken_action};
 ghost use Rattle.agent_core.specs.Devices.{devices};
 ghost use Rattle.agent_core.specs.Marking.{AreMarksOf, unmarked_state};
-ghost use Rattle.agent_core.specs.Steps.{AreMarked, FindsDue, TriesOne};
+ghost use Rattle.agent_core.specs.Steps.{AreMarked, FindsDue, MayTry, TriesOne};
 ghost use Rattle.agent_core.specs.Turns.{Finishes, Tries};
 
 use crate::clearing::Marked;
@@ -69,6 +70,9 @@ impl KeptState {
             (M.told machine.old) result (M.told machine.new) }
     {
         for (place, block) in self.sites.actions().iter().enumerate() {
+            if !self.may_try(alloc, time, block, place, marked) {
+                continue;
+            }
             if let Some(attempt) = self.try_block(alloc, machine, time, block, place, marked)? {
                 return Ok(Some(attempt));
             }
@@ -76,7 +80,29 @@ impl KeptState {
         Ok(None)
     }
 
-    /// The attempt of the action of this block, as it begins, if it is an action's and is due. The block stands at this place.
+    /// Whether the action of this block, if it is an action's, may begin by its rows: what can be said without a look. Its tally stands at
+    /// this place, as does its history where the actions before it have some, so they are looked at there first.
+    fn may_try(
+        &self,
+        alloc: Global,
+        time: &Time,
+        block: &ReadBlock,
+        place: usize,
+        marked: &Histories,
+    ) -> bool
+        requires sound { IsSoundKept self.now }
+        requires marked { AreMarked self.now.histories marked.now }
+        ensures { IsTrue result ↔ MayTry time.now block.now marked.now }
+    {
+        let ReadBlock::Action(action) = block else {
+            return false;
+        };
+        let rows = rows_of(marked.rows_near(action.action().id, place));
+        let tally = self.tally_for(alloc, action, place, marked);
+        may_begin(action, rows, &tally, time)
+    }
+
+    /// The attempt of the action of this block, as it begins, where it is due. The block stands at this place.
     fn try_block<M: Machine>(
         &self,
         alloc: Global,
@@ -86,8 +112,7 @@ impl KeptState {
         place: usize,
         marked: &Histories,
     ) -> Result<Option<Attempt>, Turned>
-        requires sound { IsSoundKept self.now }
-        requires marked { AreMarked self.now.histories marked.now }
+        requires { MayTry time.now block.now marked.now }
         ensures { FindsDue time.now (state_of self.now) marked.now (filter_map as_action (shown_block block.now ∷ []))
             (M.told machine.old) result (M.told machine.new) }
     {
@@ -97,8 +122,7 @@ impl KeptState {
         }
     }
 
-    /// The attempt of an action, as it begins, where it is due. Its tally stands at this place, as does its history where the actions
-    /// before it have some, so they are looked at there first.
+    /// The attempt of an action that may begin, as it begins, where it is due.
     fn try_one<M: Machine>(
         &self,
         alloc: Global,
@@ -108,16 +132,10 @@ impl KeptState {
         place: usize,
         marked: &Histories,
     ) -> Result<Option<Attempt>, Turned>
-        requires sound { IsSoundKept self.now }
-        requires marked { AreMarked self.now.histories marked.now }
+        requires { MayBegin time.now action.now (rows_at action.now.id marked.now) }
         ensures { TriesOne time.now (state_of self.now) marked.now action.now
             (M.told machine.old) result (M.told machine.new) }
     {
-        let rows = rows_of(marked.rows_near(action.action().id, place));
-        let tally = self.tally_for(alloc, action, place, marked);
-        if !may_begin(action, rows, &tally, time) {
-            return Ok(None);
-        }
         let content = self.sites.content_near(action.action(), place);
         match wanted(alloc, &self.name, action, content, machine, time) {
             Found::Yes => {}
@@ -128,6 +146,7 @@ impl KeptState {
         let Some(content) = content else {
             return Ok(None);
         };
+        let rows = rows_of(marked.rows_near(action.action().id, place));
         let number = rows.len() as u32 + 1;
         match Attempt::begin(alloc, action, content, number, time.offset()) {
             Ok(attempt) => Ok(Some(attempt)),

@@ -17,9 +17,10 @@ fn written(alloc: Global, saved: &Saved) -> Option<Bytes>
     requires { IsSaved saved.now }
 {
     saved_texts_are_short();
+    let made = Made::new(alloc);
     let reports = MadeReports {
         reports: saved.reports.as_slice(),
-        made: &Made::new(alloc),
+        made: &made,
     };
     let size = saved_size(&saved.histories, reports)?;
     let mut room = Room::with_capacity(alloc, size).ok()?;

@@ -3,11 +3,18 @@ use Rattle.std.proofs.lemmas.List.{drop_all}
 use Rattle.std.proofs.lemmas.Result.{err_from_is_err_and}
 use Rattle.agent_core.specs.Inside.{state_of}
 use Rattle.agent_core.specs.Steps.{FindsDue}
-use Rattle.agent_core.proofs.Searching.{finds_next, finds_stop, shown_actions}
+use Rattle.agent_core.proofs.Due.{said_not}
+use Rattle.agent_core.proofs.Searching.{finds_next, finds_stop, finds_untried, shown_actions}
 use Rattle.agent_core.proofs.kept_state.KeptState.find_due.Goals as goal
 
 pub loop-place-init : goal.loop-place-init
 loop-place-init g c = λ answer later h. subst (λ l. FindsDue c.args.time.now (state_of c.args.self.now) c.args.marked.now l (g.M.Machine.told c.args.machine.now) answer later) c.actions-block-items.ensures h
+
+pub loop-place-preserved-then-not-may_try : goal.loop-place-preserved-then-not-may_try
+loop-place-preserved-then-not-may_try g c =
+    let below : c.loop-place.place < length c.actions-block-items.result.now = omega arith in
+    finds_next c.args.time.now (state_of c.args.self.now) c.args.marked.now c.actions-block-items.result.now c.loop-place.place c.block-item.result _ _ _ below c.block-item.is c.loop-place.invariant
+    (finds_untried c.args.time.now (state_of c.args.self.now) c.block-item.result c.args.marked.now _ (said_not c.may_try.result _ c.if-not-may_try.true c.may_try.ensures.1))
 
 pub loop-place-preserved : goal.loop-place-preserved
 loop-place-preserved g c =

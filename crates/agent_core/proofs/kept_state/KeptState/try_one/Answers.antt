@@ -9,39 +9,31 @@ use Rattle.agent_attempt.specs.FoundContents.{shown_content, shown_if}
 use Rattle.agent_core.specs.Inside.{state_of}
 use Rattle.agent_state.specs.States.{with_histories}
 use Rattle.agent_core.specs.Steps.{BeginsOne}
-use Rattle.agent_core.proofs.Due.{asked_of, said_not}
+use Rattle.agent_core.proofs.Due.{asked_of}
 use Rattle.agent_state.proofs.RowsAt.{found_rows}
 use Rattle.agent_core.proofs.kept_state.KeptState.try_one.Goals as goal
 
-pub returns-then-not-may_begin : goal.returns-then-not-may_begin
-returns-then-not-may_begin g c =
-    let rows = c.rows_of-rows.ensures.value ∙ found_rows c.rows_near.result (rows_at c.action.result.now.id c.args.marked.now) c.rows_near.ensures.value ∙ ap (λ (a : Action). rows_at a.id c.args.marked.now) c.action.ensures in
-    (No, asked_of c.args.time.now c.args.self.now.name c.args.action.now _ _ _ _ _ _ _ No refl rows refl (inr (said_not c.may_begin.result _ c.if-not-may_begin.true c.may_begin.ensures.1, (refl, refl))), refl)
-
 pub returns-in-No : goal.returns-in-No
 returns-in-No g c =
-    let content = c.content_near-content.ensures ∙ ap (λ (a : Action). content_of a c.args.self.now.sites) c.action-2.ensures in
-    let rows = c.rows_of-rows.ensures.value ∙ found_rows c.rows_near.result (rows_at c.action.result.now.id c.args.marked.now) c.rows_near.ensures.value ∙ ap (λ (a : Action). rows_at a.id c.args.marked.now) c.action.ensures in
-    (No, asked_of c.args.time.now c.args.self.now.name c.args.action.now _ _ _ _ _ _ _ No content rows c.in-No.is (inl (c.may_begin.ensures.0 c.if-not-may_begin.false, c.wanted.ensures.wanted)), refl)
+    let content = c.content_near-content.ensures ∙ ap (λ (a : Action). content_of a c.args.self.now.sites) c.action.ensures in
+    (No, asked_of c.args.time.now c.args.self.now.name c.args.action.now _ _ _ _ _ _ _ No content refl c.in-No.is (inl (c.requires, c.wanted.ensures.wanted)), refl)
 
 pub returns-in-Failed : goal.returns-in-Failed
 returns-in-Failed g c =
-    let content = c.content_near-content.ensures ∙ ap (λ (a : Action). content_of a c.args.self.now.sites) c.action-2.ensures in
-    let rows = c.rows_of-rows.ensures.value ∙ found_rows c.rows_near.result (rows_at c.action.result.now.id c.args.marked.now) c.rows_near.ensures.value ∙ ap (λ (a : Action). rows_at a.id c.args.marked.now) c.action.ensures in
-    (Failed, asked_of c.args.time.now c.args.self.now.name c.args.action.now _ _ _ _ _ _ _ Failed content rows c.in-Failed.is (inl (c.may_begin.ensures.0 c.if-not-may_begin.false, c.wanted.ensures.wanted)), refl)
+    let content = c.content_near-content.ensures ∙ ap (λ (a : Action). content_of a c.args.self.now.sites) c.action.ensures in
+    (Failed, asked_of c.args.time.now c.args.self.now.name c.args.action.now _ _ _ _ _ _ _ Failed content refl c.in-Failed.is (inl (c.requires, c.wanted.ensures.wanted)), refl)
 
 pub returns-in-Memory : goal.returns-in-Memory
 returns-in-Memory g c =
-    let content = c.content_near-content.ensures ∙ ap (λ (a : Action). content_of a c.args.self.now.sites) c.action-2.ensures in
-    let rows = c.rows_of-rows.ensures.value ∙ found_rows c.rows_near.result (rows_at c.action.result.now.id c.args.marked.now) c.rows_near.ensures.value ∙ ap (λ (a : Action). rows_at a.id c.args.marked.now) c.action.ensures in
-    (Memory, asked_of c.args.time.now c.args.self.now.name c.args.action.now _ _ _ _ _ _ _ Memory content rows c.in-Memory.is (inl (c.may_begin.ensures.0 c.if-not-may_begin.false, c.wanted.ensures.wanted)), refl)
+    let content = c.content_near-content.ensures ∙ ap (λ (a : Action). content_of a c.args.self.now.sites) c.action.ensures in
+    (Memory, asked_of c.args.time.now c.args.self.now.name c.args.action.now _ _ _ _ _ _ _ Memory content refl c.in-Memory.is (inl (c.requires, c.wanted.ensures.wanted)), refl)
 
 pub returns-in-Ok : goal.returns-in-Ok
 returns-in-Ok g c =
     let action : Action = c.args.action.now in
-    let content = c.content_near-content.ensures ∙ ap (λ (a : Action). content_of a c.args.self.now.sites) c.action-2.ensures in
-    let rows = c.rows_of-rows.ensures.value ∙ found_rows c.rows_near.result (rows_at c.action.result.now.id c.args.marked.now) c.rows_near.ensures.value ∙ ap (λ (a : Action). rows_at a.id c.args.marked.now) c.action.ensures in
-    let asked = asked_of c.args.time.now c.args.self.now.name action _ _ _ _ _ _ _ Yes content rows c.in-Yes.is (inl (c.may_begin.ensures.0 c.if-not-may_begin.false, c.wanted.ensures.wanted)) in
+    let content = c.content_near-content.ensures ∙ ap (λ (a : Action). content_of a c.args.self.now.sites) c.action.ensures in
+    let rows = c.rows_of-rows.ensures.value ∙ found_rows c.rows_near.result (rows_at c.action-2.result.now.id c.args.marked.now) c.rows_near.ensures.value ∙ ap (λ (a : Action). rows_at a.id c.args.marked.now) c.action-2.ensures in
+    let asked = asked_of c.args.time.now c.args.self.now.name action _ _ _ _ _ _ _ Yes content refl c.in-Yes.is (inl (c.requires, c.wanted.ensures.wanted)) in
     let offset = to_z-of_z w64 c.offset.result (record { sfits = c.offset.type_inv }) ∙ c.offset.ensures.value in
     let own = shown_content c.in-Some.content in (
       Yes,
