@@ -1,5 +1,5 @@
 -- Turns in which nothing is marked.
-use Rattle.std.proofs.Common.{ℕ, ◌≡◌, List, [], ◌∷◌, Bool, true, false, Ok, refl, sym, ap, subst, arith}
+use Rattle.std.proofs.Common.{ℕ, ◌≡◌, List, [], ◌∷◌, Bool, true, false, Ok, refl, sym, subst, arith}
 use Rattle.std.specs.Prelude.{Contains}
 use Rattle.fix_site.specs.declared.action.Action.{Action}
 use Rattle.act_rules.specs.Rows.{last_row}
