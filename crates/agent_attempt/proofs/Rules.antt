@@ -69,11 +69,11 @@ has_script one_verdict own f script some same is h =
     subst (λ (x : Fixlet). IsTrue some ↔ HasScript x.script) same
     (subst (λ b. IsTrue b ↔ HasScript f.script) is (tells_script one_verdict f.script script h))
 
-pub relevant_refused : (at : When) (own f : Fixlet) (runs : Bool) (v : MachineView) → f ≡ own → runs ≡ false → (IsTrue runs ↔ HasScript f.script) → FixletIs at own v No v
-relevant_refused at own f runs v same isnt is =
-    subst (λ (x : Fixlet). FixletIs at x v No v) same (inr ((λ h. let so : runs ≡ true = is.1 h in absurd (cc)), (refl, refl)))
+pub relevant_refused : (at : When) (own f : Fixlet) (has : Bool) (v : MachineView) → f ≡ own → has ≡ false → (IsTrue has ↔ HasScript f.script) → FixletIs at own v No v
+relevant_refused at own f has v same isnt is =
+    subst (λ (x : Fixlet). FixletIs at x v No v) same (inr ((λ h. let so : has ≡ true = is.1 h in absurd (cc)), (refl, refl)))
 
-pub relevant_asked : (at : When) (own f : Fixlet) (runs : Bool) (texts : List (List ℕ)) (old : MachineView) (found : Found) (new : MachineView) → f ≡ own → runs ≡ true → (IsTrue runs ↔ HasScript f.script) →
+pub relevant_asked : (at : When) (own f : Fixlet) (has : Bool) (texts : List (List ℕ)) (old : MachineView) (found : Found) (new : MachineView) → f ≡ own → has ≡ true → (IsTrue has ↔ HasScript f.script) →
     texts ≡ f.relevance → AllAre at texts old found new → FixletIs at own old found new
-relevant_asked at own f runs texts old found new same so is are asks =
+relevant_asked at own f has texts old found new same so is are asks =
     subst (λ (x : Fixlet). FixletIs at x old found new) same (inl (is.0 so, subst (λ l. AllAre at l old found new) are asks))

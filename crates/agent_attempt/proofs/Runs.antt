@@ -1,5 +1,5 @@
 -- Scripts that run, as walks.
-use Rattle.std.proofs.Common.{◌≡◌, ℕ, ℤ, Bool, true, false, if◌then◌else◌, List, [], ◌∷◌, ◌++◌, append-nil, append_assoc, Option, Some, Result, Ok, Err, sym, ap, subst, ◌∙◌}
+use Rattle.std.proofs.Common.{◌≡◌, ℕ, ℤ, false, List, [], ◌∷◌, ◌++◌, append-nil, append_assoc, Option, Some, Result, Ok, Err, sym, ap, subst, ◌∙◌}
 use Rattle.rel_sources.specs.declared.pair.Pair.{Pair}
 use Rattle.std.specs.Prelude.{IfOk}
 use Rattle.script_text.specs.declared.script.Script.{Script}

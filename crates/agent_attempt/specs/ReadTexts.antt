@@ -55,7 +55,7 @@ pub record AreTextsOf (fixlet : Fixlet) (rule : Option (List ℕ)) (read : Optio
   pub script : IsScriptOf fixlet.script read
 
 -- A fixlet has this id and these clauses, and a script or none.
-pub record IsReadFixlet (fixlet : Fixlet) (own : ℕ) (clauses : List (List ℕ)) (runs : Bool) : Type 0 where
+pub record IsReadFixlet (fixlet : Fixlet) (own : ℕ) (clauses : List (List ℕ)) (has_script : Bool) : Type 0 where
   pub id : own ≡ fixlet.id
   pub relevance : clauses ≡ fixlet.relevance
-  pub script : IsTrue runs ↔ HasScript fixlet.script
+  pub script : IsTrue has_script ↔ HasScript fixlet.script

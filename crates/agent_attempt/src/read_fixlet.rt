@@ -21,7 +21,7 @@ pub struct ReadFixlet {
     // What an idle turn looks at stands here, so that it needn't go to the texts: the id once more, whether the script is one, and what
     // the relevance reads as.
     id: u64,
-    runs: bool,
+    has_script: bool,
     relevance: Clauses,
     texts: Rc<FixletTexts>,
 }
@@ -34,7 +34,7 @@ impl Model for ReadFixlet {
 
     ghost view = { λ f. f.texts.value };
 
-    ghost invariant = { λ f. IsReadFixlet f.texts.value f.id f.relevance f.runs };
+    ghost invariant = { λ f. IsReadFixlet f.texts.value f.id f.relevance f.has_script };
 }
 
 impl ReadFixlet {
@@ -52,7 +52,7 @@ impl ReadFixlet {
         let texts = FixletTexts::read(alloc, fixlet)?;
         Ok(ReadFixlet {
             id,
-            runs: texts.has_script(),
+            has_script: texts.has_script(),
             relevance,
             texts: Rc::new(alloc, texts)?,
         })
@@ -64,7 +64,7 @@ impl ReadFixlet {
     {
         Ok(ReadFixlet {
             id: self.id,
-            runs: self.runs,
+            has_script: self.has_script,
             relevance: self.relevance.copy()?,
             texts: self.texts.clone()?,
         })
@@ -94,7 +94,7 @@ impl ReadFixlet {
     ) -> Found
         ensures { FixletIs time.now self.now (M.told machine.old) result (M.told machine.new) }
     {
-        if !self.runs {
+        if !self.has_script {
             return Found::No;
         }
         ask_all(alloc, self.relevance.as_slice(), machine, time)

@@ -15,7 +15,7 @@ pub mod SavedStops
 pub mod SavedBytes
 pub mod SavedAnswers
 pub mod BeforeLemmas
-pub mod MadeLemmas
+mod MadeLemmas
 mod FillLemmas
 mod HistoryLemmas
 mod PlaceLemmas

@@ -1,5 +1,4 @@
--- Texts of the first of a list that are made already: they stay those where the list changes behind them, and one more is added. Other crates
--- may cite these lemmas.
+-- Texts of the first of a list that are made already: they stay those where the list changes behind them, and one more is added.
 use Rattle.std.proofs.Common.{ℕ, zero, suc, ◌≡◌, ◌+◌, ◌-◌, ◌++◌, ◌<◌, ◌≤◌, ◌⊎◌, inl, inr, List, [], ◌∷◌, Bool, true, false, cond, length, take, drop, map, set, get_or, append-nil, take-append-drop, length-append, refl, sym, ap, subst, ◌∙◌, arith}
 use Rattle.std.specs.List.{insert, remove}
 use Rattle.std.specs.Prelude.{flat_map, fold, sum_by}

@@ -1,4 +1,4 @@
--- An office: what its server accepted, its relays, its computers, and the messages that were ever sent.
+-- An office: what its server accepted, its relays, its computers, the messages that were ever sent, and its book of samples and groups.
 use Rattle.std.specs.Prelude.{ℕ, List, [], map, length, All, None}
 use Rattle.std.specs.declared.option.Option.{Option}
 use Rattle.bf_world.specs.Worlds.{WorldState}

@@ -1,11 +1,9 @@
-use Rattle.std.proofs.Common.{ℕ, ◌≡◌, ◌+◌, ◌-◌, ◌++◌, ◌<◌, List, drop, take, length, map, sym, ap, subst, ◌∙◌, arith, All}
+use Rattle.std.proofs.Common.{ℕ, List, drop, length, map, sym, ap, subst, ◌∙◌, arith}
 use Rattle.std.specs.Prelude.{flat_map}
-use Rattle.std.proofs.lemmas.List.Elements.{All-drop, All-take}
 use Rattle.desk_base.specs.Rooms.{Fills, HasRoom}
 use Rattle.agent_text.specs.declared.history.History.{History}
 use Rattle.agent_text.specs.Histories.{PlainHistory, shown_history}
 use Rattle.agent_text.specs.HistoryLines.{history_text}
-use Rattle.agent_text.specs.KeptTexts.{KeepsText}
 use Rattle.agent_text.specs.MadeTexts.{PlainMade}
 use Rattle.agent_text.specs.MostBytes.{history_bytes}
 use Rattle.agent_text.proofs.FillLemmas.{filled_length, fills_then}
