@@ -21,7 +21,7 @@ pub data PlainStage : Type 0 where
   -- its script is done, with this exit code, and its success has still to be judged
   judging : (exit : Option ℤ) → PlainStage
 
--- what the components before have come to: the first failure, and the exit code of the last that was run
+-- what the components before have come to: the first failure, and the exit code of the last that was run and succeeded
 pub record Past : Type 0 where
   pub failure : Option Failure
   pub exit : Option ℤ

@@ -64,7 +64,7 @@ pub struct Attempt {
     pub(crate) left: VecDeque<Part>,
     pub(crate) stage: Stage,
     pub(crate) failure: Option<Failure>,
-    /// The exit code of the last component that was run.
+    /// The exit code of the last component that was run and succeeded.
     pub(crate) exit: Option<i64>,
 }
 

@@ -87,7 +87,7 @@ impl ReadSite {
         self.blocks.as_slice()
     }
 
-    /// The place of the block of this id, 0 where there is none.
+    /// The place at which to look first for the block of this id. A wrong one would only cost time, so nothing is promised of it.
     pub fn place(&self, id: u64) -> usize {
         self.blocks.place(id)
     }

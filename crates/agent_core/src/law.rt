@@ -206,8 +206,9 @@ pub fn attempts_are_bounded()
     stops_leave_rows_lawful();
 }
 
-/// Over any list of calls of an agent that was opened, stops among them, the machine's count rose by at least as many as the turns told
-/// faults of the machine, or stands still at its last value: each turn that ends by one, or in which an attempt ends by one, tells one.
+/// Over any list of calls of an agent that was opened over a pocket that tells its text, stops among them, the machine's count rose by at
+/// least as many as the turns told faults of the machine, or stands still at its last value: each turn that ends by one, or in which an
+/// attempt ends by one, tells one.
 pub fn told_faults_are_counted()
     ensures { (calls : List Call) (computer : List ℕ) (told : Option (Option (List ℕ))) (agent : AgentState) (old new : Point)
         (answers : List Turned) → OpensAgent computer told (opening.Agent agent) → old.state ≡ shown_state agent

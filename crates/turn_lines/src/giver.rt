@@ -1,4 +1,7 @@
+ghost use Rattle.std.specs.Prelude.{◌≡◌, IfOk};
+
 use desk_base::Bytes;
+use std::alloc::AllocError;
 
 /// What a giver answers that is asked for the file of a digest.
 #[derive(Drop)]
@@ -13,11 +16,37 @@ pub enum Given {
     Memory,
 }
 
+impl Given {
+    /// The same answer once more. The error is want of memory.
+    pub fn copy(&self) -> Result<Given, AllocError>
+        ensures { IfOk result (λ given. given ≡ self.now) }
+    {
+        Ok(match self {
+            Given::File(bytes) => Given::File(bytes.copy()?),
+            Given::NotServed => Given::NotServed,
+            Given::NotGot => Given::NotGot,
+            Given::Memory => Given::Memory,
+        })
+    }
+}
+
 /// A file that was asked for, by its SHA-256, and what came.
 #[derive(Drop)]
 pub struct FileAsked {
     pub digest: [u8; 32],
     pub answer: Given,
+}
+
+impl FileAsked {
+    /// The same file and what came, once more. The error is want of memory.
+    pub fn copy(&self) -> Result<FileAsked, AllocError>
+        ensures { IfOk result (λ asked. asked ≡ self.now) }
+    {
+        Ok(FileAsked {
+            digest: self.digest,
+            answer: self.answer.copy()?,
+        })
+    }
 }
 
 /// What gives files, and tells which it was asked for.
