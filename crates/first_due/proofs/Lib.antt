@@ -1,0 +1,5 @@
+mod Ordered
+mod Marking
+mod Ending
+mod Searching
+mod Beginning

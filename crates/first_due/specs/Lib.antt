@@ -1,0 +1,3 @@
+pub mod Asked
+pub mod Marked
+pub mod Beginnings
