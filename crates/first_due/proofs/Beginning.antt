@@ -1,5 +1,6 @@
 -- A turn that says that an attempt began, and one that is idle.
 use Rattle.std.proofs.Common.{ℕ, ◌≡◌, List, ◌∷◌, ◌++◌, Bool, true, false, Option, Some, None, refl, sym, subst, inl, inr}
+use Rattle.std.specs.Prelude.{◌≢◌, ◌⊎◌}
 use Rattle.line_forms.proofs.Lasts.{Ascends}
 use Rattle.fix_site.specs.declared.action.Action.{Action}
 use Rattle.script_run.specs.Asking.{When}
@@ -12,7 +13,7 @@ use Rattle.agent_attempt.specs.Attempts.{PlainAttempt}
 use Rattle.agent_state.specs.States.{IsSound, State, as_saved, broken_action, text_of, with_histories}
 use Rattle.agent_state.proofs.SiteActions.{action_id}
 use Rattle.agent_core.specs.declared.turned.Turned.{Turned}
-use Rattle.agent_core.specs.declared.turned.Turned.TheVariants.{Idle, PocketFault, Memory}
+use Rattle.agent_core.specs.declared.turned.Turned.TheVariants.{Idle, MachineFault, PocketFault, Memory}
 use Rattle.agent_core.specs.Devices.{Devices}
 use Rattle.agent_core.specs.Turns.{AfterFirstSave, Begins, Finishes, FirstSave, StepFor, Tries, Turn}
 use Rattle.first_due.specs.Asked.{ActionIsDue, AreNotDue, AreNotRelevant, Finds}
@@ -23,21 +24,34 @@ use Rattle.first_due.proofs.Ordered.{actions_ascend, ids_after, ids_before}
 use Rattle.first_due.proofs.Searching.{tries}
 
 module _ (at : When) (s : State) (d : Devices) (a : Turned) (s2 : State) (d2 : Devices) (sound : IsSound s) where
+  -- an answer of a turn that comes to its end from a state in which no attempt is held and none is broken: idle, or that one began
+  abbrev EndsFree : Turned → Type 0
+  EndsFree would =
+      s.held ≡ None → broken_action s ≡ None → would ≢ MachineFault → would ≢ PocketFault → would ≢ Memory → (would ≡ Idle) ⊎ ((id : ℕ) × SaysBegan id would)
+
   -- what an answer promises
   pub record Promises (would : Turned) : Type 0 where
     pub begun : (id : ℕ) → SaysBegan id would → BeginsLeast at s d id a s2 d2
     pub idle : would ≡ Idle → FindsNone at s d s2 d2
+    pub ends : EndsFree would
 
-  -- answers that promise nothing
-  nothing : (would : Turned) → ((id : ℕ) → SaysBegan id would → ⊥) → (would ≡ Idle → ⊥) → Promises would
-  nothing would none other = record { begun = λ id says. absurd (none id says); idle = λ e. absurd (other e) }
+  -- answers that say neither
+  neither : (would : Turned) → ((id : ℕ) → SaysBegan id would → ⊥) → (would ≡ Idle → ⊥) → EndsFree would → Promises would
+  neither would none other ends = record { begun = λ id says. absurd (none id says); idle = λ e. absurd (other e); ends = ends }
 
   stops : OfStops Promises
   stops = record {
-    machine = nothing _ (λ id says. says) (λ e. cc);
-    pocket = nothing _ (λ id says. says) (λ e. cc);
-    memory = nothing _ (λ id says. says) (λ e. cc);
+    machine = neither _ (λ id says. says) (λ e. cc) (λ free whole other b c. absurd (other refl));
+    pocket = neither _ (λ id says. says) (λ e. cc) (λ free whole b other c. absurd (other refl));
+    memory = neither _ (λ id says. says) (λ e. cc) (λ free whole b c other. absurd (other refl));
   }
+
+  -- an idle turn comes to its end so, or stops
+  abbrev IdleOnly : Turned → Type 0
+  IdleOnly would = would ≢ MachineFault → would ≢ PocketFault → would ≢ Memory → would ≡ Idle
+
+  idle_only : OfStops IdleOnly
+  idle_only = record { machine = λ other b c. absurd (other refl); pocket = λ b other c. absurd (other refl); memory = λ b c other. absurd (other refl) }
 
   -- no answer of a turn that stops says that an attempt began
   abbrev NoneBegan : Turned → Type 0
@@ -46,11 +60,11 @@ module _ (at : When) (s : State) (d : Devices) (a : Turned) (s2 : State) (d2 : D
   none_begins : OfStops NoneBegan
   none_begins = record { machine = λ id says. says; pocket = λ id says. says; memory = λ id says. says }
 
-  resumed : (id : ℕ) → OfGoing Promises id false
-  resumed id = record {
-    held = λ component line. nothing _ (λ other says. absurd (let e = says.1 in cc)) (λ e. cc);
-    wants = λ digest. nothing _ (λ other says. absurd (let e = says.1 in cc)) (λ e. cc);
-    ended = λ outcome fail. nothing _ (λ other says. absurd (let e = says.1 in cc)) (λ e. cc);
+  resumed : (id : ℕ) (attempt : PlainAttempt) → s.held ≡ Some attempt → OfGoing Promises id false
+  resumed id attempt holds = record {
+    held = λ component line. neither _ (λ other says. absurd (let e = says.1 in cc)) (λ e. cc) (λ free whole a b c. absurd (cc));
+    wants = λ digest. neither _ (λ other says. absurd (let e = says.1 in cc)) (λ e. cc) (λ free whole a b c. absurd (cc));
+    ended = λ outcome fail. neither _ (λ other says. absurd (let e = says.1 in cc)) (λ e. cc) (λ free whole a b c. absurd (cc));
   }
 
   -- an answer that says that this action began, which it did
@@ -58,9 +72,9 @@ module _ (at : When) (s : State) (d : Devices) (a : Turned) (s2 : State) (d2 : D
   of_begun id least =
       let Least : ℕ → Type 0 = λ id. BeginsLeast at s d id a s2 d2 in
       record {
-        held = λ component line. record { begun = λ other says. subst Least says.0 least; idle = λ e. absurd (cc) };
-        wants = λ digest. record { begun = λ other says. subst Least says.0 least; idle = λ e. absurd (cc) };
-        ended = λ outcome fail. record { begun = λ other says. subst Least says.0 least; idle = λ e. absurd (cc) };
+        held = λ component line. record { begun = λ other says. subst Least says.0 least; idle = λ e. absurd (cc); ends = λ free whole a b c. inr (id, (refl, refl)) };
+        wants = λ digest. record { begun = λ other says. subst Least says.0 least; idle = λ e. absurd (cc); ends = λ free whole a b c. inr (id, (refl, refl)) };
+        ended = λ outcome fail. record { begun = λ other says. subst Least says.0 least; idle = λ e. absurd (cc); ends = λ free whole a b c. inr (id, (refl, refl)) };
       }
 
   -- ---- the search, once what stood unsaved is saved
@@ -117,6 +131,8 @@ module _ (at : When) (s : State) (d : Devices) (a : Turned) (s2 : State) (d2 : D
             subst (λ b. Finishes (is_any ids) Idle (with_histories (with_marks ids at.moment s.histories) (once_saved b s)) asked Idle s2 d2) (sym is)
             (subst (λ answer. Finishes (is_any ids) Idle (with_histories (with_marks ids at.moment s.histories) (once_saved unsaved s)) asked answer s2 d2) e h);
       };
+      ends = λ free whole machine pocket memory.
+          inl (finishes IdleOnly idle_only a s2 d2 (is_any ids) Idle (with_histories (with_marks ids at.moment s.histories) (once_saved unsaved s)) asked (λ b c e. refl) h machine pocket memory);
     }
 
   -- the sites, the histories and the held attempt are those before the first save
@@ -134,9 +150,9 @@ module _ (at : When) (s : State) (d : Devices) (a : Turned) (s2 : State) (d2 : D
       → (broken : Option ℕ) (held : Option PlainAttempt) → broken_action s ≡ broken → s.held ≡ held
       → (now : State) → (Tries at now (actions_of now.sites) saved a s2 d2 → Tries at (once_saved unsaved s) (actions_of s.sites) saved a s2 d2)
       → StepFor at broken held now saved a s2 d2 → Promises a
-  step_for unsaved is saved saves (Some id) held breaks holds now same h = interrupts Promises stops a s2 d2 at id now saved (nothing _ (λ other says. says) (λ e. cc)) h
+  step_for unsaved is saved saves (Some id) held breaks holds now same h = interrupts Promises stops a s2 d2 at id now saved (neither _ (λ other says. says) (λ e. cc) (λ free whole b c e. absurd (cc))) h
   step_for unsaved is saved saves None (Some attempt) breaks holds now same (inl h) = answers Promises stops a s2 d2 Memory now saved stops.memory h
-  step_for unsaved is saved saves None (Some attempt) breaks holds now same (inr h) = goes_on Promises stops a s2 d2 at false attempt now saved (resumed attempt.action.id) h
+  step_for unsaved is saved saves None (Some attempt) breaks holds now same (inr h) = goes_on Promises stops a s2 d2 at false attempt now saved (resumed attempt.action.id attempt holds) h
   step_for unsaved is saved saves None None breaks holds now same h = searches unsaved is saved saves holds breaks (same h)
 
   after_first : (result : SaveResult) (pocket : PocketView) → s.unsaved ≡ true → SavesTo (text_of s) d.pocket result pocket

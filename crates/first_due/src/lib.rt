@@ -4,5 +4,6 @@
 mod law;
 
 pub use law::{
-    a_turn_begins_one_at_most, an_idle_turn_found_none_due, the_least_due_action_begins,
+    a_free_agent_begins_what_is_due, a_turn_begins_one_at_most, an_idle_turn_found_none_due,
+    the_least_due_action_begins,
 };
